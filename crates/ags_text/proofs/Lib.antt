@@ -1,0 +1,4 @@
+pub mod FaultLemmas
+pub mod FollowLemmas
+pub mod LineLemmas
+pub mod NumeralLemmas

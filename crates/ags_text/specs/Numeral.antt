@@ -1,0 +1,33 @@
+-- Numbers as digits: the texts of a fixed width that are printed, and what the digits of a text write.
+use Rattle.std.specs.Prelude.{◌≡◌, ℕ, ◌+◌, ◌/◌, ◌%◌, ◌≤◌, List, [], ◌∷◌, ◌++◌, length}
+use Rattle.std.proofs.Common.{zero, suc}
+use Rattle.std.specs.Str.Parse.{AllDigits, IsNumeral, digits_value}
+
+-- the last `width` digits of a number in a base of at most ten, the most significant first
+unfoldable pub numeral : (base width n : ℕ) → List ℕ
+numeral base zero n = []
+numeral base (suc width) n = numeral base width (n / base) ++ (48 + n % base) ∷ []
+
+-- seven decimal digits, as a card's number is printed
+abbrev pub decimal7_text : ℕ → List ℕ
+decimal7_text n = numeral 10 7 n
+
+-- four octal digits, as a location is printed
+abbrev pub octal4_text : ℕ → List ℕ
+octal4_text n = numeral 8 4 n
+
+-- six octal digits, as a word is printed
+abbrev pub octal6_text : ℕ → List ℕ
+octal6_text n = numeral 8 6 n
+
+-- the text is one octal digit or more, `most` of them at most, and they write the number
+pub record IsOctal (most : ℕ) (text : List ℕ) (number : ℕ) : Type 0 where
+  pub digits : IsNumeral 8 text
+  pub fits : length text ≤ most
+  pub value : number ≡ digits_value 8 text
+
+-- the text is so many digits of the base, and they write the number
+pub record Writes (base width : ℕ) (text : List ℕ) (number : ℕ) : Type 0 where
+  pub length : length text ≡ width
+  pub digits : AllDigits base text
+  pub value : digits_value base text ≡ number

@@ -1,0 +1,97 @@
+//! Numbers as digits of a fixed width, and octal digits as numbers.
+
+ghost use Rattle.std.specs.Prelude.{◌≡◌, ℕ, ◌+◌, ◌%◌, ◌<◌, ◌^◌, ◌≤◌, IfSome, Some, length};
+ghost use Rattle.ags_text.specs.Numeral.{numeral, decimal7_text, octal4_text, octal6_text, IsOctal, Writes};
+
+/// The most octal digits that are read: those of one word.
+const MOST_OCTAL_DIGITS: usize = 6;
+
+/// The last digit of a number in a base of at most ten, as its ASCII byte.
+fn last_digit(base: u32, number: u32) -> u8
+    requires some { 0 < base }
+    requires most { base ≤ 10 }
+    ensures { result ≡ 48 + number % base }
+{
+    b'0' + (number % base) as u8
+}
+
+/// The last seven decimal digits of a number, as a card's number is printed, the most significant first.
+#[tactic(auto, unfolding(crate::specs::Numeral::numeral))]
+pub fn decimal7(number: u32) -> [u8; 7]
+    ensures { result ≡ decimal7_text number }
+{
+    let tens = number / 10;
+    let hundreds = tens / 10;
+    let thousands = hundreds / 10;
+    let ten_thousands = thousands / 10;
+    let hundred_thousands = ten_thousands / 10;
+    let millions = hundred_thousands / 10;
+    [
+        last_digit(10, millions),
+        last_digit(10, hundred_thousands),
+        last_digit(10, ten_thousands),
+        last_digit(10, thousands),
+        last_digit(10, hundreds),
+        last_digit(10, tens),
+        last_digit(10, number),
+    ]
+}
+
+/// The last four octal digits of a number, as a location is printed, the most significant first.
+#[tactic(auto, unfolding(crate::specs::Numeral::numeral))]
+pub fn octal4(number: u32) -> [u8; 4]
+    ensures { result ≡ octal4_text number }
+{
+    let eights = number / 8;
+    let sixty_fours = eights / 8;
+    let five_hundred_twelves = sixty_fours / 8;
+    [
+        last_digit(8, five_hundred_twelves),
+        last_digit(8, sixty_fours),
+        last_digit(8, eights),
+        last_digit(8, number),
+    ]
+}
+
+/// The last six octal digits of a number, as a word is printed, the most significant first.
+#[tactic(auto, unfolding(crate::specs::Numeral::numeral))]
+pub fn octal6(number: u32) -> [u8; 6]
+    ensures { result ≡ octal6_text number }
+{
+    let [fourth, third, second, first] = octal4(number);
+    let upper = number / 4096;
+    [
+        last_digit(8, upper / 8),
+        last_digit(8, upper),
+        fourth,
+        third,
+        second,
+        first,
+    ]
+}
+
+/// The digits of a number that fits write that number, in each base up to ten.
+pub fn numeral_writes()
+    ensures { (base width number : ℕ) → 0 < base → base ≤ 10 → number < base ^ width
+        → Writes base width (numeral base width number) number }
+{}
+
+/// The number that one to six octal digits write, and nothing for any other text: no sign, no blank, no other digit
+/// stands among them (docs/SOURCE.md, Cards).
+pub fn read_octal(text: &[u8]) -> Option<u32>
+    ensures found { IfSome result (λ number. IsOctal 6 text.now number) }
+    ensures only { (number : ℕ) → IsOctal 6 text.now number → result ≡ Some number }
+    ensures below { IfSome result (λ number. number < 2 ^ 18) }
+{
+    if text.is_empty() || text.len() > MOST_OCTAL_DIGITS {
+        return None;
+    }
+    let mut number = 0u32;
+    for digit in text {
+        if !matches!(*digit, b'0'..=b'7') {
+            return None;
+        }
+        number = number * 8 + u32::from(*digit - b'0');
+    }
+    Some(number)
+}
