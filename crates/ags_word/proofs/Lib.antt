@@ -1,0 +1,2 @@
+pub mod LongLaws
+pub mod WordLaws
