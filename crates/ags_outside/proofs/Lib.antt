@@ -1,0 +1,3 @@
+mod Examples
+pub mod SoFar
+pub mod Stored

@@ -1,0 +1,7 @@
+pub mod Count
+pub mod Shelf
+pub mod Sink
+pub mod Fetch
+pub mod Files
+pub mod StoredFile
+pub mod Taking

@@ -1,0 +1,195 @@
+//! What no clause says: that each call succeeds where there is memory, how many bytes are asked for at once, and
+//! that a fault in mid-stream is answered as one.
+
+ghost use Rattle.std.specs.Prelude.{None};
+
+use crate::{
+    FetchError, Pull, PutDone, SendError, Shelf, Sink, SteadyShelf, SteadySink, fetch, send,
+};
+use std::alloc::{AllocError, Global};
+use std::test::Fail;
+
+/// So many bytes that don't repeat with the pieces in which they are read.
+fn long_file(alloc: Global, length: u32) -> Result<Vec<u8>, AllocError> {
+    let mut bytes = Vec::new(alloc);
+    for at in 0..length {
+        bytes.push((at % 251) as u8)?;
+    }
+    Ok(bytes)
+}
+
+#[test]
+fn files_are_fetched_whole(rt: HostRuntime) -> Result<(), Fail> {
+    let alloc = rt.alloc();
+    let long = long_file(alloc, 10_000)?;
+    let mut shelf = SteadyShelf::new(alloc);
+    shelf.add("empty", b"")?;
+    shelf.add("long", long.as_slice())?;
+    shelf.add("short", b"first")?;
+    shelf.add("other", b"kept")?;
+    shelf.add("short", b"replaced")?;
+    let files: [(&str, &[u8]); 4] = [
+        ("empty", b""),
+        ("long", long.as_slice()),
+        ("short", b"replaced"),
+        ("other", b"kept"),
+    ];
+    for (name, bytes) in files {
+        let fetched = fetch(alloc, &mut shelf, name, 10_000)?;
+        assert!(rt; fetched.as_slice() == bytes, "{name}");
+    }
+    Ok(())
+}
+
+#[test]
+fn absent_and_long_files_are_refused(rt: HostRuntime) -> Result<(), Fail> {
+    let alloc = rt.alloc();
+    let mut shelf = SteadyShelf::new(alloc);
+    shelf.add("five", b"12345")?;
+    shelf.add("empty", b"")?;
+    let rows = [
+        ("six", 5, Err(FetchError::Absent)),
+        ("five", 0, Err(FetchError::TooLong)),
+        ("five", 4, Err(FetchError::TooLong)),
+        ("five", 5, Ok(5)),
+        ("five", u64::MAX, Ok(5)),
+        ("empty", 0, Ok(0)),
+    ];
+    for (name, limit, wanted) in rows {
+        let fetched = fetch(alloc, &mut shelf, name, limit).map(|bytes| bytes.len());
+        assert!(rt; fetched == wanted, "{name} within {limit}");
+    }
+    Ok(())
+}
+
+/// A shelf that tells nothing: a file of zeros, behind whose last byte it ends or fails.
+#[derive(Drop)]
+struct ZeroShelf {
+    length: usize,
+    fails: bool,
+    faults: u64,
+    asked: Vec<usize>,
+}
+
+impl Shelf for ZeroShelf {
+    ghost told = { λ _ _. None };
+
+    ghost faults = { λ shelf. shelf.faults };
+
+    ghost absences = { λ _. 0 };
+
+    fn pull(&mut self, _name: &str, from: u64, into: &mut [u8]) -> Pull {
+        if self.asked.push(into.len()).is_err() {
+            return Pull::NoMemory;
+        }
+        let from = from as usize;
+        if from < self.length {
+            return Pull::Got(into.len().min(self.length - from));
+        }
+        if self.fails {
+            self.faults = self.faults.saturating_add(1);
+            return Pull::Failed;
+        }
+        Pull::End
+    }
+}
+
+#[test]
+fn pieces_are_asked_for_up_to_the_limit(rt: HostRuntime) -> Result<(), Fail> {
+    let alloc = rt.alloc();
+    let rows: [(usize, u64, &[usize]); 4] = [
+        (0, 0, &[1]),
+        (5_000, 10_000, &[4096, 4096, 4096]),
+        (5_000, 5_000, &[4096, 905, 1]),
+        (5_000, 4_096, &[4096, 1]),
+    ];
+    for (length, limit, asked) in rows {
+        let mut shelf = ZeroShelf {
+            length,
+            fails: false,
+            faults: 0,
+            asked: Vec::new(alloc),
+        };
+        let fetched = fetch(alloc, &mut shelf, "zeros", limit).map(|bytes| bytes.len());
+        let wanted = if length as u64 <= limit {
+            Ok(length)
+        } else {
+            Err(FetchError::TooLong)
+        };
+        assert!(rt; fetched == wanted, "{length} within {limit}");
+        assert!(rt;
+            shelf.asked.as_slice() == asked,
+            "asked at {length} within {limit}"
+        );
+    }
+    Ok(())
+}
+
+#[test]
+fn a_fault_in_mid_file_is_told(rt: HostRuntime) -> Result<(), Fail> {
+    let alloc = rt.alloc();
+    let mut shelf = ZeroShelf {
+        length: 5_000,
+        fails: true,
+        faults: 0,
+        asked: Vec::new(alloc),
+    };
+    let fetched = fetch(alloc, &mut shelf, "zeros", 10_000).map(|bytes| bytes.len());
+    assert!(rt; fetched == Err(FetchError::ReadFault));
+    Ok(())
+}
+
+#[test]
+fn all_bytes_are_sent(rt: HostRuntime) -> Result<(), Fail> {
+    let alloc = rt.alloc();
+    for most in [1, 3, 10, 11] {
+        let mut sink = SteadySink::new(alloc, most);
+        send(&mut sink, b"")?;
+        assert!(rt; sink.bytes() == b"".as_slice(), "nothing by {most}");
+        send(&mut sink, b"0123456789")?;
+        send(&mut sink, b"abc")?;
+        assert!(rt; sink.bytes() == b"0123456789abc".as_slice(), "by {most}");
+    }
+    Ok(())
+}
+
+/// A sink that tells nothing, takes two bytes a put and fails after so many puts.
+#[derive(Drop)]
+struct ShortSink {
+    room: u64,
+    puts: u64,
+    faults: u64,
+}
+
+impl Sink for ShortSink {
+    ghost told = { λ _. None };
+
+    ghost faults = { λ sink. sink.faults };
+
+    fn put(&mut self, piece: &[u8]) -> PutDone {
+        self.puts = self.puts.saturating_add(1);
+        if self.puts > self.room {
+            self.faults = self.faults.saturating_add(1);
+            return PutDone::Failed;
+        }
+        PutDone::Took(piece.len().min(2))
+    }
+}
+
+#[test]
+fn a_fault_in_mid_text_is_told(rt: HostRuntime) {
+    let rows: [(&[u8], u64, Result<(), SendError>); 4] = [
+        (b"", 0, Ok(())),
+        (b"12345", 3, Ok(())),
+        (b"12345", 2, Err(SendError::WriteFault)),
+        (b"12345", 1, Err(SendError::WriteFault)),
+    ];
+    for (bytes, puts, wanted) in rows {
+        let mut sink = ShortSink {
+            room: puts,
+            puts: 0,
+            faults: 0,
+        };
+        assert!(rt; send(&mut sink, bytes) == wanted, "{puts} puts");
+    }
+}
