@@ -1,0 +1,8 @@
+pub mod AssembleLemmas
+pub mod CardLemmas
+pub mod FieldLemmas
+pub mod ListLemmas
+pub mod PlaceLemmas
+pub mod ReadingExists
+pub mod ReadingLemmas
+pub mod WordLemmas

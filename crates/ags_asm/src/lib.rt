@@ -1,0 +1,24 @@
+//! The assembler: from a source's bytes to its cards with their places and words, or its first fault.
+//! It stands on `ags_text` for lines and digits and on `ags_word` for words, and `assemble` answers exactly what
+//! the definitions in `specs/` say of the text.
+#![tactic(auto)]
+
+mod assembling;
+mod card;
+mod cards;
+mod fields;
+mod placed;
+mod places;
+mod reading;
+mod reading_laws;
+mod source_card;
+mod source_error;
+#[cfg(test)]
+mod tests;
+mod words;
+
+pub use assembling::assemble;
+pub use card::Body;
+pub use placed::Placed;
+pub use reading_laws::{each_line_has_a_reading, no_line_has_two_readings};
+pub use source_error::{AssembleError, SourceError, SourceKind};
