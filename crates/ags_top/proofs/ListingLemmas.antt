@@ -1,0 +1,95 @@
+-- The listing, a card further, and by the lines of its source.
+use Rattle.std.proofs.Common.{◌≡◌, ℕ, ◌+◌, ◌<◌, ◌≤◌, List, [], ◌∷◌, ◌++◌, length, take, drop, get_or, Option, Some, None, refl, sym, ap, ◌∙◌, arith}
+use Rattle.std.proofs.lemmas.List.{drop_more, drop_all}
+use Rattle.ags_text.specs.Line.{LineAt, LiesIn, Follow}
+use Rattle.ags_outside.specs.Sink.{appended, Wrote, WroteFront, wrote_nothing, wrote_piece, wrote_all, wrote_front}
+use Rattle.ags_asm.specs.declared.placed.Placed.{Placed}
+use Rattle.ags_asm.specs.Phase.{defined}
+use Rattle.ags_asm.specs.Source.{AreSpans, placed_at, placed_cards}
+use Rattle.ags_top.specs.Listing.{listing_line, listing_from}
+use Rattle.ags_top.specs.PlacedListing.{card_text, placed_line, placed_listing}
+
+-- ---- a card further
+
+rest-more : (placed : List Placed) (i : ℕ) (card : Placed) → i < length placed → card ≡ get_or placed i card → drop i placed ≡ card ∷ drop (i + 1) placed
+rest-more placed i card within is = drop_more placed i card within ∙ ap (λ (x : Placed). x ∷ drop (i + 1) placed) (sym is)
+
+placed_listing-cons : (source : List ℕ) (number : ℕ) (card : Placed) (cards : List Placed)
+    → placed_listing source number (card ∷ cards) ≡ placed_line source number card ++ placed_listing source (number + 1) cards
+unfolding placed_listing
+placed_listing-cons source number card cards = refl
+
+placed_listing-nil : (source : List ℕ) (number : ℕ) → placed_listing source number [] ≡ []
+unfolding placed_listing
+placed_listing-nil source number = refl
+
+-- The lines of the first i cards were sent.
+pub record Sending (old now : Option (List ℕ)) (source : List ℕ) (placed : List Placed) (i : ℕ) : Type 0 where
+  pub wrote : Wrote old now (placed_listing source 1 placed) (placed_listing source (i + 1) (drop i placed))
+  pub from : ℕ
+  pub few : i ≤ from
+  pub short : from ≤ length source + 1
+  pub spans : AreSpans from (length source) (drop i placed)
+
+pub Sending-none : (old : Option (List ℕ)) (source : List ℕ) (placed : List Placed) → AreSpans 0 (length source) placed → Sending old old source placed 0
+Sending-none old source placed spans = record { wrote = wrote_nothing old (placed_listing source 1 placed); from = 0; few = omega arith; short = omega arith; spans = spans }
+
+-- the next card's span lies in the source
+pub Sending-span : (old now : Option (List ℕ)) (source : List ℕ) (placed : List Placed) (i : ℕ) (card : Placed) → Sending old now source placed i
+    → i < length placed → card ≡ get_or placed i card → (i ≤ length source) × (card.start ≤ card.end) × (card.end ≤ length source)
+Sending-span old now source placed i card so within is =
+    let here = rw (rest-more placed i card within is) at so.spans in
+    (omega (arith, so.few, here.0, here.1, here.2), here.1, here.2)
+
+next-piece : (source : List ℕ) (placed : List Placed) (i : ℕ) (card : Placed) → i < length placed → card ≡ get_or placed i card
+    → placed_listing source (i + 1) (drop i placed) ≡ placed_line source (i + 1) card ++ placed_listing source (i + 1 + 1) (drop (i + 1) placed)
+next-piece source placed i card within is = rw (rest-more placed i card within is) (placed_listing-cons source (i + 1) card (drop (i + 1) placed))
+
+-- its line was sent
+pub Sending-more : (old now new : Option (List ℕ)) (source : List ℕ) (placed : List Placed) (i : ℕ) (card : Placed) → Sending old now source placed i
+    → i < length placed → card ≡ get_or placed i card → new ≡ appended now (placed_line source (i + 1) card) → Sending old new source placed (i + 1)
+Sending-more old now new source placed i card so within is sent =
+    let here = rw (rest-more placed i card within is) at so.spans in
+    record {
+      wrote = wrote_piece (placed_line source (i + 1) card) (placed_listing source (i + 1 + 1) (drop (i + 1) placed)) so.wrote (next-piece source placed i card within is) sent;
+      from = card.end + 1;
+      few = omega (arith, so.few, here.0, here.1);
+      short = omega (arith, here.2);
+      spans = here.3;
+    }
+
+-- a front of its line was
+pub Sending-front : (old now new : Option (List ℕ)) (source : List ℕ) (placed : List Placed) (i : ℕ) (card : Placed) → Sending old now source placed i
+    → i < length placed → card ≡ get_or placed i card → WroteFront now new (placed_line source (i + 1) card) → WroteFront old new (placed_listing source 1 placed)
+Sending-front old now new source placed i card so within is front =
+    wrote_front (placed_line source (i + 1) card) (placed_listing source (i + 1 + 1) (drop (i + 1) placed)) so.wrote (next-piece source placed i card within is) front
+
+-- all lines were sent
+pub Sending-all : (old now : Option (List ℕ)) (source : List ℕ) (placed : List Placed) (i : ℕ) → Sending old now source placed i → length placed ≤ i
+    → now ≡ appended old (placed_listing source 1 placed)
+Sending-all old now source placed i so past =
+    let nothing : placed_listing source (i + 1) (drop i placed) ≡ [] = rw (drop_all i placed past) (placed_listing-nil source (i + 1)) in
+    wrote_all (rw nothing at so.wrote)
+
+-- ---- by the lines
+
+defined-placed_at : (line : LineAt) (one : Option (ℕ × ℕ)) → defined (placed_at line one) ≡ one
+defined-placed_at line None = refl
+defined-placed_at line (Some definition) = refl
+
+card_text-placed_at : (source : List ℕ) (line : LineAt) (one : Option (ℕ × ℕ)) → LiesIn source line → card_text source (placed_at line one) ≡ line.bytes
+card_text-placed_at source line None lies = ap (λ (n : ℕ). take n (drop line.start source)) (omega arith) ∙ lies.bytes_are
+card_text-placed_at source line (Some definition) lies = ap (λ (n : ℕ). take n (drop line.start source)) (omega arith) ∙ lies.bytes_are
+
+placed_line-line : (source : List ℕ) (number : ℕ) (line : LineAt) (one : Option (ℕ × ℕ)) → LiesIn source line → placed_line source number (placed_at line one) ≡ listing_line number line one
+unfolding placed_line listing_line
+placed_line-line source number line one lies = rw (defined-placed_at line one, card_text-placed_at source line one lies) refl
+
+-- the cards' listing is that of the lines
+pub listing_by_lines : (source : List ℕ) (from number : ℕ) (lines : List LineAt) (ds : List (Option (ℕ × ℕ))) → Follow source from lines
+    → placed_listing source number (placed_cards lines ds) ≡ listing_from number lines ds
+unfolding placed_listing listing_from
+listing_by_lines source from number [] ds follow = refl
+listing_by_lines source from number (line ∷ lines) [] follow = refl
+listing_by_lines source from number (line ∷ lines) (d ∷ ds) follow =
+    rw (placed_line-line source number line d follow.1, listing_by_lines source (line.start + length line.bytes + 1) (number + 1) lines ds follow.2) refl

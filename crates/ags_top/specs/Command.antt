@@ -1,0 +1,15 @@
+-- The forms of words that the program takes.
+use Rattle.std.specs.Prelude.{◌≡◌, ℕ, List, [], ◌∷◌, codes}
+
+-- what the words ask for
+pub data Command : Type 0 where
+  -- the listing of the source of this name
+  Assemble : List ℕ → Command
+
+-- the words that ask for it
+abbrev pub words_of : Command → List (List ℕ)
+words_of (Assemble source) = codes "assemble" ∷ source ∷ []
+
+-- the words are none of the forms
+abbrev pub AreNoForm : List (List ℕ) → Type 0
+AreNoForm words = (command : Command) → words ≡ words_of command → ⊥

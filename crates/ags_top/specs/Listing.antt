@@ -1,0 +1,23 @@
+-- The listing of a source.
+use Rattle.std.specs.Prelude.{ℕ, ◌+◌, List, [], ◌∷◌, ◌++◌, Option, Some, None, codes}
+use Rattle.ags_text.specs.Line.{LineAt, lines_of}
+use Rattle.ags_text.specs.Numeral.{decimal7_text, octal4_text, octal6_text}
+
+-- the columns of a card's place and word, which are blank where it has none
+abbrev pub columns : Option (ℕ × ℕ) → List ℕ
+columns None = codes "           "
+columns (Some defined) = octal4_text defined.0 ++ codes " " ++ octal6_text defined.1
+
+-- a card's line: its number, its place and word, and its text
+unfoldable pub listing_line : ℕ → LineAt → Option (ℕ × ℕ) → List ℕ
+listing_line number line defined = decimal7_text number ++ codes " " ++ columns defined ++ codes " " ++ line.bytes ++ codes "\n"
+
+-- the lines of the cards from that number on
+unfoldable pub listing_from : ℕ → List LineAt → List (Option (ℕ × ℕ)) → List ℕ
+listing_from number [] defined = []
+listing_from number (line ∷ lines) [] = []
+listing_from number (line ∷ lines) (one ∷ defined) = listing_line number line one ++ listing_from (number + 1) lines defined
+
+-- the listing of a text, whose cards have these places and words
+abbrev pub listing : List ℕ → List (Option (ℕ × ℕ)) → List ℕ
+listing text defined = listing_from 1 (lines_of text) defined

@@ -1,0 +1,19 @@
+-- The listing of cards as they were placed, by their spans in the source.
+use Rattle.std.specs.Prelude.{ℕ, ◌+◌, ◌-◌, List, [], ◌∷◌, ◌++◌, take, drop, codes}
+use Rattle.ags_text.specs.Numeral.{decimal7_text}
+use Rattle.ags_asm.specs.declared.placed.Placed.{Placed}
+use Rattle.ags_asm.specs.Phase.{defined}
+use Rattle.ags_top.specs.Listing.{columns}
+
+-- a card's text in its source
+abbrev pub card_text : List ℕ → Placed → List ℕ
+card_text source card = take (card.end - card.start) (drop card.start source)
+
+-- a card's line
+unfoldable pub placed_line : List ℕ → ℕ → Placed → List ℕ
+placed_line source number card = decimal7_text number ++ codes " " ++ columns (defined card) ++ codes " " ++ card_text source card ++ codes "\n"
+
+-- the lines of the cards from that number on
+unfoldable pub placed_listing : List ℕ → ℕ → List Placed → List ℕ
+placed_listing source number [] = []
+placed_listing source number (card ∷ cards) = placed_line source number card ++ placed_listing source (number + 1) cards

@@ -1,0 +1,90 @@
+//! The writer of the listing.
+
+ghost use Rattle.std.specs.Prelude.{◌≡◌, ◌+◌, ◌≤◌, ◌<◌, ◌^◌, ◌++◌, length, OnOk, OnErr, IsErrOf};
+ghost use Rattle.ags_outside.specs.Count.{Rose};
+ghost use Rattle.ags_outside.specs.Sink.{appended, WroteFront};
+ghost use Rattle.ags_asm.specs.Phase.{defined};
+ghost use Rattle.ags_asm.specs.Source.{AreSpans};
+ghost use Rattle.ags_top.specs.Listing.{columns};
+ghost use Rattle.ags_top.specs.PlacedListing.{placed_line, placed_listing};
+
+use ags_asm::Placed;
+use ags_outside::{SendError, Sink, send};
+use ags_text::{decimal7, octal4};
+use std::alloc::{AllocError, Global};
+
+/// Adds the columns of a card's place and word.
+fn push_columns(line: &mut Vec<u8>, card: &Placed) -> Result<(), AllocError>
+    ensures { OnOk result (line.new.items ≡ line.old.items ++ columns (defined card.now)) }
+{
+    let Some(place) = card.place else {
+        return line.extend_from_slice(b"           ");
+    };
+    line.extend_from_slice(&octal4(u32::from(place)))?;
+    line.push(b' ')?;
+    line.extend_from_slice(&card.word.octal6())
+}
+
+/// Adds a card's line.
+#[tactic(auto, unfolding(crate::specs::PlacedListing::placed_line))]
+fn push_line(
+    line: &mut Vec<u8>,
+    source: &[u8],
+    number: u32,
+    card: &Placed,
+) -> Result<(), AllocError>
+    requires ordered { card.now.start ≤ card.now.end }
+    requires within { card.now.end ≤ length source.now }
+    ensures { OnOk result (line.new.items ≡ line.old.items ++ placed_line source.now number card.now) }
+{
+    line.extend_from_slice(&decimal7(number))?;
+    line.push(b' ')?;
+    push_columns(line, card)?;
+    line.push(b' ')?;
+    line.extend_from_slice(&source[card.start as usize..card.end as usize])?;
+    line.push(b'\n')?;
+    Ok(())
+}
+
+/// Sends a card's line. `line` is room for it, whatever is in it.
+fn send_line<K: Sink>(
+    out: &mut K,
+    line: &mut Vec<u8>,
+    source: &[u8],
+    number: u32,
+    card: &Placed,
+) -> Result<(), SendError>
+    requires ordered { card.now.start ≤ card.now.end }
+    requires within { card.now.end ≤ length source.now }
+    ensures sent { OnOk result (K.told out.new ≡ appended (K.told out.old) (placed_line source.now number card.now)) }
+    ensures front { OnErr result (WroteFront (K.told out.old) (K.told out.new) (placed_line source.now number card.now)) }
+    ensures faults_stay { K.faults out.old ≤ K.faults out.new }
+    ensures write_fault { IsErrOf result SendError.WriteFault → Rose (K.faults out.old) (K.faults out.new) }
+{
+    line.clear();
+    if push_line(line, source, number, card).is_err() {
+        return Err(SendError::NoMemory);
+    }
+    send(out, line)
+}
+
+/// Sends the listing of the cards, a line at a time.
+pub(crate) fn send_listing<K: Sink>(
+    alloc: Global,
+    out: &mut K,
+    source: &[u8],
+    placed: &[Placed],
+) -> Result<(), SendError>
+    requires short { length source.now ≤ 4194304 }
+    requires spans { AreSpans 0 (length source.now) placed.now }
+    ensures sent { OnOk result (K.told out.new ≡ appended (K.told out.old) (placed_listing source.now 1 placed.now)) }
+    ensures front { OnErr result (WroteFront (K.told out.old) (K.told out.new) (placed_listing source.now 1 placed.now)) }
+    ensures faults_stay { K.faults out.old ≤ K.faults out.new }
+    ensures write_fault { IsErrOf result SendError.WriteFault → Rose (K.faults out.old) (K.faults out.new) }
+{
+    let mut line = Vec::new(alloc);
+    for (index, card) in placed.iter().enumerate() {
+        send_line(out, &mut line, source, index as u32 + 1, card)?;
+    }
+    Ok(())
+}

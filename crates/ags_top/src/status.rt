@@ -1,0 +1,43 @@
+//! How a run of the program ends.
+
+ghost use Rattle.ags_top.specs.Number.{number_of};
+ghost use Rattle.std.specs.Prelude.{◌≡◌};
+
+/// How a run of the program ends.
+#[derive(Clone, Copy, Debug, PartialEq, Eq)]
+pub enum Status {
+    /// The work is done.
+    Done,
+    /// The source has a fault.
+    BadSource,
+    /// The words are none of the forms.
+    BadWords,
+    /// A file is absent.
+    AbsentFile,
+    /// A file couldn't be read.
+    ReadFault,
+    /// The output couldn't be written.
+    WriteFault,
+    /// A file is longer than its limit.
+    LongFile,
+    /// There was too little memory.
+    NoMemory,
+}
+
+impl Status {
+    /// The number with which the program ends.
+    pub fn number(self) -> u8
+        ensures { result ≡ number_of self }
+    {
+        match self {
+            Status::Done => 0,
+            Status::BadSource => 2,
+            Status::BadWords => 3,
+            Status::AbsentFile => 4,
+            Status::ReadFault => 5,
+            Status::WriteFault => 6,
+            Status::LongFile => 10,
+            Status::NoMemory => 11,
+        }
+    }
+}
