@@ -1,0 +1,47 @@
+//! The program: `ags_main` over real files and standard output. Its two adapters are the trusted edge: they tell
+//! nothing of what a file holds or of what was written, and meet the traits of `ags_outside`.
+#![tactic(auto)]
+
+mod file_shelf;
+mod out_sink;
+
+use ags_top::{Status, ags_main};
+use file_shelf::FileShelf;
+use out_sink::OutSink;
+use std::alloc::{AllocError, Global};
+use std::env::{Args, args};
+use std::fs::Files;
+use std::io;
+use std::process::ExitCode;
+
+/// The words behind the program's name.
+fn words_of(alloc: Global, all: Args) -> Result<Vec<String>, AllocError> {
+    let mut words = Vec::new(alloc);
+    for word in all.skip(1) {
+        words.push(word)?;
+    }
+    Ok(words)
+}
+
+/// Runs the program over its words, and answers its status.
+fn run<R: Files + Print + AllocGlobal>(rt: &R, all: Args) -> io::Result<Status> {
+    let words = words_of(rt.alloc(), all)?;
+    let mut shelf = FileShelf::new(rt, rt.alloc());
+    let mut out = OutSink::new(rt.alloc(), io::writer(rt))?;
+    let status = ags_main(rt.alloc(), &words, &mut shelf, &mut out);
+    if out.finish() {
+        Ok(status)
+    } else {
+        Ok(Status::WriteFault)
+    }
+}
+
+fn main(rt: HostRuntime) -> ExitCode {
+    let status = match args(&rt) {
+        Ok(all) => run(&rt, all).unwrap_or(Status::NoMemory),
+        Err(error) if error.kind() == io::ErrorKind::OutOfMemory => Status::NoMemory,
+        // a word isn't UTF-8
+        Err(_) => Status::BadWords,
+    };
+    ExitCode::from(status.number())
+}
