@@ -1,0 +1,17 @@
+use Rattle.ags_isa.proofs.WordLemmas.{words-one, word_of-below}
+use Rattle.ags_isa.proofs.laws.orders_make_different_words.Goals as goal
+
+pub returns-clause-order : goal.returns-clause-order
+returns-clause-order c = λ table order other indexed bit address place are below place_below same.
+    (words-one table are order other indexed bit address place below place_below same).0
+
+pub returns-clause-index : goal.returns-clause-index
+returns-clause-index c = λ table order other indexed bit address place are below place_below same.
+    (words-one table are order other indexed bit address place below place_below same).1
+
+pub returns-clause-address : goal.returns-clause-address
+returns-clause-address c = λ table order other indexed bit address place are below place_below same.
+    (words-one table are order other indexed bit address place below place_below same).2
+
+pub returns-clause-below : goal.returns-clause-below
+returns-clause-below c = λ table order indexed address are below. word_of-below table are order indexed address below

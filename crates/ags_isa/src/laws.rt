@@ -1,0 +1,65 @@
+//! What the definitions of orders and words mean, in the machine's own words. Each law is what a function that does
+//! nothing ensures, so that it is proved with the crate. Behind each clause is a lemma of `proofs/`.
+
+ghost use Rattle.std.specs.Prelude.{◌≡◌, ◌≢◌, ℕ, ◌+◌, ◌*◌, ◌/◌, ◌%◌, ◌^◌, ◌<◌, Bool, List, All, if◌then◌else◌};
+ghost use Rattle.ags_isa.specs.declared.orders.Order.{Order};
+ghost use Rattle.ags_isa.specs.Order.{order_number, order_name};
+ghost use Rattle.ags_isa.specs.Code.{AreCodes, code_of, standard_codes, standard_digits, unused_digits};
+ghost use Rattle.ags_isa.specs.Naming.{word_of, Names};
+
+/// Orders with one number, or with one name, are one order, and the numbers run from 0 to 26.
+pub fn orders_differ()
+    ensures number { (order other : Order) → order_number order ≡ order_number other → order ≡ other }
+    ensures name { (order other : Order) → order_name order ≡ order_name other → order ≡ other }
+    ensures below { (order : Order) → order_number order < 27 }
+{}
+
+/// Each standard code is half the number of the two octal digits that its orders' words begin with, and five pairs of
+/// digits begin none.
+pub fn standard_codes_are_half_their_digits()
+    ensures half { (order : Order) → 2 * code_of standard_codes order ≡ standard_digits order }
+    ensures unused { (order : Order) → All (λ digits. standard_digits order ≢ digits) unused_digits }
+{}
+
+/// The standard codes are a table, and in each table orders with one code are one order.
+pub fn codes_tell_orders_apart()
+    ensures standard { AreCodes standard_codes }
+    ensures order { (table : List ℕ) (order other : Order) → AreCodes table
+        → code_of table order ≡ code_of table other → order ≡ other }
+    ensures below { (table : List ℕ) (order : Order) → AreCodes table → code_of table order < 32 }
+{}
+
+/// No word names two orders, two index bits or two addresses.
+pub fn word_names_one_order()
+    ensures order { (table : List ℕ) (word : ℕ) (order other : Order) (indexed bit : Bool) (address place : ℕ)
+        → AreCodes table → Names table word order indexed address → Names table word other bit place → order ≡ other }
+    ensures index { (table : List ℕ) (word : ℕ) (order other : Order) (indexed bit : Bool) (address place : ℕ)
+        → AreCodes table → Names table word order indexed address → Names table word other bit place → indexed ≡ bit }
+    ensures address { (table : List ℕ) (word : ℕ) (order other : Order) (indexed bit : Bool) (address place : ℕ)
+        → AreCodes table → Names table word order indexed address → Names table word other bit place → address ≡ place }
+{}
+
+/// Orders with different parts make different words, and each is a word of the machine.
+pub fn orders_make_different_words()
+    ensures order { (table : List ℕ) (order other : Order) (indexed bit : Bool) (address place : ℕ)
+        → AreCodes table → address < 4096 → place < 4096
+        → word_of table order indexed address ≡ word_of table other bit place → order ≡ other }
+    ensures index { (table : List ℕ) (order other : Order) (indexed bit : Bool) (address place : ℕ)
+        → AreCodes table → address < 4096 → place < 4096
+        → word_of table order indexed address ≡ word_of table other bit place → indexed ≡ bit }
+    ensures address { (table : List ℕ) (order other : Order) (indexed bit : Bool) (address place : ℕ)
+        → AreCodes table → address < 4096 → place < 4096
+        → word_of table order indexed address ≡ word_of table other bit place → address ≡ place }
+    ensures below { (table : List ℕ) (order : Order) (indexed : Bool) (address : ℕ)
+        → AreCodes table → address < 4096 → word_of table order indexed address < 2 ^ 18 }
+{}
+
+/// A word's first two octal digits are twice the code of the order that it names, and one more where the index bit is
+/// set; its other four are the address.
+pub fn digits_are_code_index_and_address()
+    ensures digits { (table : List ℕ) (word : ℕ) (order : Order) (indexed : Bool) (address : ℕ)
+        → Names table word order indexed address
+        → word / 2 ^ 12 ≡ 2 * code_of table order + (if indexed then 1 else 0) }
+    ensures address { (table : List ℕ) (word : ℕ) (order : Order) (indexed : Bool) (address : ℕ)
+        → Names table word order indexed address → word % 2 ^ 12 ≡ address }
+{}
