@@ -1,0 +1,10 @@
+pub mod TimeLemmas
+pub mod PortLemmas
+pub mod NamingLemmas
+pub mod StepLemmas
+pub mod StateLemmas
+pub mod CellLemmas
+pub mod PhaseLemmas
+pub mod IndicatorLemmas
+pub mod RunLemmas
+pub mod Examples

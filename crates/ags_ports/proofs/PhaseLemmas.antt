@@ -1,0 +1,34 @@
+-- Only a pulse ends waiting, and nothing ends a halt.
+use Rattle.std.proofs.Common.{◌≡◌, ◌≢◌, ℕ, refl, sym, ap, subst, ◌∙◌, List}
+use Rattle.ags_ports.specs.declared.events.Phase.{Phase}
+use Rattle.ags_ports.specs.declared.events.Phase.TheVariants.{Running, Waiting, Halted}
+use Rattle.ags_ports.specs.declared.events.Event.{Event}
+use Rattle.ags_ports.specs.declared.events.Event.TheVariants.{Step, Pulse, Put}
+use Rattle.ags_ports.specs.declared.events.Done.{Done}
+use Rattle.ags_ports.specs.declared.machines.Machine.{Machine}
+use Rattle.ags_ports.specs.State.{State}
+use Rattle.ags_ports.specs.Step.{StepsIn, Steps, ChangesInputsAlone, pulsed}
+
+unchanged : (s after : State) → after ≡ s → ChangesInputsAlone s after
+unchanged s after e = subst (λ (v : State). ChangesInputsAlone s v) (sym e) refl
+
+inputs_alone : (s after : State) (inputs : List ℕ) → after ≡ record s { inputs = inputs } → ChangesInputsAlone s after
+inputs_alone s after inputs e = subst (λ (v : State). ChangesInputsAlone s v) (sym e) refl
+
+pub waits : (machine : Machine) (s : State) (event : Event) (done : Done) (after : State) → s.phase ≡ Waiting → event ≢ Pulse → Steps machine s event done after → ChangesInputsAlone s after
+waits machine s Step done after waiting other p =
+    let q = subst (λ (phase : Phase). StepsIn phase machine s done after) waiting p in
+    unchanged s after q.1
+waits machine s Pulse done after waiting other p = absurd (other refl)
+waits machine s (Put address word) done after waiting other p = inputs_alone s after _ p.1
+
+pub wakes : (machine : Machine) (s : State) (done : Done) (after : State) → s.phase ≡ Waiting → Steps machine s Pulse done after → after ≡ record s { phase = Running }
+wakes machine s done after waiting p = p.1 ∙ ap (λ (phase : Phase). record s { phase = pulsed phase }) waiting
+
+pub halts : (machine : Machine) (s : State) (event : Event) (done : Done) (after : State) → s.phase ≡ Halted → Steps machine s event done after → ChangesInputsAlone s after
+halts machine s Step done after halted p =
+    let q = subst (λ (phase : Phase). StepsIn phase machine s done after) halted p in
+    unchanged s after q.1
+halts machine s Pulse done after halted p = unchanged s after
+    (p.1 ∙ ap (λ (phase : Phase). record s { phase = pulsed phase }) halted ∙ ap (λ (phase : Phase). record s { phase = phase }) (sym halted))
+halts machine s (Put address word) done after halted p = inputs_alone s after _ p.1

@@ -1,0 +1,72 @@
+-- What holds of each step holds along each run.
+use Rattle.std.proofs.Common.{◌≡◌, ℕ, ◌≤◌, refl, sym, ap, subst, ◌∙◌, List, [], ◌∷◌, ◌++◌}
+use Rattle.ags_ports.specs.declared.events.Phase.TheVariants.{Halted}
+use Rattle.ags_ports.specs.declared.events.Event.{Event}
+use Rattle.ags_ports.specs.declared.events.Done.{Done}
+use Rattle.ags_ports.specs.declared.machines.Machine.{Machine}
+use Rattle.ags_ports.specs.Machine.{IsMachine}
+use Rattle.ags_ports.specs.State.{State, IsState, cell}
+use Rattle.ags_ports.specs.Run.{Moment, Run, AtEach, AreEvents, last_state}
+use Rattle.ags_ports.proofs.StepLemmas.{some_step, one_step}
+use Rattle.ags_ports.proofs.StateLemmas.{step_keeps}
+use Rattle.ags_ports.proofs.CellLemmas.{step_fixed}
+use Rattle.ags_ports.proofs.PhaseLemmas.{halts}
+
+pub some_run : (machine : Machine) (s : State) (events : List Event) → (moments : List Moment) × Run machine s events moments
+some_run machine s [] = ([], tt)
+some_run machine s (event ∷ events) =
+    let first = some_step machine s event in
+    let rest = some_run machine first.1 events in
+    (record { done = first.0; after = first.1 } ∷ rest.0, (first.2, rest.1))
+
+same_moment : (m n : Moment) (ms ns : List Moment) → m.done ≡ n.done → m.after ≡ n.after → ms ≡ ns → m ∷ ms ≡ n ∷ ns
+same_moment m n ms ns e f g =
+    let h : m ≡ n = made m.done n.done m.after n.after e f in cc
+  where
+    made : (d e : Done) (a b : State) → d ≡ e → a ≡ b → ◌≡◌ {A = Moment} (record { done = d; after = a }) (record { done = e; after = b })
+    made d e a b p r = cc
+
+pub one_run : (machine : Machine) (s : State) (events : List Event) (moments others : List Moment) → IsMachine machine → Run machine s events moments → Run machine s events others → moments ≡ others
+one_run machine s [] [] [] h p r = refl
+one_run machine s [] [] (n ∷ ns) h p r = absurd r
+one_run machine s [] (m ∷ ms) ns h p r = absurd p
+one_run machine s (event ∷ events) [] ns h p r = absurd p
+one_run machine s (event ∷ events) (m ∷ ms) [] h p r = absurd r
+one_run machine s (event ∷ events) (m ∷ ms) (n ∷ ns) h p r =
+    let first = one_step machine s event m.done n.done m.after n.after h p.0 r.0 in
+    let rest = one_run machine m.after events ms ns h p.1 (subst (λ (t : State). Run machine t events ns) (sym first.1) r.1) in
+    same_moment m n ms ns first.0 first.1 rest
+
+pub run_keeps : (machine : Machine) (s : State) (events : List Event) (moments : List Moment) → IsMachine machine → IsState machine s → AreEvents events → Run machine s events moments → AtEach (λ moment. IsState machine moment.after) moments
+run_keeps machine s [] [] h is right p = tt
+run_keeps machine s [] (m ∷ ms) h is right p = absurd p
+run_keeps machine s (event ∷ events) [] h is right p = absurd p
+run_keeps machine s (event ∷ events) (m ∷ ms) h is right p =
+    let next = step_keeps machine s event m.done m.after h is right.0 p.0 in
+    (next, run_keeps machine m.after events ms h next right.1 p.1)
+
+fixed_from : (at word : ℕ) → 2048 ≤ at → (machine : Machine) (s : State) (events : List Event) (moments : List Moment) → cell s at ≡ word → Run machine s events moments → AtEach (λ moment. cell moment.after at ≡ word) moments
+fixed_from at word fixed machine s [] [] same p = tt
+fixed_from at word fixed machine s [] (m ∷ ms) same p = absurd p
+fixed_from at word fixed machine s (event ∷ events) [] same p = absurd p
+fixed_from at word fixed machine s (event ∷ events) (m ∷ ms) same p =
+    let next = step_fixed machine s event m.done m.after at fixed p.0 ∙ same in
+    (next, fixed_from at word fixed machine m.after events ms next p.1)
+
+pub run_fixed : (machine : Machine) (s : State) (events : List Event) (moments : List Moment) (at : ℕ) → 2048 ≤ at → Run machine s events moments → AtEach (λ moment. cell moment.after at ≡ cell s at) moments
+run_fixed machine s events moments at fixed p = fixed_from at (cell s at) fixed machine s events moments refl p
+
+pub run_halted : (machine : Machine) (s : State) (events : List Event) (moments : List Moment) → s.phase ≡ Halted → Run machine s events moments → AtEach (λ moment. moment.after.phase ≡ Halted) moments
+run_halted machine s [] [] halted p = tt
+run_halted machine s [] (m ∷ ms) halted p = absurd p
+run_halted machine s (event ∷ events) [] halted p = absurd p
+run_halted machine s (event ∷ events) (m ∷ ms) halted p =
+    let next = ap (λ (t : State). t.phase) (halts machine s event m.done m.after halted p.0) ∙ halted in
+    (next, run_halted machine m.after events ms next p.1)
+
+-- a run goes on from where another ends
+pub run-append : (machine : Machine) (s : State) (events more : List Event) (moments others : List Moment) → Run machine s events moments → Run machine (last_state s moments) more others → Run machine s (events ++ more) (moments ++ others)
+run-append machine s [] more [] others p r = r
+run-append machine s [] more (m ∷ ms) others p r = absurd p
+run-append machine s (event ∷ events) more [] others p r = absurd p
+run-append machine s (event ∷ events) more (m ∷ ms) others p r = (p.0, run-append machine m.after events more ms others p.1 r)

@@ -1,0 +1,8 @@
+use Rattle.ags_ports.proofs.IndicatorLemmas.{overflow_sets, tov_clears}
+use Rattle.ags_ports.proofs.laws.only_tov_clears_the_indicator.Goals as goal
+
+pub returns-clause-sets : goal.returns-clause-sets
+returns-clause-sets c = overflow_sets
+
+pub returns-clause-clears : goal.returns-clause-clears
+returns-clause-clears c = tov_clears

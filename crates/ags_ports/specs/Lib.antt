@@ -1,0 +1,7 @@
+pub mod Port
+pub mod Time
+pub mod Machine
+pub mod State
+pub mod Effect
+pub mod Step
+pub mod Run

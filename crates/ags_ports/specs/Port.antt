@@ -1,0 +1,55 @@
+-- A machine's registers: those that INP reads and those that OUT sets, each in a table by address.
+use Rattle.std.specs.Prelude.{◌≢◌, ℕ, ◌<◌, ◌≤◌, ◌==◌, Bool, false, List, [], ◌∷◌, length, All, AllPairs, Option, Some, None, position, slice_get, slice_set, slice_index, true, if◌then◌else◌}
+use Rattle.ags_ports.specs.declared.registers.Port.{Port}
+
+-- a list of registers is a table of one direction: at most 32, each at an address below 4096, no two at one address
+pub record AreRegisters (ports : List Port) : Type 0 where
+  pub few : length ports ≤ 32
+  pub below : All (λ port. port.address < 4096) ports
+  pub distinct : AllPairs (λ one another. one.address ≢ another.address) ports
+
+-- the two tables of a machine
+pub record Registers : Type 0 where
+  pub inputs : List Port
+  pub outputs : List Port
+
+-- the place of the register at an address, counted from 0, and nothing where the table has none there
+abbrev pub place_of : List Port → ℕ → Option ℕ
+place_of ports address = position (λ port. port.address == address) ports
+
+-- the word that stands in the register at a place, and 0 where there is none
+abbrev pub word_at : List ℕ → Option ℕ → ℕ
+word_at words None = 0
+word_at words (Some place) = slice_index words place
+
+-- the registers' words with the one at a place set, and as they are where there is none
+abbrev pub set_at : List ℕ → Option ℕ → ℕ → List ℕ
+set_at words None word = words
+set_at words (Some place) word = slice_set words place word
+
+-- whether the register at a place holds its word once: it is 0 again once it was read
+abbrev pub is_once : Option Port → Bool
+is_once None = false
+is_once (Some port) = port.once
+
+-- the input registers' words once the one at a place was read
+abbrev pub read_at : List Port → List ℕ → Option ℕ → List ℕ
+read_at ports words None = words
+read_at ports words (Some place) = if is_once (slice_get ports place) then slice_set words place 0 else words
+
+-- a register that holds its word, and one that holds it once
+abbrev pub held : ℕ → Port
+held address = record { address = address; once = false }
+
+abbrev pub once : ℕ → Port
+once address = record { address = address; once = true }
+
+-- the standard input registers, of which the last holds its word once: 2001, 2002, 2004, 2010, 2020, 2040 and 2200 octal
+abbrev pub standard_inputs : List Port
+standard_inputs =
+    held 0o2001 ∷ held 0o2002 ∷ held 0o2004 ∷ held 0o2010 ∷ held 0o2020 ∷ held 0o2040 ∷ once 0o2200 ∷ []
+
+-- the standard output registers: 6001, 6002, 6004, 6010, 6020, 6040 and 6200 octal
+abbrev pub standard_outputs : List Port
+standard_outputs =
+    held 0o6001 ∷ held 0o6002 ∷ held 0o6004 ∷ held 0o6010 ∷ held 0o6020 ∷ held 0o6040 ∷ held 0o6200 ∷ []

@@ -1,0 +1,103 @@
+//! What the definition of the machine means. Each law is what a function that does nothing ensures, so that it is
+//! proved with the crate. Behind each clause is a lemma of `proofs/`, which the crates above cite.
+
+ghost use Rattle.std.specs.Prelude.{◌≡◌, ◌≢◌, ℕ, ◌<◌, ◌≤◌, true, false, All, List, length, slice_index_or, Some, None};
+ghost use Rattle.ags_isa.specs.declared.orders.Order.TheVariants.{Add, Adz, Cla, Clz, Mpr, Mpz, Sub, Suz, Tov};
+ghost use Rattle.ags_ports.specs.declared.events.Phase.TheVariants.{Running, Waiting, Halted};
+ghost use Rattle.ags_ports.specs.declared.events.Event.{Event};
+ghost use Rattle.ags_ports.specs.declared.events.Event.TheVariants.{Step, Pulse};
+ghost use Rattle.ags_ports.specs.declared.events.Done.{Done};
+ghost use Rattle.ags_ports.specs.declared.registers.Port.{Port};
+ghost use Rattle.ags_ports.specs.Port.{AreRegisters, place_of};
+ghost use Rattle.ags_ports.specs.Machine.{IsMachine};
+ghost use Rattle.ags_ports.specs.State.{State, IsState, cell};
+ghost use Rattle.ags_ports.specs.Effect.{effect, then_clears};
+ghost use Rattle.ags_ports.specs.Step.{IsEvent, Steps, Reads, ChangesInputsAlone};
+ghost use Rattle.ags_ports.specs.Run.{Moment, Run, AtEach, AreEvents};
+
+use crate::machines::Machine;
+
+/// Each machine that a program has is made of tables that are what each says of itself.
+pub fn machine_is_made_of_tables(machine: &Machine)
+    ensures { IsMachine machine.now }
+{
+    let _ = machine.codes.table();
+    let _ = machine.times.table();
+    let _ = machine.ports.inputs();
+    let _ = machine.ports.outputs();
+}
+
+/// From each state, each event tells one thing and leaves one state.
+pub fn each_event_has_one_step()
+    ensures some { (machine : Machine) (s : State) (event : Event)
+        → (done : Done) × (after : State) × Steps machine s event done after }
+    ensures one { (machine : Machine) (s : State) (event : Event) (done told : Done) (after left : State) → IsMachine machine
+        → Steps machine s event done after → Steps machine s event told left → (done ≡ told) × (after ≡ left) }
+{}
+
+/// A step of a machine keeps each part of a state in its range, and how many registers and cells there are.
+pub fn step_keeps_a_state()
+    ensures { (machine : Machine) (s : State) (event : Event) (done : Done) (after : State) → IsMachine machine
+        → IsState machine s → IsEvent event → Steps machine s event done after → IsState machine after }
+{}
+
+/// No event changes a fixed cell, one from 4000 octal on, and so no run of any length does.
+pub fn fixed_cells_stay()
+    ensures step { (machine : Machine) (s : State) (event : Event) (done : Done) (after : State) (address : ℕ)
+        → 2048 ≤ address → Steps machine s event done after → cell after address ≡ cell s address }
+    ensures run { (machine : Machine) (s : State) (events : List Event) (moments : List Moment) (address : ℕ)
+        → 2048 ≤ address → Run machine s events moments → AtEach (λ moment. cell moment.after address ≡ cell s address) moments }
+{}
+
+/// Only a pulse ends waiting: any other event changes input registers at most, and a pulse sets the phase alone.
+pub fn only_a_pulse_ends_waiting()
+    ensures waits { (machine : Machine) (s : State) (event : Event) (done : Done) (after : State)
+        → s.phase ≡ Waiting → event ≢ Pulse → Steps machine s event done after → ChangesInputsAlone s after }
+    ensures wakes { (machine : Machine) (s : State) (done : Done) (after : State)
+        → s.phase ≡ Waiting → Steps machine s Pulse done after → after ≡ record s { phase = Running } }
+{}
+
+/// Nothing leaves a halt: each event changes input registers at most, and a run of any length stays halted.
+pub fn nothing_leaves_a_halt()
+    ensures step { (machine : Machine) (s : State) (event : Event) (done : Done) (after : State)
+        → s.phase ≡ Halted → Steps machine s event done after → ChangesInputsAlone s after }
+    ensures run { (machine : Machine) (s : State) (events : List Event) (moments : List Moment)
+        → s.phase ≡ Halted → Run machine s events moments → AtEach (λ moment. moment.after.phase ≡ Halted) moments }
+{}
+
+/// An order that overflows sets the indicator, and only a step that runs TOV clears it.
+pub fn only_tov_clears_the_indicator()
+    ensures sets { (machine : Machine) (s : State) (event : Event) (done : Done) (after : State)
+        → Steps machine s event done after → done.overflow ≡ true → after.indicator ≡ true }
+    ensures clears { (machine : Machine) (s : State) (event : Event) (done : Done) (after : State)
+        → Steps machine s event done after → s.indicator ≡ true → after.indicator ≡ false → (event ≡ Step) × Reads machine s Tov }
+{}
+
+/// A clearing order is its plain order, and then the cell is cleared.
+pub fn clearing_order_is_plain_order_and_cleared_cell()
+    ensures clz { (machine : Machine) (s : State) (e y : ℕ) → effect machine s Clz e y ≡ then_clears (effect machine s Cla e y) e }
+    ensures adz { (machine : Machine) (s : State) (e y : ℕ) → effect machine s Adz e y ≡ then_clears (effect machine s Add e y) e }
+    ensures suz { (machine : Machine) (s : State) (e y : ℕ) → effect machine s Suz e y ≡ then_clears (effect machine s Sub e y) e }
+    ensures mpz { (machine : Machine) (s : State) (e y : ℕ) → effect machine s Mpz e y ≡ then_clears (effect machine s Mpr e y) e }
+{}
+
+/// From each state, each list of events has one run, and it keeps a state.
+pub fn each_list_of_events_has_one_run()
+    ensures some { (machine : Machine) (s : State) (events : List Event) → (moments : List Moment) × Run machine s events moments }
+    ensures one { (machine : Machine) (s : State) (events : List Event) (moments others : List Moment) → IsMachine machine
+        → Run machine s events moments → Run machine s events others → moments ≡ others }
+    ensures keeps { (machine : Machine) (s : State) (events : List Event) (moments : List Moment) → IsMachine machine
+        → IsState machine s → AreEvents events → Run machine s events moments
+        → AtEach (λ moment. IsState machine moment.after) moments }
+{}
+
+/// What is found at an address is a register of that address, nothing is found only where there is none, and each
+/// register of a table is found by its address.
+pub fn registers_are_found_by_their_addresses()
+    ensures found { (ports : List Port) (address place : ℕ) (d : Port) → place_of ports address ≡ Some place
+        → (place < length ports) × ((slice_index_or ports place d).address ≡ address) }
+    ensures absent { (ports : List Port) (address : ℕ) → place_of ports address ≡ None
+        → All (λ port. port.address ≢ address) ports }
+    ensures each { (ports : List Port) (place : ℕ) (d : Port) → AreRegisters ports → place < length ports
+        → place_of ports ((slice_index_or ports place d).address) ≡ Some place }
+{}

@@ -1,0 +1,19 @@
+//! The machine: its tables of times and registers, and the definition of what it does. `specs/` says what a state is,
+//! what each order does, one step and a run; the types of events and of what a step tells stand here. The core runs
+//! that definition and the checker speaks of it. It stands on `ags_word` for words and on `ags_isa` for orders.
+//! A table is valid by its type, and `laws` says what the definition means. No call takes memory.
+#![tactic(auto)]
+
+mod events;
+pub mod laws;
+mod machines;
+mod registers;
+mod time_tables;
+
+pub use events::{Done, Event, Phase, Stored};
+pub use machines::Machine;
+pub use registers::{Port, Ports};
+pub use time_tables::Times;
+
+#[cfg(test)]
+mod tests;

@@ -1,0 +1,193 @@
+//! The input and output registers of a machine.
+
+ghost use Rattle.std.specs.Prelude.{◌≡◌, ◌≢◌, ◌+◌, ◌<◌, ◌≤◌, ◌↔◌, ◌==◌, IsTrue, All, Any, AllPairs, length, slice_get, drop, IfSome, Some, None, false};
+ghost use Rattle.ags_ports.specs.Port.{AreRegisters, place_of, is_once, standard_inputs, standard_outputs};
+
+use arrayvec::ArrayVec;
+use std::marker::Model;
+
+/// How many registers there are at most in one direction.
+const MOST: usize = 32;
+
+/// The number of addresses.
+const ADDRESSES: u16 = 4096;
+
+/// A register.
+#[derive(Clone, Copy, Debug, Default, PartialEq, Eq)]
+pub struct Port {
+    /// Its address.
+    pub address: u16,
+    /// Whether it holds its word once: read by INP, it then holds 0. It matters for an input register alone.
+    pub once: bool,
+}
+
+/// A machine's registers in each direction: at most 32, at distinct addresses below 4096.
+#[derive(Debug, Drop)]
+pub struct Ports {
+    inputs: ArrayVec<Port, 32>,
+    outputs: ArrayVec<Port, 32>,
+}
+
+impl Model for Ports {
+    ghost use Rattle.ags_ports.specs.Port.{Registers, AreRegisters};
+
+    ghost Value = { Registers };
+
+    ghost view = { λ ports. record { inputs = ports.inputs.items; outputs = ports.outputs.items } };
+
+    ghost invariant = { λ ports. AreRegisters ports.inputs.items × AreRegisters ports.outputs.items };
+}
+
+impl Ports {
+    /// The registers of two tables, and nothing where one of them has more than 32 entries, an address above 4095, or
+    /// one address twice.
+    pub fn of(inputs: &[Port], outputs: &[Port]) -> Option<Ports>
+        ensures some { AreRegisters inputs.now → AreRegisters outputs.now
+            → result ≡ Some (record { inputs = inputs.now; outputs = outputs.now }) }
+        ensures bad_inputs { ¬ AreRegisters inputs.now → result ≡ None }
+        ensures bad_outputs { ¬ AreRegisters outputs.now → result ≡ None }
+        ensures input_table { IfSome result (λ ports. AreRegisters ports.inputs) }
+        ensures output_table { IfSome result (λ ports. AreRegisters ports.outputs) }
+    {
+        if are_registers(inputs) && are_registers(outputs) {
+            Some(Ports {
+                inputs: table(inputs),
+                outputs: table(outputs),
+            })
+        } else {
+            None
+        }
+    }
+
+    /// The registers of the standard machine.
+    pub fn standard() -> Ports
+        ensures inputs { result.inputs ≡ standard_inputs }
+        ensures outputs { result.outputs ≡ standard_outputs }
+        ensures input_table { AreRegisters result.inputs }
+        ensures output_table { AreRegisters result.outputs }
+    {
+        Ports {
+            inputs: table(&[
+                held(0o2001),
+                held(0o2002),
+                held(0o2004),
+                held(0o2010),
+                held(0o2020),
+                held(0o2040),
+                Port {
+                    address: 0o2200,
+                    once: true,
+                },
+            ]),
+            outputs: table(&[
+                held(0o6001),
+                held(0o6002),
+                held(0o6004),
+                held(0o6010),
+                held(0o6020),
+                held(0o6040),
+                held(0o6200),
+            ]),
+        }
+    }
+
+    /// The input registers.
+    pub fn inputs(&self) -> &[Port]
+        ensures same { result.now ≡ self.now.inputs }
+        ensures registers { AreRegisters self.now.inputs }
+    {
+        self.inputs.as_slice()
+    }
+
+    /// The output registers.
+    pub fn outputs(&self) -> &[Port]
+        ensures same { result.now ≡ self.now.outputs }
+        ensures registers { AreRegisters self.now.outputs }
+    {
+        self.outputs.as_slice()
+    }
+
+    /// The place of the input register at an address.
+    pub fn find_input(&self, address: u16) -> Option<usize>
+        ensures place { result ≡ place_of self.now.inputs address }
+        ensures in_range { IfSome result (λ place. place < length self.now.inputs) }
+    {
+        place(self.inputs.as_slice(), address)
+    }
+
+    /// Whether the input register at a place holds its word once.
+    pub fn is_once(&self, place: usize) -> bool
+        requires { place < length self.now.inputs }
+        ensures { result ≡ is_once (slice_get self.now.inputs place) }
+    {
+        self.inputs.as_slice()[place].once
+    }
+
+    /// The place of the output register at an address.
+    pub fn find_output(&self, address: u16) -> Option<usize>
+        ensures place { result ≡ place_of self.now.outputs address }
+        ensures in_range { IfSome result (λ place. place < length self.now.outputs) }
+    {
+        place(self.outputs.as_slice(), address)
+    }
+}
+
+/// The place of the register at an address.
+fn place(ports: &[Port], address: u16) -> Option<usize>
+    ensures { result ≡ place_of ports.now address }
+{
+    ports.iter().position(|port| port.address == address)
+}
+
+/// A register that holds its word.
+fn held(address: u16) -> Port
+    ensures { result ≡ record { address = address; once = false } }
+{
+    Port {
+        address,
+        once: false,
+    }
+}
+
+/// A list of registers in place.
+fn table(ports: &[Port]) -> ArrayVec<Port, 32>
+    requires { length ports.now ≤ 32 }
+    ensures { result.items ≡ ports.now }
+{
+    let mut table: ArrayVec<Port, 32> = ArrayVec::new();
+    let _ = table.try_extend_from_slice(ports);
+    table
+}
+
+/// Whether a list is a table of one direction.
+fn are_registers(ports: &[Port]) -> bool
+    ensures { IsTrue result ↔ AreRegisters ports.now }
+{
+    ports.len() <= MOST && all_below(ports) && all_distinct(ports)
+}
+
+/// Each address is below 4096.
+fn all_below(ports: &[Port]) -> bool
+    ensures { IsTrue result ↔ All (λ port. port.address < 4096) ports.now }
+{
+    ports.iter().all(|port| port.address < ADDRESSES)
+}
+
+/// No two addresses are equal.
+fn all_distinct(ports: &[Port]) -> bool
+    ensures { IsTrue result ↔ AllPairs (λ one another. one.address ≢ another.address) ports.now }
+{
+    for (place, port) in ports.iter().enumerate() {
+        if is_among(port.address, &ports[..place]) {
+            return false;
+        }
+    }
+    true
+}
+
+/// A register has this address.
+fn is_among(address: u16, ports: &[Port]) -> bool
+    ensures { IsTrue result ↔ Any (λ port. port.address ≡ address) ports.now }
+{
+    ports.iter().any(|port| port.address == address)
+}

@@ -1,0 +1,108 @@
+//! The standard machine's tables, typed from docs/MACHINE.md, and the ends of what a table may hold.
+
+use crate::machines::Machine;
+use crate::registers::{Port, Ports};
+use crate::time_tables::Times;
+use ags_isa::{Codes, Order};
+
+/// A register that holds its word.
+fn held(address: u16) -> Port {
+    Port {
+        address,
+        once: false,
+    }
+}
+
+#[test]
+fn standard_times(rt: HostRuntime) {
+    let machine = Machine::standard();
+    for (micros, orders) in [
+        (
+            16,
+            [Order::Adz, Order::Clz, Order::Suz, Order::Tsq].as_slice(),
+        ),
+        (20, [Order::Inp, Order::Out].as_slice()),
+        (40, [Order::Als, Order::Lls, Order::Lrs].as_slice()),
+        (70, [Order::Mpr, Order::Mpy, Order::Mpz].as_slice()),
+        (73, [Order::Dvp].as_slice()),
+        (
+            10,
+            [
+                Order::Abs,
+                Order::Add,
+                Order::Axt,
+                Order::Cla,
+                Order::Com,
+                Order::Dly,
+                Order::Ldq,
+                Order::Sto,
+                Order::Stq,
+                Order::Sub,
+                Order::Tix,
+                Order::Tmi,
+                Order::Tov,
+                Order::Tra,
+            ]
+            .as_slice(),
+        ),
+    ] {
+        for order in orders {
+            assert_eq!(rt; machine.time_of(*order), micros);
+        }
+    }
+}
+
+#[test]
+fn standard_registers(rt: HostRuntime) {
+    let machine = Machine::standard();
+    let inputs = [0o2001, 0o2002, 0o2004, 0o2010, 0o2020, 0o2040, 0o2200];
+    let outputs = [0o6001, 0o6002, 0o6004, 0o6010, 0o6020, 0o6040, 0o6200];
+    assert_eq!(rt; machine.ports.inputs().len(), 7);
+    assert_eq!(rt; machine.ports.outputs().len(), 7);
+    for (place, address) in inputs.into_iter().enumerate() {
+        assert_eq!(rt; machine.ports.find_input(address), Some(place));
+        assert_eq!(rt; machine.ports.find_output(address), None);
+    }
+    for (place, address) in outputs.into_iter().enumerate() {
+        assert_eq!(rt; machine.ports.find_output(address), Some(place));
+        assert_eq!(rt; machine.ports.find_input(address), None);
+    }
+    for port in machine.ports.inputs() {
+        assert_eq!(rt; port.once, port.address == 0o2200);
+    }
+    let last = machine.ports.find_input(0o2200);
+    if let Some(place) = last {
+        assert!(rt; machine.ports.is_once(place));
+    }
+    assert_eq!(rt; machine.codes, Codes::standard());
+    assert_eq!(rt; machine.times.table()[9], 73);
+    assert_eq!(rt; machine.deda_in, 0o2200);
+    assert_eq!(rt; machine.deda_out, 0o6200);
+}
+
+#[test]
+fn ends_of_tables(rt: HostRuntime) {
+    let mut many = [held(0); 33];
+    for (place, port) in many.iter_mut().enumerate() {
+        port.address = place as u16;
+    }
+    assert!(rt; Ports::of(&many[..32], &many[1..]).is_some());
+    assert!(rt; Ports::of(&many, &[]).is_none());
+    assert!(rt; Ports::of(&[], &many).is_none());
+    assert!(rt; Ports::of(&[held(0), held(4095)], &[held(4095), held(0)]).is_some());
+    assert!(rt; Ports::of(&[held(4096)], &[]).is_none());
+    assert!(rt; Ports::of(&[], &[held(5), held(4096)]).is_none());
+    assert!(rt; Ports::of(&[held(5), held(6), held(5)], &[]).is_none());
+    assert!(rt; Ports::of(&[], &[held(6), held(6)]).is_none());
+
+    let mut times = [1; 27];
+    times[26] = 1000;
+    assert_eq!(rt;
+        Times::of(&times).map(|table| table.time_of(Order::Tsq)),
+        Some(1000)
+    );
+    times[26] = 1001;
+    assert_eq!(rt; Times::of(&times), None);
+    times[26] = 0;
+    assert_eq!(rt; Times::of(&times), None);
+}
