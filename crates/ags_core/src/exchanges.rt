@@ -1,0 +1,81 @@
+//! The orders that take from an input register and give to an output register.
+
+ghost use Rattle.std.specs.Prelude.{◌≡◌, ◌<◌, IfSome, length};
+ghost use Rattle.ags_isa.specs.declared.orders.Order.TheVariants.{Inp, Out};
+ghost use Rattle.ags_ports.specs.Port.{place_of, read_at, set_at, word_at};
+ghost use Rattle.ags_ports.specs.Effect.{effect};
+ghost use Rattle.ags_core.specs.Told.{Does};
+
+use crate::cores::Core;
+use crate::told::Told;
+use ags_ports::{Machine, Stored};
+use ags_word::Word;
+
+impl Core {
+    /// INP: A becomes the word of the input register at an address.
+    pub(crate) fn inp(&mut self, machine: &Machine, y: u16) -> Told
+        requires { length self.old.inputs ≡ length machine.now.ports.inputs }
+        ensures { Does (effect machine.now self.old Inp y y) self.new result }
+    {
+        let place = machine.ports.find_input(y);
+        self.a = self.word_at(place);
+        self.read(machine, place);
+        self.move_on();
+        Told {
+            took: Some(y),
+            ..Told::of(false)
+        }
+    }
+
+    /// OUT: the output register at an address becomes A.
+    pub(crate) fn out(&mut self, machine: &Machine, y: u16) -> Told
+        requires { length self.old.outputs ≡ length machine.now.ports.outputs }
+        ensures { Does (effect machine.now self.old Out y y) self.new result }
+    {
+        let word = self.a();
+        if let Some(place) = machine.ports.find_output(y) {
+            self.outputs[place] = word;
+        }
+        self.move_on();
+        Told {
+            gave: Some(Stored { address: y, word }),
+            ..Told::of(false)
+        }
+    }
+
+    /// The word of the input register at a place, and 0 where there is none.
+    fn word_at(&self, place: Option<usize>) -> Word
+        requires { IfSome place (λ place. place < length self.now.inputs) }
+        ensures { result ≡ word_at self.now.inputs place }
+    {
+        match place {
+            Some(place) => self.inputs[place],
+            None => Word::ZERO,
+        }
+    }
+
+    /// Clears the input register at a place, if it holds its word once.
+    fn read(&mut self, machine: &Machine, place: Option<usize>)
+        requires place { IfSome place (λ place. place < length machine.now.ports.inputs) }
+        requires inputs { length self.old.inputs ≡ length machine.now.ports.inputs }
+        ensures { self.new ≡ record self.old { inputs = read_at machine.now.ports.inputs self.old.inputs place } }
+    {
+        if let Some(place) = place {
+            if machine.ports.is_once(place) {
+                self.inputs[place] = Word::ZERO;
+            }
+        }
+    }
+
+    /// Sets the input register at an address, if there is one.
+    pub(crate) fn put(&mut self, machine: &Machine, address: u16, word: Word)
+        requires { length self.old.inputs ≡ length machine.now.ports.inputs }
+        ensures { self.new ≡ record self.old {
+          inputs = set_at self.old.inputs (place_of machine.now.ports.inputs address) word;
+        } }
+    {
+        if let Some(place) = machine.ports.find_input(address) {
+            self.inputs[place] = word;
+        }
+    }
+}

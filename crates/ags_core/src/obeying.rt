@@ -1,0 +1,95 @@
+//! One order: the address that it acts on, and what it does.
+
+ghost use Rattle.std.specs.Prelude.{◌≡◌, ◌<◌, length};
+ghost use Rattle.ags_ports.specs.Effect.{counts_index, effect, effective};
+ghost use Rattle.ags_core.specs.Told.{Does};
+
+use crate::cores::Core;
+use crate::told::Told;
+use ags_isa::{Decoded, Order};
+use ags_ports::Machine;
+
+impl Core {
+    /// Does what an order does.
+    pub(crate) fn obey(&mut self, machine: &Machine, decoded: Decoded) -> Told
+        requires address { decoded.address < 4096 }
+        requires inputs { length self.old.inputs ≡ length machine.now.ports.inputs }
+        requires outputs { length self.old.outputs ≡ length machine.now.ports.outputs }
+        ensures { Does (effect machine.now self.old decoded.order
+            (effective self.old decoded.order decoded.indexed decoded.address) decoded.address) self.new result }
+    {
+        let e = self.effective(decoded);
+        self.do_order(machine, decoded.order, e, decoded.address)
+    }
+
+    /// Does what an order does at an address y, where it acts on an address e.
+    fn do_order(&mut self, machine: &Machine, order: Order, e: u16, y: u16) -> Told
+        requires acts_on { e < 4096 }
+        requires address { y < 4096 }
+        requires inputs { length self.old.inputs ≡ length machine.now.ports.inputs }
+        requires outputs { length self.old.outputs ≡ length machine.now.ports.outputs }
+        ensures { Does (effect machine.now self.old order e y) self.new result }
+    {
+        match order {
+            Order::Abs => self.abs(),
+            Order::Add => self.add(e),
+            Order::Adz => self.adz(e),
+            Order::Als => self.als(y),
+            Order::Axt => self.axt(y),
+            Order::Cla => self.cla(e),
+            Order::Clz => self.clz(e),
+            Order::Com => self.com(),
+            Order::Dly => self.dly(y),
+            Order::Dvp => self.dvp(e),
+            Order::Inp => self.inp(machine, y),
+            Order::Ldq => self.ldq(e),
+            Order::Lls => self.lls(y),
+            Order::Lrs => self.lrs(y),
+            Order::Mpr => self.mpr(e),
+            Order::Mpy => self.mpy(e),
+            Order::Mpz => self.mpz(e),
+            Order::Out => self.out(machine, y),
+            Order::Sto => self.sto(e),
+            Order::Stq => self.stq(e),
+            Order::Sub => self.sub(e),
+            Order::Suz => self.suz(e),
+            Order::Tix => self.tix(y),
+            Order::Tmi => self.tmi(e),
+            Order::Tov => self.tov(e),
+            Order::Tra => self.tra(e),
+            Order::Tsq => self.tsq(machine, e),
+        }
+    }
+
+    /// The address that an order acts on.
+    fn effective(&self, decoded: Decoded) -> u16
+        requires { decoded.address < 4096 }
+        ensures address { result ≡ effective self.now decoded.order decoded.indexed decoded.address }
+        ensures below { result < 4096 }
+    {
+        if decoded.indexed && counts_index(decoded.order) {
+            self.with_index(decoded.address)
+        } else {
+            decoded.address
+        }
+    }
+}
+
+/// Whether the index bit counts in an order.
+fn counts_index(order: Order) -> bool
+    ensures { result ≡ counts_index order }
+{
+    match order {
+        Order::Tix
+        | Order::Axt
+        | Order::Als
+        | Order::Lls
+        | Order::Lrs
+        | Order::Com
+        | Order::Abs
+        | Order::Inp
+        | Order::Out
+        | Order::Dly => false,
+        _ => true,
+    }
+}

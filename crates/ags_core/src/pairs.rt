@@ -1,0 +1,101 @@
+//! The orders that multiply and divide, and those that shift the pair of A and Q.
+
+ghost use Rattle.std.specs.Prelude.{◌≡◌, ◌<◌, ◌%◌, ◌^◌, false, not, pos, ◌*ℤ◌};
+ghost use Rattle.ags_word.specs.Word.{val};
+ghost use Rattle.ags_word.specs.Long.{long, shifted_right, fits_long, wrap_long, divided};
+ghost use Rattle.ags_ports.specs.State.{cell, next_location};
+ghost use Rattle.ags_ports.specs.Effect.{divides, overflowing, rounds_product, sets_pair, then_clears};
+ghost use Rattle.ags_core.specs.Told.{Does};
+
+use crate::cores::Core;
+use crate::told::Told;
+use ags_word::{Long, Word};
+
+impl Core {
+    /// MPY: the pair becomes the product with the cell.
+    pub(crate) fn mpy(&mut self, e: u16) -> Told
+        requires { e < 4096 }
+        ensures { let product = val self.old.a *ℤ val (cell self.old e) in
+            Does (sets_pair self.old product (not (fits_long product))) self.new result }
+    {
+        let (a, q, over) = self.a().multiply(self.cell(e));
+        self.set_pair(a, q, over)
+    }
+
+    /// MPR: A becomes the rounded product with the cell, and Q that of the whole product.
+    pub(crate) fn mpr(&mut self, e: u16) -> Told
+        requires { e < 4096 }
+        ensures { Does (rounds_product self.old (cell self.old e)) self.new result }
+    {
+        let (a, q, over) = self.a().multiply_round(self.cell(e));
+        self.set_pair(a, q, over)
+    }
+
+    /// MPZ: as MPR, and then the cell is cleared.
+    pub(crate) fn mpz(&mut self, e: u16) -> Told
+        requires { e < 4096 }
+        ensures { Does (then_clears (rounds_product self.old (cell self.old e)) e) self.new result }
+    {
+        let told = self.mpr(e);
+        self.store(e, Word::ZERO);
+        Told::of_store(told.overflow, e, Word::ZERO)
+    }
+
+    /// DVP: A becomes the quotient by the cell, if there is one.
+    pub(crate) fn dvp(&mut self, e: u16) -> Told
+        requires { e < 4096 }
+        ensures { Does (divides self.old (divided (long self.old.a self.old.q) (cell self.old e))) self.new result }
+    {
+        let quotient = self.pair().divide(self.cell(e));
+        self.set_quotient(quotient)
+    }
+
+    /// LRS: the pair is shifted right.
+    pub(crate) fn lrs(&mut self, y: u16) -> Told
+        ensures { Does (sets_pair self.old (shifted_right (long self.old.a self.old.q) (y % 64)) false) self.new result }
+    {
+        let (a, q) = self.pair().lrs(u32::from(y % 64)).split();
+        self.set_pair(a, q, false)
+    }
+
+    /// LLS: the pair is shifted left.
+    pub(crate) fn lls(&mut self, y: u16) -> Told
+        ensures { let shifted = long self.old.a self.old.q *ℤ pos (2 ^ (y % 64)) in
+            Does (sets_pair self.old (wrap_long shifted) (not (fits_long shifted))) self.new result }
+    {
+        let (shifted, over) = self.pair().lls(u32::from(y % 64));
+        let (a, q) = shifted.split();
+        self.set_pair(a, q, over)
+    }
+
+    /// The number that A and Q stand for.
+    fn pair(&self) -> Long
+        ensures { result ≡ long self.now.a self.now.q }
+    {
+        Long::of(self.a, self.q)
+    }
+
+    /// Sets A and Q, and the indicator where the order overflowed.
+    fn set_pair(&mut self, a: Word, q: Word, over: bool) -> Told
+        ensures { Does (overflowing over (record self.old { a = a; q = q; location = next_location self.old })) self.new result }
+    {
+        self.a = a;
+        self.q = q;
+        self.move_on();
+        self.overflow(over)
+    }
+
+    /// Sets A to a quotient; where there is none, the order overflows.
+    fn set_quotient(&mut self, quotient: Option<Word>) -> Told
+        ensures { Does (divides self.old quotient) self.new result }
+    {
+        self.move_on();
+        match quotient {
+            Some(word) => {
+                self.a = word;
+                Told::of(false)
+            }
+            None => self.overflow(true),
+        }
+    }
+}

@@ -1,0 +1,84 @@
+//! The orders that compute A alone.
+
+ghost use Rattle.std.specs.Prelude.{◌<◌, ◌%◌, ◌^◌, pos, ◌*ℤ◌, neg_ℤ, unsigned_abs};
+ghost use Rattle.ags_word.specs.Word.{val};
+ghost use Rattle.ags_ports.specs.State.{cell, next_location};
+ghost use Rattle.ags_ports.specs.Effect.{adds, computes, overflowing, subtracts, then_clears};
+ghost use Rattle.ags_core.specs.Told.{Does};
+
+use crate::cores::Core;
+use crate::told::Told;
+use ags_word::Word;
+
+impl Core {
+    /// ADD: the sum with the cell.
+    pub(crate) fn add(&mut self, e: u16) -> Told
+        requires { e < 4096 }
+        ensures { Does (adds self.old (cell self.old e)) self.new result }
+    {
+        let (word, over) = self.a().add(self.cell(e));
+        self.set_a(word, over)
+    }
+
+    /// SUB: the difference from the cell.
+    pub(crate) fn sub(&mut self, e: u16) -> Told
+        requires { e < 4096 }
+        ensures { Does (subtracts self.old (cell self.old e)) self.new result }
+    {
+        let (word, over) = self.a().sub(self.cell(e));
+        self.set_a(word, over)
+    }
+
+    /// ADZ: as ADD, and then the cell is cleared.
+    pub(crate) fn adz(&mut self, e: u16) -> Told
+        requires { e < 4096 }
+        ensures { Does (then_clears (adds self.old (cell self.old e)) e) self.new result }
+    {
+        let told = self.add(e);
+        self.store(e, Word::ZERO);
+        Told::of_store(told.overflow, e, Word::ZERO)
+    }
+
+    /// SUZ: as SUB, and then the cell is cleared.
+    pub(crate) fn suz(&mut self, e: u16) -> Told
+        requires { e < 4096 }
+        ensures { Does (then_clears (subtracts self.old (cell self.old e)) e) self.new result }
+    {
+        let told = self.sub(e);
+        self.store(e, Word::ZERO);
+        Told::of_store(told.overflow, e, Word::ZERO)
+    }
+
+    /// COM: the negative.
+    pub(crate) fn com(&mut self) -> Told
+        ensures { Does (computes self.old (neg_ℤ (val self.old.a))) self.new result }
+    {
+        let (word, over) = self.a().com();
+        self.set_a(word, over)
+    }
+
+    /// ABS: the absolute value.
+    pub(crate) fn abs(&mut self) -> Told
+        ensures { Does (computes self.old (pos (unsigned_abs (val self.old.a)))) self.new result }
+    {
+        let (word, over) = self.a().abs();
+        self.set_a(word, over)
+    }
+
+    /// ALS: the left shift.
+    pub(crate) fn als(&mut self, y: u16) -> Told
+        ensures { Does (computes self.old (val self.old.a *ℤ pos (2 ^ (y % 64)))) self.new result }
+    {
+        let (word, over) = self.a().als(u32::from(y % 64));
+        self.set_a(word, over)
+    }
+
+    /// Sets A, and the indicator where the order overflowed.
+    fn set_a(&mut self, word: Word, over: bool) -> Told
+        ensures { Does (overflowing over (record self.old { a = word; location = next_location self.old })) self.new result }
+    {
+        self.a = word;
+        self.move_on();
+        self.overflow(over)
+    }
+}
