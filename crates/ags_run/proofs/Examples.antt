@@ -1,0 +1,51 @@
+-- Worked values of the definitions that the contracts cite.
+use Rattle.std.proofs.Common.{◌≡◌, [], ◌∷◌, refl}
+use Rattle.std.specs.Prelude.{true, false, codes, count_by}
+use Rattle.ags_text.specs.Numeral.{numeral}
+use Rattle.ags_ports.specs.declared.events.Event.TheVariants as event
+use Rattle.ags_ports.specs.declared.events.Phase.TheVariants.{Running, Halted}
+use Rattle.ags_ports.specs.declared.machines.Machine.{Machine}
+use Rattle.ags_ports.specs.State.{State}
+use Rattle.ags_run.specs.declared.plain.Plain.TheVariants.{Step, Set, ShowReg}
+use Rattle.ags_run.specs.Shown.{reg_text, cell_text, output_text}
+use Rattle.ags_run.specs.Played.{Makes, is_step, is_put}
+
+-- the registers after a sum that overflowed, and in a halt
+overflowed : reg_text (record { a = 0o400000; q = 0; index = 0; indicator = true; location = 0o4002; phase = Running; cells = []; inputs = []; outputs = [] })
+    ≡ codes "A 400000 Q 000000 X 0 V 1 P 4002 R"
+unfolding reg_text numeral
+overflowed = refl
+
+halted : reg_text (record { a = 0o012345; q = 0o642001; index = 5; indicator = false; location = 0o4004; phase = Halted; cells = []; inputs = []; outputs = [] })
+    ≡ codes "A 012345 Q 642001 X 5 V 0 P 4004 H"
+unfolding reg_text numeral
+halted = refl
+
+-- a cell and an output register
+cell_shown : cell_text 0o4010 0o377777 ≡ codes "CELL 4010 377777"
+unfolding cell_text numeral
+cell_shown = refl
+
+output_shown : output_text 0o6001 0o012345 ≡ codes "OUT 6001 012345"
+unfolding output_text numeral
+output_shown = refl
+
+-- two steps, and none
+two_steps : (machine : Machine) (s : State) → Makes machine s (Step 2) (event.Step ∷ event.Step ∷ [])
+two_steps machine s = refl
+
+no_step : (machine : Machine) (s : State) → Makes machine s (Step 0) []
+no_step machine s = refl
+
+-- a word that is put is no step, and what is shown is no event
+put : (machine : Machine) (s : State) → Makes machine s (Set 0o2001 7) (event.Put 0o2001 7 ∷ [])
+put machine s = refl
+
+nothing_happens : (machine : Machine) (s : State) → Makes machine s ShowReg []
+nothing_happens machine s = refl
+
+counted_steps : count_by is_step (event.Step ∷ event.Pulse ∷ event.Step ∷ event.Put 0o2001 7 ∷ []) ≡ 2
+counted_steps = refl
+
+counted_puts : count_by is_put (event.Step ∷ event.Pulse ∷ event.Step ∷ event.Put 0o2001 7 ∷ []) ≡ 1
+counted_puts = refl

@@ -1,0 +1,8 @@
+pub mod FieldLemmas
+pub mod NumberLemmas
+pub mod ReadingExists
+pub mod ReadingLemmas
+pub mod ScriptLemmas
+pub mod PlayLemmas
+pub mod PlayingLemmas
+mod Examples

@@ -1,0 +1,250 @@
+-- The lines of a script, one further, and what a script that was read keeps.
+use Rattle.std.proofs.Common.{◌≡◌, ℕ, ◌+◌, ◌≤◌, List, [], ◌∷◌, ◌++◌, length, Option, Some, None, refl, sym, ap, ◌∙◌, append_assoc, inl, inr, arith}
+use Rattle.std.specs.Prelude.{All, sum_by}
+use Rattle.std.specs.List.{filter_map}
+use Rattle.std.proofs.lemmas.Bool.{cases_lt, lt-ltb}
+use Rattle.std.proofs.lemmas.List.{append-nil}
+use Rattle.std.proofs.lemmas.List.Elements.{All-append, All-push}
+use Rattle.std.proofs.lemmas.List.Sums.{sum_by-append, sum_by-cons}
+use Rattle.std.specs.Prelude.{Result, Ok, Err, IfOk, IfErr, IsOkAnd, IsErrOf, Vec, ◌⊎◌}
+use Rattle.std.specs.Global.{Global}
+use Rattle.ags_text.specs.Fault.{first_fault, first_fault-nil, first_fault-faulty, first_fault-faultless}
+use Rattle.ags_text.specs.Line.{LineAt, Follow, lines_of}
+use Rattle.ags_ports.specs.declared.machines.Machine.{Machine}
+use Rattle.ags_run.specs.declared.plain.Plain.{Plain}
+use Rattle.ags_run.specs.declared.plain.Plain.TheVariants.{Step, Pulse, Set, ShowReg, ShowCell, ShowOut}
+use Rattle.ags_run.specs.declared.reading.LineReading.{LineReading}
+use Rattle.ags_run.specs.declared.reading.LineReading.TheVariants.{Command, Skipped, Formless}
+use Rattle.ags_run.specs.declared.script_error.ScriptKind.{ScriptKind}
+use Rattle.ags_run.specs.declared.script_error.ScriptFault.{ScriptFault}
+use Rattle.ags_run.specs.declared.script_error.ScriptError.{ScriptError}
+use Rattle.ags_run.specs.declared.script_error.ScriptError.TheVariants.{At, NoMemory}
+use Rattle.ags_run.specs.For.{SuitsMachine, step_count, IsFor}
+use Rattle.ags_run.specs.Spelling.{Spells}
+use Rattle.ags_run.specs.Reading.{IsReading, AreReadings, command_of, reading_steps}
+use Rattle.ags_run.specs.Script.{port_fault, command_fault, fault_after, line_fault, IsScript, IsFaultyScript, IsRefused}
+use Rattle.ags_run.proofs.NumberLemmas.{small_address}
+use Rattle.ags_run.proofs.ReadingExists.{readings_exist, one_readings}
+
+-- ---- a command without a fault
+
+-- there is a register
+port_found : (found : Option ℕ) → port_fault found ≡ None → (place : ℕ) × (found ≡ Some place)
+port_found None fault = absurd cc
+port_found (Some place) fault = (place, refl)
+
+-- it suits the machine
+command_suits : (machine : Machine) (line : List ℕ) (steps : ℕ) (command : Plain) → Spells line command → command_fault machine steps command ≡ None → SuitsMachine machine command
+command_suits machine line steps (Step count) spells fault = tt
+command_suits machine line steps Pulse spells fault = tt
+command_suits machine line steps (Set address word) spells fault = port_found _ fault
+command_suits machine line steps ShowReg spells fault = tt
+command_suits machine line steps (ShowCell address) spells fault = small_address spells.states.0 address spells.states.1
+command_suits machine line steps (ShowOut address) spells fault = (small_address spells.states.0 address spells.states.1, port_found _ fault)
+
+-- and with it the steps are not too many
+command_steps : (machine : Machine) (steps : ℕ) (command : Plain) → steps ≤ 100000000 → command_fault machine steps command ≡ None → steps + step_count command ≤ 100000000
+command_steps machine steps (Step count) most fault =
+    elim (cases_lt 100000000 (steps + count)) [
+      | inl lt ↦ absurd (let over = rw (lt-ltb _ _ lt) at fault in cc)
+      | inr le ↦ le
+    ]
+command_steps machine steps Pulse most fault = omega arith
+command_steps machine steps (Set address word) most fault = omega arith
+command_steps machine steps ShowReg most fault = omega arith
+command_steps machine steps (ShowCell address) most fault = omega arith
+command_steps machine steps (ShowOut address) most fault = omega arith
+
+reading_most : (machine : Machine) (steps : ℕ) (reading : LineReading) → steps ≤ 100000000 → fault_after machine steps reading ≡ None → steps + reading_steps reading ≤ 100000000
+reading_most machine steps (Command command) most fault = command_steps machine steps command most fault
+reading_most machine steps Skipped most fault = omega arith
+reading_most machine steps Formless most fault = omega arith
+
+-- ---- what a line adds to the commands
+
+abbrev pub kept : Option Plain → List Plain
+kept None = []
+kept (Some command) = command ∷ []
+
+no_commands : (machine : Machine) → All (SuitsMachine machine) []
+no_commands machine k d lt = absurd (omega arith)
+
+kept_suits : (machine : Machine) (line : List ℕ) (steps : ℕ) (reading : LineReading) → IsReading line reading → fault_after machine steps reading ≡ None → All (SuitsMachine machine) (kept (command_of reading))
+kept_suits machine line steps (Command command) is fault = All-push (SuitsMachine machine) [] command (no_commands machine) (command_suits machine line steps command is fault)
+kept_suits machine line steps Skipped is fault = no_commands machine
+kept_suits machine line steps Formless is fault = no_commands machine
+
+kept_steps : (reading : LineReading) → sum_by step_count (kept (command_of reading)) ≡ reading_steps reading
+kept_steps (Command command) = sum_by-cons step_count command [] ∙ omega arith
+kept_steps Skipped = refl
+kept_steps Formless = refl
+
+commands-push : (readings : List LineReading) (reading : LineReading) → filter_map command_of (readings ++ reading ∷ []) ≡ filter_map command_of readings ++ kept (command_of reading)
+commands-push [] (Command command) = refl
+commands-push [] Skipped = refl
+commands-push [] Formless = refl
+commands-push (Command command ∷ readings) reading = ap (λ (rest : List Plain). command ∷ rest) (commands-push readings reading)
+commands-push (Skipped ∷ readings) reading = commands-push readings reading
+commands-push (Formless ∷ readings) reading = commands-push readings reading
+
+AreReadings-push : (lines : List LineAt) (readings : List LineReading) (line : LineAt) (reading : LineReading) → AreReadings lines readings → IsReading line.bytes reading
+    → AreReadings (lines ++ line ∷ []) (readings ++ reading ∷ [])
+AreReadings-push [] [] line reading are is = (is, tt)
+AreReadings-push [] (one ∷ readings) line reading are is = absurd are
+AreReadings-push (first ∷ lines) [] line reading are is = absurd are
+AreReadings-push (first ∷ lines) (one ∷ readings) line reading are is = (are.0, AreReadings-push lines readings line reading are.1 is)
+
+AreReadings-append : (lines more : List LineAt) (readings others : List LineReading) → AreReadings lines readings → AreReadings more others → AreReadings (lines ++ more) (readings ++ others)
+AreReadings-append [] more [] others are rest = rest
+AreReadings-append [] more (one ∷ readings) others are rest = absurd are
+AreReadings-append (first ∷ lines) more [] others are rest = absurd are
+AreReadings-append (first ∷ lines) more (one ∷ readings) others are rest = (are.0, AreReadings-append lines more readings others are.1 rest)
+
+-- ---- the loop over the lines
+
+-- Of a text's lines, so many are read without a fault, with these commands and so many steps, and these are left.
+pub record SoFar (machine : Machine) (text : List ℕ) (left : List LineAt) (commands : List Plain) (number steps : ℕ) : Type 0 where
+  pub front : List LineAt
+  pub readings : List LineReading
+  pub before : List LineReading
+  pub whole : lines_of text ≡ front ++ left
+  pub are : AreReadings front readings
+  pub on : (rest : List LineReading) → first_fault (line_fault machine) [] (readings ++ rest) ≡ first_fault (line_fault machine) before rest
+  pub steps_are : steps ≡ sum_by reading_steps before
+  pub most : steps ≤ 100000000
+  pub commands_are : commands ≡ filter_map command_of readings
+  pub suits : All (SuitsMachine machine) commands
+  pub commands_steps : sum_by step_count commands ≡ steps
+  pub so_many : number ≡ length before
+  pub from : ℕ
+  pub few : number ≤ from
+  pub short : from ≤ length text + 1
+  pub follow : Follow text from left
+
+pub SoFar-none : (machine : Machine) (text : List ℕ) → Follow text 0 (lines_of text) → SoFar machine text (lines_of text) [] 0 0
+SoFar-none machine text follow = record {
+  front = [];
+  readings = [];
+  before = [];
+  whole = refl;
+  are = tt;
+  on = λ rest. refl;
+  steps_are = refl;
+  most = omega arith;
+  commands_are = refl;
+  suits = no_commands machine;
+  commands_steps = refl;
+  so_many = refl;
+  from = 0;
+  few = omega arith;
+  short = omega arith;
+  follow = follow;
+}
+
+-- where a line is left, its number is small
+pub SoFar-small : (machine : Machine) (text : List ℕ) (left : List LineAt) (commands : List Plain) (number steps : ℕ) → SoFar machine text left commands number steps → number ≤ length text + 1
+SoFar-small machine text left commands number steps so = omega (arith, so.few, so.short)
+
+-- the next line is read
+pub SoFar-more : (machine : Machine) (text : List ℕ) (left : List LineAt) (commands : List Plain) (number steps now : ℕ) (line : LineAt) (reading : LineReading)
+    → SoFar machine text (line ∷ left) commands number steps → IsReading line.bytes reading → fault_after machine steps reading ≡ None → now ≡ steps + reading_steps reading
+    → SoFar machine text left (commands ++ kept (command_of reading)) (number + 1) now
+SoFar-more machine text left commands number steps now line reading so is fault now_is =
+    let here : line_fault machine so.before reading ≡ None = rw (← so.steps_are) fault in
+    record {
+      front = so.front ++ line ∷ [];
+      readings = so.readings ++ reading ∷ [];
+      before = reading ∷ so.before;
+      whole = so.whole ∙ sym (append_assoc so.front (line ∷ []) left);
+      are = AreReadings-push so.front so.readings line reading so.are is;
+      on = λ rest. rw append_assoc (so.on (reading ∷ rest) ∙ first_fault-faultless (line_fault machine) so.before reading rest here);
+      steps_are = omega (arith, now_is, so.steps_are, sum_by-cons reading_steps reading so.before);
+      most = rw (now_is) (reading_most machine steps reading so.most fault);
+      commands_are = rw (commands-push, so.commands_are) refl;
+      suits = All-append (SuitsMachine machine) commands (kept (command_of reading)) so.suits (kept_suits machine line.bytes steps reading is fault);
+      commands_steps = omega (arith, now_is, so.commands_steps, sum_by-append step_count commands (kept (command_of reading)), kept_steps reading);
+      so_many = omega (arith, so.so_many);
+      from = line.start + length line.bytes + 1;
+      few = omega (arith, so.few, so.follow.0);
+      short = omega (arith, so.follow.1.within);
+      follow = so.follow.2;
+    }
+
+-- it has a command, or none
+pub SoFar-command : (machine : Machine) (text : List ℕ) (left : List LineAt) (commands : List Plain) (number steps now : ℕ) (line : LineAt) (reading : LineReading) (command : Plain)
+    → SoFar machine text (line ∷ left) commands number steps → IsReading line.bytes reading → fault_after machine steps reading ≡ None → Some command ≡ command_of reading
+    → now ≡ steps + reading_steps reading → SoFar machine text left (commands ++ command ∷ []) (number + 1) now
+SoFar-command machine text left commands number steps now line reading command so is fault has now_is =
+    rw (← has) at (SoFar-more machine text left commands number steps now line reading so is fault now_is)
+
+pub SoFar-skip : (machine : Machine) (text : List ℕ) (left : List LineAt) (commands : List Plain) (number steps now : ℕ) (line : LineAt) (reading : LineReading)
+    → SoFar machine text (line ∷ left) commands number steps → IsReading line.bytes reading → fault_after machine steps reading ≡ None → None ≡ command_of reading
+    → now ≡ steps + reading_steps reading → SoFar machine text left commands (number + 1) now
+SoFar-skip machine text left commands number steps now line reading so is fault has now_is =
+    let more : SoFar machine text left (commands ++ []) (number + 1) now = rw (← has) at (SoFar-more machine text left commands number steps now line reading so is fault now_is) in
+    rw (append-nil commands) at more
+
+-- the next line is at fault, and those behind it have readings too
+pub SoFar-fault : (machine : Machine) (text : List ℕ) (left : List LineAt) (commands : List Plain) (number steps : ℕ) (line : LineAt) (reading : LineReading) (kind : ScriptKind)
+    → SoFar machine text (line ∷ left) commands number steps → IsReading line.bytes reading → fault_after machine steps reading ≡ Some kind
+    → IsFaultyScript machine text (record { line = number + 1; kind = kind })
+SoFar-fault machine text left commands number steps line reading kind so is fault =
+    let here : line_fault machine so.before reading ≡ Some kind = rw (← so.steps_are) fault in
+    let rest = readings_exist left in
+    record {
+      readings = so.readings ++ reading ∷ rest.0;
+      are_readings = rw so.whole (AreReadings-append so.front (line ∷ left) so.readings (reading ∷ rest.0) so.are (is, rest.1));
+      first = so.on (reading ∷ rest.0) ∙ rw so.so_many (first_fault-faulty (line_fault machine) so.before reading rest.0 kind here);
+    }
+
+-- all lines are read
+pub SoFar-all : (machine : Machine) (text : List ℕ) (commands : List Plain) (number steps : ℕ) → SoFar machine text [] commands number steps → IsScript machine text commands
+SoFar-all machine text commands number steps so =
+    let all : lines_of text ≡ so.front = so.whole ∙ append-nil so.front in
+    record {
+      readings = so.readings;
+      are_readings = rw all so.are;
+      faultless = sym (ap (first_fault (line_fault machine) []) (append-nil so.readings)) ∙ so.on [] ∙ first_fault-nil (line_fault machine) so.before;
+      commands_are = so.commands_are;
+    }
+
+pub SoFar-suits : (machine : Machine) (text : List ℕ) (left : List LineAt) (commands : List Plain) (number steps : ℕ) → SoFar machine text left commands number steps → IsFor machine commands
+SoFar-suits machine text left commands number steps so = record { each = so.suits; steps = omega (arith, so.commands_steps, so.most) }
+
+-- ---- a text is read one way
+
+pub one_script : (machine : Machine) (text : List ℕ) (one other : List Plain) → IsScript machine text one → IsScript machine text other → one ≡ other
+one_script machine text one other first second =
+    let same = one_readings (lines_of text) first.readings second.readings first.are_readings second.are_readings in
+    first.commands_are ∙ ap (λ (readings : List LineReading). filter_map command_of readings) same ∙ sym second.commands_are
+
+pub not_faulty : (machine : Machine) (text : List ℕ) (commands : List Plain) (fault : ScriptFault) → IsScript machine text commands → IsFaultyScript machine text fault → ⊥
+not_faulty machine text commands fault script faulty =
+    let same = one_readings (lines_of text) script.readings faulty.readings script.are_readings faulty.are_readings in
+    let none : first_fault (line_fault machine) [] script.readings ≡ Some (fault.line, fault.kind) = ap (λ (readings : List LineReading). first_fault (line_fault machine) [] readings) same ∙ faulty.first in
+    let clash : ◌≡◌ {A = Option (ℕ × ScriptKind)} None (Some (fault.line, fault.kind)) = sym script.faultless ∙ none in
+    absurd cc
+
+same_fault : (one other : ScriptFault) → ◌≡◌ {A = Option (ℕ × ScriptKind)} (Some (one.line, one.kind)) (Some (other.line, other.kind)) → one ≡ other
+same_fault one other same =
+    let pairs : (one.line, one.kind) ≡ (other.line, other.kind) = cc in
+    ap (λ (p : ℕ × ScriptKind). record { line = p.0; kind = p.1 }) pairs
+
+pub one_fault : (machine : Machine) (text : List ℕ) (one other : ScriptFault) → IsFaultyScript machine text one → IsFaultyScript machine text other → one ≡ other
+one_fault machine text one other first second =
+    let same = one_readings (lines_of text) first.readings second.readings first.are_readings second.are_readings in
+    same_fault one other (sym first.first ∙ ap (λ (readings : List LineReading). first_fault (line_fault machine) [] readings) same ∙ second.first)
+
+-- ---- what the reading of a script answers
+
+pub faultless_exactly : (machine : Machine) (text : List ℕ) (result : Result (Vec Plain Global) ScriptError) → IfOk result (λ read. IsScript machine text read.items) → IfErr result (IsRefused machine text)
+    → (commands : List Plain) → IsScript machine text commands → (IsOkAnd result (λ read. read.items ≡ commands)) ⊎ (IsErrOf result NoMemory)
+faultless_exactly machine text (Ok read) is refused commands script = inl (one_script machine text read.items commands is script)
+faultless_exactly machine text (Err (At fault)) is refused commands script = absurd (not_faulty machine text commands fault script refused)
+faultless_exactly machine text (Err NoMemory) is refused commands script = inr refl
+
+pub faulty_exactly : (machine : Machine) (text : List ℕ) (result : Result (Vec Plain Global) ScriptError) → IfOk result (λ read. IsScript machine text read.items) → IfErr result (IsRefused machine text)
+    → (fault : ScriptFault) → IsFaultyScript machine text fault → (IsErrOf result (At fault)) ⊎ (IsErrOf result NoMemory)
+faulty_exactly machine text (Ok read) is refused fault faulty = absurd (not_faulty machine text read.items fault is faulty)
+faulty_exactly machine text (Err (At other)) is refused fault faulty = inl (ap (λ (f : ScriptFault). Err (At f)) (one_fault machine text other fault refused faulty))
+faulty_exactly machine text (Err NoMemory) is refused fault faulty = inr refl

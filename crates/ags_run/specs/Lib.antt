@@ -1,0 +1,9 @@
+pub mod FaultText
+pub mod Field
+pub mod For
+pub mod Reading
+pub mod Script
+pub mod Spelling
+pub mod Shown
+pub mod Made
+pub mod Played

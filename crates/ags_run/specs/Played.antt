@@ -1,0 +1,67 @@
+-- What playing commands makes of the machine: one list of events, and the text that is printed.
+use Rattle.std.specs.Prelude.{◌≡◌, ℕ, Bool, true, false, List, [], ◌∷◌, ◌++◌, replicate, count_by, codes, Option}
+use Rattle.ags_ports.specs.declared.events.Event.{Event}
+use Rattle.ags_ports.specs.declared.events.Event.TheVariants as event
+use Rattle.ags_ports.specs.declared.machines.Machine.{Machine}
+use Rattle.ags_ports.specs.Port.{place_of, word_at}
+use Rattle.ags_ports.specs.State.{State, cell}
+use Rattle.ags_ports.specs.Run.{Moment, Run, last_state}
+use Rattle.ags_outside.specs.Sink.{appended, WroteFront}
+use Rattle.ags_run.specs.declared.plain.Plain.{Plain}
+use Rattle.ags_run.specs.declared.plain.Plain.TheVariants.{Step, Pulse, Set, ShowReg, ShowCell, ShowOut}
+use Rattle.ags_run.specs.declared.playing.Played.{Played}
+use Rattle.ags_run.specs.Shown.{reg_text, cell_text, output_text}
+
+-- the events that a command makes, given in this state
+abbrev pub Makes : Machine → State → Plain → List Event → Type 0
+Makes machine s (Step count) events = events ≡ replicate count event.Step
+Makes machine s Pulse events = events ≡ event.Pulse ∷ []
+Makes machine s (Set address word) events = events ≡ event.Put address word ∷ []
+Makes machine s ShowReg events = events ≡ []
+Makes machine s (ShowCell address) events = events ≡ []
+Makes machine s (ShowOut address) events = events ≡ []
+
+-- the text that a command prints, by the state after its events: a line where it shows something
+abbrev pub shown : Machine → Plain → State → List ℕ
+shown machine (Step count) s = []
+shown machine Pulse s = []
+shown machine (Set address word) s = []
+shown machine ShowReg s = reg_text s ++ codes "\n"
+shown machine (ShowCell address) s = cell_text address (cell s address) ++ codes "\n"
+shown machine (ShowOut address) s = output_text address (word_at s.outputs (place_of machine.ports.outputs address)) ++ codes "\n"
+
+-- From this state, the commands make these events and print this text, one command after another: the first makes its
+-- events, they run, it prints by the state that they end in, and the others go on from there.
+abbrev pub Plays : Machine → State → List Plain → List Event → List ℕ → Type 0
+Plays machine s [] events text = (events ≡ []) × (text ≡ [])
+Plays machine s (command ∷ commands) events text =
+    (made : List Event) × (moments : List Moment) × (later : List Event) × (rest : List ℕ)
+    × Makes machine s command made × Run machine s made moments × (events ≡ made ++ later)
+    × (text ≡ shown machine command (last_state s moments) ++ rest) × Plays machine (last_state s moments) commands later rest
+
+-- an event is a step, or a word that is put
+abbrev pub is_step : Event → Bool
+is_step event.Step = true
+is_step event.Pulse = false
+is_step (event.Put address word) = false
+
+abbrev pub is_put : Event → Bool
+is_put event.Step = false
+is_put event.Pulse = false
+is_put (event.Put address word) = true
+
+-- the commands were played to their end: the sink took exactly their text, and the steps and the puts among their events are counted
+pub record PlayedWhole (machine : Machine) (s : State) (commands : List Plain) (old new : Option (List ℕ)) (played : Played) : Type 0 where
+  pub events : List Event
+  pub text : List ℕ
+  pub plays : Plays machine s commands events text
+  pub sent : new ≡ appended old text
+  pub steps : played.steps ≡ count_by is_step events
+  pub puts : played.puts ≡ count_by is_put events
+
+-- the sink took a front of the text that the commands print
+pub record PlayedInPart (machine : Machine) (s : State) (commands : List Plain) (old new : Option (List ℕ)) : Type 0 where
+  pub events : List Event
+  pub text : List ℕ
+  pub plays : Plays machine s commands events text
+  pub front : WroteFront old new text

@@ -1,0 +1,33 @@
+-- What the lines of a script are read as.
+use Rattle.std.specs.Prelude.{ℕ, List, [], ◌∷◌, Option, Some, None}
+use Rattle.ags_text.specs.Line.{LineAt}
+use Rattle.ags_run.specs.declared.plain.Plain.{Plain}
+use Rattle.ags_run.specs.declared.reading.LineReading.{LineReading}
+use Rattle.ags_run.specs.declared.reading.LineReading.TheVariants.{Command, Skipped, Formless}
+use Rattle.ags_run.specs.For.{step_count}
+use Rattle.ags_run.specs.Spelling.{Spells, IsSkipped}
+
+-- The reading of a line: it spells a command, or it is skipped, or it does neither.
+abbrev pub IsReading : List ℕ → LineReading → Type 0
+IsReading line (Command command) = Spells line command
+IsReading line Skipped = IsSkipped line
+IsReading line Formless = ((command : Plain) → Spells line command → ⊥) × (IsSkipped line → ⊥)
+
+-- the readings of lines, one for each
+abbrev pub AreReadings : List LineAt → List LineReading → Type 0
+AreReadings [] [] = Unit {0}
+AreReadings (line ∷ lines) (reading ∷ readings) = IsReading line.bytes reading × AreReadings lines readings
+AreReadings [] (reading ∷ readings) = ⊥
+AreReadings (line ∷ lines) [] = ⊥
+
+-- the command of a reading, where it has one
+abbrev pub command_of : LineReading → Option Plain
+command_of (Command command) = Some command
+command_of Skipped = None
+command_of Formless = None
+
+-- how many steps the line of a reading makes
+abbrev pub reading_steps : LineReading → ℕ
+reading_steps (Command command) = step_count command
+reading_steps Skipped = 0
+reading_steps Formless = 0

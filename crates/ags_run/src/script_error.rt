@@ -1,0 +1,94 @@
+//! Why a script isn't read.
+
+ghost use Rattle.std.specs.Prelude.{◌≡◌};
+
+use std::alloc::{AllocError, AllocFailed};
+use std::fmt;
+
+/// What is wrong with a line, by the number and the name that it is printed with.
+#[derive(Clone, Copy, Debug, PartialEq, Eq)]
+pub enum ScriptKind {
+    /// Number 1: the line is none of those that are built, or it is longer than 512 bytes.
+    BadLine,
+    /// Number 2: the machine has no input register where SET puts its word, or no output register that SHOW OUT shows.
+    NoPort,
+    /// Number 3: with this line, the steps of the lines so far are more than 100,000,000.
+    TooManySteps,
+}
+
+/// The first fault of a script.
+#[derive(Clone, Copy, Debug, PartialEq, Eq)]
+pub struct ScriptFault {
+    /// The faulty line's number, counted from 1.
+    pub line: u32,
+    /// What is wrong with it.
+    pub kind: ScriptKind,
+}
+
+/// Why a script wasn't read.
+#[derive(Clone, Copy, Debug, PartialEq, Eq)]
+pub enum ScriptError {
+    /// It has this fault.
+    At(ScriptFault),
+    /// The memory didn't suffice.
+    NoMemory,
+}
+
+/// Prints the kind as it stands in the line of a script's fault: its number and its name.
+impl fmt::Display for ScriptKind {
+    ghost use Rattle.std.specs.Prelude.{Some};
+    ghost use Rattle.ags_run.specs.FaultText.{kind_text};
+
+    ghost output = { λ kind. Some (kind_text kind) };
+
+    fn fmt<W: fmt::Write>(&self, f: &mut fmt::Formatter<W>) -> fmt::Result {
+        f.write_str(match self {
+            ScriptKind::BadLine => "1 BadLine",
+            ScriptKind::NoPort => "2 NoPort",
+            ScriptKind::TooManySteps => "3 TooManySteps",
+        })
+    }
+}
+
+/// Prints the line of a script's fault, without a line feed.
+impl fmt::Display for ScriptFault {
+    ghost use Rattle.std.specs.Prelude.{Some};
+    ghost use Rattle.ags_run.specs.FaultText.{fault_text};
+
+    ghost output = { λ fault. Some (fault_text fault) };
+
+    fn fmt<W: fmt::Write>(&self, f: &mut fmt::Formatter<W>) -> fmt::Result {
+        let line = self.line;
+        let kind = self.kind;
+        write!(f, "SCRIPT LINE {line} ERROR {kind}")
+    }
+}
+
+impl ScriptError {
+    /// The fault of the line of a number, counted from 1.
+    pub(crate) fn at(line: u32, kind: ScriptKind) -> ScriptError
+        ensures { result ≡ ScriptError.At (record { line = line; kind = kind }) }
+    {
+        ScriptError::At(ScriptFault { line, kind })
+    }
+}
+
+impl From<AllocError> for ScriptError {
+    ghost use Rattle.ags_run.specs.declared.script_error.ScriptError.TheVariants.{NoMemory};
+
+    ghost from_gives = { λ _ error. error ≡ NoMemory };
+
+    fn from(_error: AllocError) -> ScriptError {
+        ScriptError::NoMemory
+    }
+}
+
+impl<T: Drop> From<AllocFailed<T>> for ScriptError {
+    ghost use Rattle.ags_run.specs.declared.script_error.ScriptError.TheVariants.{NoMemory};
+
+    ghost from_gives = { λ _ error. error ≡ NoMemory };
+
+    fn from(_error: AllocFailed<T>) -> ScriptError {
+        ScriptError::NoMemory
+    }
+}
