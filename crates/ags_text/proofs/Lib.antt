@@ -1,4 +1,8 @@
+pub mod Deciding
 pub mod FaultLemmas
+pub mod FieldLaws
 pub mod FollowLemmas
+pub mod FrontLemmas
 pub mod LineLemmas
 pub mod NumeralLemmas
+pub mod ReadingLemmas

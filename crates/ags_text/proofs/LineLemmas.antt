@@ -1,10 +1,9 @@
 -- The lines of a text, from its front: a step for each line feed, and the last line.
-use Rattle.std.proofs.Common.{◌≡◌, ℕ, ◌+◌, ◌<◌, ◌≤◌, Bool, true, false, cond, eqb, List, [], ◌∷◌, length, take, drop, refl, sym, ap, unwrap_or, position, not, inl, inr, ◌∙◌, arith}
+use Rattle.std.proofs.Common.{◌≡◌, ℕ, ◌+◌, ◌<◌, ◌≤◌, Bool, true, false, cond, eqb, List, [], ◌∷◌, length, take, drop, refl, sym, ap, ◌∙◌, arith}
 use Rattle.std.specs.List.{onto_first, position_or_len}
 use Rattle.std.specs.Str.Lines.{strip_carriage_return}
 use Rattle.std.proofs.lemmas.List.{length-take, drop-drop, drop_all, take_all}
-use Rattle.std.proofs.lemmas.Bool.{cases_lt, le-ltb, lt-ltb}
-use Rattle.std.proofs.lemmas.List.Sums.{fails_before_first, prefix_len-le-length}
+use Rattle.std.proofs.lemmas.List.Sums.{fails_before_first}
 use Rattle.std.proofs.lemmas.List.Splits.{slice_split_first, slice_split_none}
 use Rattle.ags_text.specs.Line.{LineAt, lines_in, parts}
 
@@ -38,17 +37,6 @@ pub lines_in-last : (start : ℕ) (text : List ℕ) → position_or_len is_feed 
     → lines_in start (parts text) ≡ lines_in start (text ∷ [])
 lines_in-last start text is =
     rw (slice_split_none is_feed text (λ k d lt. fails_before_first is_feed text k d (omega arith))) refl
-
--- the first line feed, or the length
-pub position_or_len_is : (text : List ℕ) → (unwrap_or (position is_feed text) (length text) ≡ position_or_len is_feed text) × (position_or_len is_feed text ≤ length text)
-position_or_len_is text =
-    let most : position_or_len is_feed text ≤ length text = prefix_len-le-length (λ b. not (is_feed b)) text in (
-      elim (cases_lt (position_or_len is_feed text) (length text)) [
-        | inl lt ↦ rw (lt-ltb _ _ lt) refl
-        | inr le ↦ rw (le-ltb _ _ le) (omega arith)
-      ],
-      most,
-    )
 
 -- one call of `next` before a line feed
 pub next-feed : (view : List LineAt) (start feed : ℕ) (text rest bytes : List ℕ) → lines_in start (parts (drop start text)) ≡ view → rest ≡ drop start text

@@ -8,8 +8,9 @@ use Rattle.std.proofs.lemmas.Bool.{cases_lt}
 use Rattle.std.proofs.lemmas.Bool.Decides.{nat_tests}
 use Rattle.std.proofs.lemmas.List.{length-append, get_or_append_left, get_or-append_right}
 use native.Mathlib.Numerals.{unary_clauses}
-use Rattle.std.proofs.lemmas.Nat.{div_below}
-use Rattle.std.proofs.Math.Nat.{pow-suc, mod-eq-sub-div-mul, div-mul-le_self}
+use Rattle.std.proofs.lemmas.Nat.{div_below, mul-add-lt}
+use Rattle.std.proofs.lemmas.Grind.{pow_more}
+use Rattle.std.proofs.Math.Nat.{pow-suc, pow-le-pow_right, mul_comm, mod-eq-sub-div-mul, div-mul-le_self}
 use Rattle.std.proofs.lemmas.Str.{IsUtf8-from_ascii}
 use Rattle.ags_text.specs.Numeral.{numeral, decimal7_text, Writes}
 
@@ -71,3 +72,22 @@ writes base (suc width) n some most fits =
 pub text_of_digits : {T E : Type 0} (bytes : List ℕ) (P : T → Type 0) (Q : E → Type 0) (result : Result T E) → MatchResult result P (λ e. (IsUtf8 bytes → ⊥) × Q e) → IsAscii bytes → IsOk result
 text_of_digits bytes P Q (Ok text) is ascii = refl
 text_of_digits bytes P Q (Err e) is ascii = absurd (is.0 (IsUtf8-from_ascii bytes ascii))
+
+-- ---- digits that are read
+
+-- a number below a power of its base that is not the highest, and one digit more
+pub room : (base most index number digit : ℕ) → 2 ≤ base → base ^ most ≤ 2 ^ 32 → index < most → number < base ^ index → digit < base → number * base + digit < 2 ^ 32
+room base most index number digit low high within small below =
+    let step : number * base + digit < base * base ^ index = mul-add-lt number base digit (base ^ index) small below in
+    let more : base ^ (index + 1) ≡ base ^ index * base = pow_more base index in
+    let turned : base * base ^ index ≡ base ^ index * base = mul_comm base (base ^ index) in
+    let some : 0 < base = omega (arith, low) in
+    let within_power : base ^ (index + 1) ≤ base ^ most = pow-le-pow_right some (omega (arith, within)) in
+    omega (arith, step, more, turned, within_power, high)
+
+-- a number below a power of its base is below a higher one
+pub below_most : (base most index number : ℕ) → 2 ≤ base → index ≤ most → number < base ^ index → number < base ^ most
+below_most base most index number low within small =
+    let some : 0 < base = omega (arith, low) in
+    let powers : base ^ index ≤ base ^ most = pow-le-pow_right some within in
+    omega (arith, powers, small)

@@ -1,4 +1,6 @@
 pub mod Fault
+pub mod Field
 pub mod Line
 pub mod LineView
 pub mod Numeral
+pub mod Reading

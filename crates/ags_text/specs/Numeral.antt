@@ -20,11 +20,19 @@ octal4_text n = numeral 8 4 n
 abbrev pub octal6_text : ℕ → List ℕ
 octal6_text n = numeral 8 6 n
 
--- the text is one octal digit or more, `most` of them at most, and they write the number
-pub record IsOctal (most : ℕ) (text : List ℕ) (number : ℕ) : Type 0 where
-  pub digits : IsNumeral 8 text
+-- the text is one digit of the base or more, `most` of them at most, and they write the number
+pub record IsNumber (base most : ℕ) (text : List ℕ) (number : ℕ) : Type 0 where
+  pub digits : IsNumeral base text
   pub fits : length text ≤ most
-  pub value : number ≡ digits_value 8 text
+  pub value : number ≡ digits_value base text
+
+-- so with octal digits
+abbrev pub IsOctal : (most : ℕ) → List ℕ → ℕ → Type 0
+IsOctal most text number = IsNumber 8 most text number
+
+-- and with decimal ones
+abbrev pub IsDecimal : (most : ℕ) → List ℕ → ℕ → Type 0
+IsDecimal most text number = IsNumber 10 most text number
 
 -- the text is so many digits of the base, and they write the number
 pub record Writes (base width : ℕ) (text : List ℕ) (number : ℕ) : Type 0 where

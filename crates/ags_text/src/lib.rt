@@ -1,8 +1,10 @@
-//! The ground that every reader and writer of text stands on: a text's lines, the texts of numbers,
-//! and the first fault of a list. It stands on `std` alone, and each call is pinned by a definition in `specs/`.
+//! The ground that every reader and writer of text stands on: a text's lines, the fields of a line, the texts of
+//! numbers, and the first fault of a list. It stands on `std` alone, and each call is pinned by a definition in `specs/`.
 #![tactic(auto)]
 
 mod faults;
+mod field_laws;
+mod fields;
 mod lines;
 mod numerals;
 mod seven_digits;
@@ -10,6 +12,11 @@ mod seven_digits;
 mod tests;
 
 pub use faults::{first_fault_is_first, no_fault_is_faultless};
+pub use field_laws::{
+    blanks_have_no_field, bytes_tell_fields, cut_fields_stand, numbers_are_fields,
+    standing_fields_are_cut,
+};
+pub use fields::{are_blanks, split_field, split_word};
 pub use lines::{Line, Lines};
-pub use numerals::{decimal7, numeral_writes, octal4, octal6, read_octal};
+pub use numerals::{decimal7, numeral_writes, octal4, octal6, read_decimal, read_octal};
 pub use seven_digits::SevenDigits;

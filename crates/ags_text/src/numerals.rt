@@ -1,10 +1,13 @@
-//! Numbers as digits of a fixed width, and octal digits as numbers.
+//! Numbers as digits of a fixed width, and octal and decimal digits as numbers.
 
 ghost use Rattle.std.specs.Prelude.{◌≡◌, ℕ, ◌+◌, ◌%◌, ◌<◌, ◌^◌, ◌≤◌, IfSome, Some, length};
-ghost use Rattle.ags_text.specs.Numeral.{numeral, decimal7_text, octal4_text, octal6_text, IsOctal, Writes};
+ghost use Rattle.ags_text.specs.Numeral.{numeral, decimal7_text, octal4_text, octal6_text, IsNumber, IsOctal, IsDecimal, Writes};
 
 /// The most octal digits that are read: those of one word.
 const MOST_OCTAL_DIGITS: usize = 6;
+
+/// The most decimal digits that are read.
+const MOST_DECIMAL_DIGITS: usize = 9;
 
 /// The last digit of a number in a base of at most ten, as its ASCII byte.
 fn last_digit(base: u32, number: u32) -> u8
@@ -76,6 +79,28 @@ pub fn numeral_writes()
         → Writes base width (numeral base width number) number }
 {}
 
+/// The number that the digits of a text write in a base, where they are not too many, and nothing for any other text.
+fn read_digits(base: u32, most: usize, text: &[u8]) -> Option<u32>
+    requires low { 2 ≤ base }
+    requires high { base ≤ 36 }
+    requires room { base ^ most ≤ 2 ^ 32 }
+    ensures found { IfSome result (λ number. IsNumber base most text.now number) }
+    ensures only { (number : ℕ) → IsNumber base most text.now number → result ≡ Some number }
+    ensures below { IfSome result (λ number. number < base ^ most) }
+{
+    if text.is_empty() || text.len() > most {
+        return None;
+    }
+    let mut number = 0u32;
+    for byte in text {
+        let Some(digit) = char::from(*byte).to_digit(base) else {
+            return None;
+        };
+        number = number * base + digit;
+    }
+    Some(number)
+}
+
 /// The number that one to six octal digits write, and nothing for any other text: no sign, no blank, no other digit
 /// stands among them (docs/SOURCE.md, Cards).
 pub fn read_octal(text: &[u8]) -> Option<u32>
@@ -83,15 +108,14 @@ pub fn read_octal(text: &[u8]) -> Option<u32>
     ensures only { (number : ℕ) → IsOctal 6 text.now number → result ≡ Some number }
     ensures below { IfSome result (λ number. number < 2 ^ 18) }
 {
-    if text.is_empty() || text.len() > MOST_OCTAL_DIGITS {
-        return None;
-    }
-    let mut number = 0u32;
-    for digit in text {
-        if !matches!(*digit, b'0'..=b'7') {
-            return None;
-        }
-        number = number * 8 + u32::from(*digit - b'0');
-    }
-    Some(number)
+    read_digits(8, MOST_OCTAL_DIGITS, text)
+}
+
+/// The number that one to nine decimal digits write, which may begin with zeros, and nothing for any other text
+/// (docs/SCRIPT.md).
+pub fn read_decimal(text: &[u8]) -> Option<u32>
+    ensures found { IfSome result (λ number. IsDecimal 9 text.now number) }
+    ensures only { (number : ℕ) → IsDecimal 9 text.now number → result ≡ Some number }
+{
+    read_digits(10, MOST_DECIMAL_DIGITS, text)
 }

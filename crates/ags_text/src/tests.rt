@@ -1,8 +1,9 @@
-//! Rows worked out by hand from the rules of lines and numbers, and each law called once at types of its own.
+//! Rows worked out by hand from the rules of lines, fields and numbers, and each law called once at types of its own.
 
 use crate::{
-    Lines, SevenDigits, decimal7, first_fault_is_first, no_fault_is_faultless, numeral_writes,
-    octal4, octal6, read_octal,
+    Lines, SevenDigits, are_blanks, blanks_have_no_field, bytes_tell_fields, cut_fields_stand,
+    decimal7, first_fault_is_first, no_fault_is_faultless, numbers_are_fields, numeral_writes,
+    octal4, octal6, read_decimal, read_octal, split_field, split_word, standing_fields_are_cut,
 };
 use std::alloc::{AllocError, Global};
 use std::test::Fail;
@@ -71,6 +72,56 @@ fn octal_digits_are_read(rt: HostRuntime) {
 }
 
 #[test]
+fn decimal_digits_are_read(rt: HostRuntime) {
+    let rows: [(&[u8], Option<u32>); 14] = [
+        (b"", None),
+        (b"0", Some(0)),
+        (b"9", Some(9)),
+        (b"10", Some(10)),
+        (b"0000042", Some(42)),
+        (b"000000000", Some(0)),
+        (b"100000000", Some(100000000)),
+        (b"999999999", Some(999999999)),
+        (b"1000000000", None),
+        (b"0000000001", None),
+        (b"1:", None),
+        (b"1A", None),
+        (b"+1", None),
+        (b"1 ", None),
+    ];
+    for (row, (text, number)) in rows.into_iter().enumerate() {
+        assert_eq!(rt; read_decimal(text), number, "row {row}");
+    }
+}
+
+#[test]
+fn texts_are_cut_at_blanks(rt: HostRuntime) {
+    // a text, its first word and what stands behind that, its next field and what stands behind that
+    let rows: [(&[u8], (&[u8], &[u8]), (&[u8], &[u8])); 8] = [
+        (b"", (b"", b""), (b"", b"")),
+        (b" \t", (b"", b" \t"), (b"", b"")),
+        (b"ORG", (b"ORG", b""), (b"ORG", b"")),
+        (b"ORG /10", (b"ORG", b" /10"), (b"ORG", b" /10")),
+        (b"\tORG\t/10", (b"", b"\tORG\t/10"), (b"ORG", b"\t/10")),
+        (b"  A  ", (b"", b"  A  "), (b"A", b"  ")),
+        (b"A\x0bB C", (b"A\x0bB", b" C"), (b"A\x0bB", b" C")),
+        (b" \r 1", (b"", b" \r 1"), (b"\r", b" 1")),
+    ];
+    for (row, (text, word, field)) in rows.into_iter().enumerate() {
+        assert!(rt; split_word(text) == word, "row {row}");
+        assert!(rt; split_field(text) == field, "row {row}");
+    }
+    for (text, blank) in [
+        (b"".as_slice(), true),
+        (b" \t ", true),
+        (b" .", false),
+        (b"\r", false),
+    ] {
+        assert_eq!(rt; are_blanks(text), blank);
+    }
+}
+
+#[test]
 fn numbers_are_printed(rt: HostRuntime) -> Result<(), Fail> {
     let alloc = rt.alloc();
     for (number, digits) in [
@@ -106,4 +157,9 @@ fn laws_can_be_called() {
     first_fault_is_first::<u8, u16>();
     no_fault_is_faultless::<u8, u16>();
     numeral_writes();
+    standing_fields_are_cut();
+    cut_fields_stand();
+    blanks_have_no_field();
+    bytes_tell_fields();
+    numbers_are_fields();
 }
