@@ -5,6 +5,7 @@ use Rattle.std.specs.List.{list_any}
 use Rattle.std.proofs.lemmas.List.{append-nil, length-append}
 use Rattle.ags_text.specs.Fault.{first_fault, first_fault-nil, first_fault-faulty, first_fault-faultless}
 use Rattle.ags_text.specs.Line.{LineAt, Follow}
+use Rattle.ags_text.proofs.ReadingLemmas.{readings-append, readings-push}
 use Rattle.ags_asm.specs.declared.card.Body.{Body}
 use Rattle.ags_asm.specs.declared.card.Card.{Card}
 use Rattle.ags_asm.specs.declared.source_card.SourceCard.{SourceCard}
@@ -29,19 +30,6 @@ labelled_fault card labelled symbol came = rw (is_some-map (λ symbol. symbol.no
 card_fault-at : (before : List (Option Statement)) (reading : Option Statement) → card_fault before reading ≡ card_fault_at (list_any has_symbol before) reading
 card_fault-at before None = refl
 card_fault-at before (Some card) = refl
-
-AreReadings-push : (lines : List LineAt) (readings : List (Option Statement)) (line : LineAt) (reading : Option Statement) → AreReadings lines readings → IsReading line.bytes reading
-    → AreReadings (lines ++ line ∷ []) (readings ++ reading ∷ [])
-AreReadings-push [] [] line reading are is = (is, tt)
-AreReadings-push [] (one ∷ readings) line reading are is = absurd are
-AreReadings-push (first ∷ lines) [] line reading are is = absurd are
-AreReadings-push (first ∷ lines) (one ∷ readings) line reading are is = (are.0, AreReadings-push lines readings line reading are.1 is)
-
-AreReadings-append : (lines more : List LineAt) (readings others : List (Option Statement)) → AreReadings lines readings → AreReadings more others → AreReadings (lines ++ more) (readings ++ others)
-AreReadings-append [] more [] others are rest = rest
-AreReadings-append [] more (one ∷ readings) others are rest = absurd are
-AreReadings-append (first ∷ lines) more [] others are rest = absurd are
-AreReadings-append (first ∷ lines) more (one ∷ readings) others are rest = (are.0, AreReadings-append lines more readings others are.1 rest)
 
 bodies-push : (readings : List (Option Statement)) (card : Statement) → bodies (readings ++ Some card ∷ []) ≡ bodies readings ++ card.body ∷ []
 bodies-push [] card = refl
@@ -110,7 +98,7 @@ Reading-more text lines left cards labelled now line card so spells fault now_is
       readings = so.readings ++ Some card ∷ [];
       before = Some card ∷ so.before;
       whole = so.whole ∙ sym (append_assoc so.front (line ∷ []) left);
-      are = AreReadings-push so.front so.readings line (Some card) so.are spells;
+      are = readings-push IsReading so.front so.readings line (Some card) so.are spells;
       on = λ rest. rw append_assoc (so.on (Some card ∷ rest) ∙ first_fault-faultless card_fault so.before (Some card) rest here);
       labelled_is = now_is ∙ or_comm labelled (is_some card.symbol) ∙ ap (λ (b : Bool). is_some card.symbol || b) so.labelled_is;
       one_each = rw bodies-push (omega (arith, so.one_each, length-append (bodies so.readings) (card.body ∷ []), length-append so.front (line ∷ [])));
@@ -129,7 +117,7 @@ pub Reading-fault : (text : List ℕ) (lines left : List LineAt) (cards : List S
 Reading-fault text lines left cards labelled line reading others so is rest fault =
     let here : card_fault so.before reading ≡ Some NotYet = rw (card_fault-at so.before reading, ← so.labelled_is) fault in (
       so.readings ++ reading ∷ others,
-      rw so.whole (AreReadings-append so.front (line ∷ left) so.readings (reading ∷ others) so.are (is, rest)),
+      rw so.whole (readings-append IsReading so.front (line ∷ left) so.readings (reading ∷ others) so.are (is, rest)),
       so.on (reading ∷ others) ∙ rw so.so_many (first_fault-faulty card_fault so.before reading others NotYet here),
     )
 

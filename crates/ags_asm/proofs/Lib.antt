@@ -1,6 +1,5 @@
 pub mod AssembleLemmas
 pub mod CardLemmas
-pub mod FieldLemmas
 pub mod ListLemmas
 pub mod PlaceLemmas
 pub mod ReadingExists

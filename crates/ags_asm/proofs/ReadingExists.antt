@@ -1,61 +1,21 @@
 -- Each line has a reading, and only one.
-use Rattle.std.proofs.Common.{◌≡◌, ℕ, ◌<◌, ◌≤◌, Bool, true, eqb, ◌⊎◌, List, [], ◌∷◌, length, get_or, refl, sym, ap, ◌∙◌, Option, Some, None, unwrap_or, codes, inl, inr, arith}
+use Rattle.std.proofs.Common.{◌≡◌, ℕ, eqb, List, [], ◌∷◌, length, get_or, refl, sym, ap, ◌∙◌, Option, Some, None, unwrap_or, codes, inl, inr, arith}
 use Rattle.std.specs.List.{list_all, list_any}
-use Rattle.std.specs.Str.Parse.{AllDigits, digits_value}
-use Rattle.std.specs.Char.{digit_value}
-use Rattle.std.proofs.lemmas.Bool.{cases_Bool, cases_lt, cases_eq, true≢false}
+use Rattle.std.specs.Str.Parse.{digits_value}
+use Rattle.std.proofs.lemmas.Bool.{cases_lt, cases_eq, true≢false}
+use Rattle.ags_text.specs.Field.{is_blank}
 use Rattle.ags_text.specs.Numeral.{IsOctal}
 use Rattle.ags_text.specs.Line.{LineAt}
+use Rattle.ags_text.proofs.Deciding.{Decided, Found, not_both, decide_bool, decide_le, decide_list, number_found}
+use Rattle.ags_text.proofs.ReadingLemmas.{readings-exist, readings-one}
 use Rattle.ags_asm.specs.declared.card.Body.{Body}
 use Rattle.ags_asm.specs.declared.card.Body.TheVariants.{Comment, Org, Oct}
-use Rattle.ags_asm.specs.Spelling.{Statement, Spells, is_blank, is_allowed, is_letter, is_symbol_character, IsSymbol, IsSymbolField, IsComment}
+use Rattle.ags_asm.specs.Spelling.{Statement, Spells, is_allowed, is_letter, is_symbol_character, IsSymbol, IsSymbolField, IsComment}
 use Rattle.ags_asm.specs.Field.{symbol_field, operation_field, operand_field, remark_field, IsPlaceOperand, OrgStates, OctStates, FieldsState}
 use Rattle.ags_asm.specs.Source.{IsReading, AreReadings}
 use Rattle.ags_asm.proofs.ReadingLemmas.{org_parts, line_from_fields, fields_from_line, comment_card, stated_of}
 
 -- What can be decided.
-
--- a fact holds, or it does not
-abbrev Decided : Type 0 → Type 0
-Decided P = P ⊎ (P → ⊥)
-
--- something is found of which a fact holds, or it holds of nothing
-abbrev Found : (A : Type 0) → (A → Type 0) → Type 0
-Found A P = ((x : A) × P x) ⊎ ((x : A) → P x → ⊥)
-
--- a number is not below one that it reaches
-not_both : (m n : ℕ) → m < n → n ≤ m → ⊥
-not_both m n lt le = omega arith
-
--- a test passes or fails
-decide_bool : (b : Bool) → Decided (b ≡ true)
-decide_bool b =
-    elim (cases_Bool b) [
-      | inl is ↦ inl is
-      | inr fails ↦ inr (λ is. true≢false (sym is ∙ fails))
-    ]
-
--- a number is at most another
-decide_le : (m n : ℕ) → Decided (m ≤ n)
-decide_le m n =
-    elim (cases_lt n m) [
-      | inl lt ↦ inr (λ le. not_both n m lt le)
-      | inr le ↦ inl le
-    ]
-
--- two texts are one
-decide_list : (xs ys : List ℕ) → Decided (xs ≡ ys)
-decide_list [] [] = inl refl
-decide_list [] (y ∷ ys) = inr (λ same. cc)
-decide_list (x ∷ xs) [] = inr (λ same. cc)
-decide_list (x ∷ xs) (y ∷ ys) =
-    elim (cases_eq x y) [
-      | inr other ↦ inr (λ same. other (cc))
-      | inl first ↦ elim (decide_list xs ys) [
-        | inl rest ↦ inl (cc)
-        | inr others ↦ inr (λ same. others (cc))
-      ]
-    ]
 
 -- a line is a comment
 decide_comment : (line : List ℕ) → Decided (IsComment line)
@@ -85,33 +45,7 @@ decide_symbol text =
       ]
     ]
 
--- each byte of a text is an octal digit
-decide_digits : (text : List ℕ) → Decided (AllDigits 8 text)
-decide_digits [] = inl tt
-decide_digits (b ∷ text) =
-    elim (cases_lt (digit_value b) 8) [
-      | inr past ↦ inr (λ digits. not_both (digit_value b) 8 digits.0 past)
-      | inl digit ↦ elim (decide_digits text) [
-        | inl digits ↦ inl (digit, digits)
-        | inr others ↦ inr (λ digits. others digits.1)
-      ]
-    ]
-
 -- What a field states.
-
--- the number that octal digits write
-octal_found : (text : List ℕ) → Found ℕ (λ number. IsOctal 6 text number)
-octal_found text =
-    elim (cases_lt 0 (length text)) [
-      | inr none ↦ inr (λ number is. not_both 0 (length text) is.digits.0 none)
-      | inl some ↦ elim (decide_digits text) [
-        | inr others ↦ inr (λ number is. others is.digits.1)
-        | inl digits ↦ elim (decide_le (length text) 6) [
-          | inr long ↦ inr (λ number is. long is.fits)
-          | inl fits ↦ inl (digits_value 8 text, record { digits = (some, digits); fits = fits; value = refl })
-        ]
-      ]
-    ]
 
 -- what one text writes, another that is the same writes
 octal_along : (text other : List ℕ) (number : ℕ) → text ≡ other → IsOctal 6 other number → IsOctal 6 text number
@@ -123,7 +57,7 @@ place_found [] = inr (λ place is. let slash : [] ≡ 47 ∷ is.digits = is.slas
 place_found (b ∷ digits) =
     elim (cases_eq b 47) [
       | inr other ↦ inr (λ place is. let slash : b ∷ digits ≡ 47 ∷ is.digits = is.slash in other (cc))
-      | inl at ↦ elim (octal_found digits) [
+      | inl at ↦ elim (number_found 8 6 digits) [
         | inl found ↦ inl (found.0, record { digits = digits; slash = ap (λ x. x ∷ digits) at; octal = found.1 })
         | inr none ↦ inr (λ place is. let slash : b ∷ digits ≡ 47 ∷ is.digits = is.slash in none place (octal_along digits is.digits place (cc) is.octal))
       ]
@@ -164,7 +98,7 @@ org_found [] operand =
 -- the card that the symbol field and the operand of an OCT state
 oct_found : (symbol operand : List ℕ) → Found Statement (λ card. OctStates symbol operand card.symbol card.body)
 oct_found symbol operand =
-    elim (octal_found operand) [
+    elim (number_found 8 6 operand) [
       | inr none ↦ inr (λ card states. let parts = oct_parts symbol operand card.symbol card.body states in none parts.0 parts.4)
       | inl word ↦ elim (symbol_found symbol) [
         | inr none ↦ inr (λ card states. let parts = oct_parts symbol operand card.symbol card.body states in none card.symbol (parts.2, parts.3))
@@ -291,20 +225,8 @@ one_reading line (Some card) (Some other) first second = ap (λ read. Some read)
 
 -- lines have readings
 pub readings_exist : (lines : List LineAt) → (readings : List (Option Statement)) × AreReadings lines readings
-readings_exist [] = ([], tt)
-readings_exist (line ∷ lines) =
-    let first = reading_exists line.bytes in
-    let rest = readings_exist lines in
-    (first.0 ∷ rest.0, (first.1, rest.1))
+readings_exist = readings-exist IsReading reading_exists
 
 -- and only these
 pub one_readings : (lines : List LineAt) (one other : List (Option Statement)) → AreReadings lines one → AreReadings lines other → one ≡ other
-one_readings [] [] [] first second = refl
-one_readings [] [] (read ∷ others) first second = absurd second
-one_readings [] (read ∷ readings) other first second = absurd first
-one_readings (line ∷ lines) [] other first second = absurd first
-one_readings (line ∷ lines) (read ∷ readings) [] first second = absurd second
-one_readings (line ∷ lines) (read ∷ readings) (too ∷ others) first second =
-    let same = one_reading line.bytes read too first.0 second.0 in
-    let rest = one_readings lines readings others first.1 second.1 in
-    ap (λ x. x ∷ readings) same ∙ ap (λ xs. too ∷ xs) rest
+one_readings = readings-one IsReading one_reading

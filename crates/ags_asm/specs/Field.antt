@@ -1,46 +1,26 @@
--- How a line is cut into fields, and what its fields state together.
-use Rattle.std.specs.Prelude.{◌≡◌, ℕ, ◌⊎◌, List, [], ◌∷◌, take, drop, Option, Some, None, unwrap_or, codes}
-use Rattle.std.specs.List.{position_or_len, prefix_len}
+-- The fields of a card, and what they state together.
+use Rattle.std.specs.Prelude.{◌≡◌, ℕ, ◌⊎◌, List, [], ◌∷◌, Option, Some, None, unwrap_or, codes}
+use Rattle.ags_text.specs.Field.{AreBlanks, word_of, behind_word, next_field, behind_field}
 use Rattle.ags_text.specs.Numeral.{IsOctal}
 use Rattle.ags_asm.specs.declared.card.Body.{Body}
 use Rattle.ags_asm.specs.declared.card.Body.TheVariants.{Comment, Org, Oct}
-use Rattle.ags_asm.specs.Spelling.{is_blank, AreBlanks, IsSymbolField}
-
--- the front of a text before its first blank, or all of it
-unfoldable pub word_of : List ℕ → List ℕ
-word_of text = take (position_or_len is_blank text) text
-
--- what stands behind that front
-unfoldable pub behind_word : List ℕ → List ℕ
-behind_word text = drop (position_or_len is_blank text) text
-
--- a text without the blanks at its front
-unfoldable pub behind_blanks : List ℕ → List ℕ
-behind_blanks text = drop (prefix_len is_blank text) text
-
--- what stands from the operation on
-abbrev pub from_operation : List ℕ → List ℕ
-from_operation line = behind_blanks (behind_word line)
-
--- what stands from the operand on
-abbrev pub from_operand : List ℕ → List ℕ
-from_operand line = behind_blanks (behind_word (from_operation line))
+use Rattle.ags_asm.specs.Spelling.{IsSymbolField}
 
 -- the symbol field of a line: what stands in column 1 and behind it, before the first blank
-unfoldable pub symbol_field : List ℕ → List ℕ
+abbrev pub symbol_field : List ℕ → List ℕ
 symbol_field line = word_of line
 
 -- its operation: the next field
-unfoldable pub operation_field : List ℕ → List ℕ
-operation_field line = word_of (from_operation line)
+abbrev pub operation_field : List ℕ → List ℕ
+operation_field line = next_field (behind_word line)
 
 -- its operand: the field behind that
-unfoldable pub operand_field : List ℕ → List ℕ
-operand_field line = word_of (from_operand line)
+abbrev pub operand_field : List ℕ → List ℕ
+operand_field line = next_field (behind_field (behind_word line))
 
 -- what is left of it
-unfoldable pub remark_field : List ℕ → List ℕ
-remark_field line = behind_word (from_operand line)
+abbrev pub remark_field : List ℕ → List ℕ
+remark_field line = behind_field (behind_field (behind_word line))
 
 -- the operand of ORG: a slash and octal digits that write the place
 pub record IsPlaceOperand (operand : List ℕ) (place : ℕ) : Type 0 where

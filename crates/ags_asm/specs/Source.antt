@@ -3,6 +3,7 @@ use Rattle.std.specs.Prelude.{◌≡◌, ℕ, ◌+◌, ◌≤◌, Bool, false, �
 use Rattle.std.specs.List.{list_any, filter_map}
 use Rattle.ags_text.specs.Fault.{first_fault}
 use Rattle.ags_text.specs.Line.{LineAt, lines_of}
+use Rattle.ags_text.specs.Reading.{AreReadingsBy}
 use Rattle.ags_asm.specs.declared.card.Body.{Body}
 use Rattle.ags_asm.specs.declared.placed.Placed.{Placed}
 use Rattle.ags_asm.specs.declared.source_error.SourceKind.{SourceKind}
@@ -20,10 +21,7 @@ IsReading line None = (card : Statement) → Spells line card → ⊥
 
 -- the readings of lines, one for each
 abbrev pub AreReadings : List LineAt → List (Option Statement) → Type 0
-AreReadings [] [] = Unit {0}
-AreReadings (line ∷ lines) (reading ∷ readings) = IsReading line.bytes reading × AreReadings lines readings
-AreReadings [] (reading ∷ readings) = ⊥
-AreReadings (line ∷ lines) [] = ⊥
+AreReadings lines readings = AreReadingsBy IsReading lines readings
 
 -- whether a card with a symbol was read
 abbrev pub has_symbol : Option Statement → Bool

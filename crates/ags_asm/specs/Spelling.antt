@@ -1,6 +1,7 @@
 -- How a card is spelled: forwards from what it states to the lines that state it.
 use Rattle.std.specs.Prelude.{◌≡◌, ℕ, ◌<◌, ◌≤◌, ◌⊎◌, Bool, ◌||◌, ◌&&◌, ◌==◌, nat_le, nat_lt, List, [], ◌∷◌, ◌++◌, length, Option, Some, None, unwrap_or, IsTrue, codes, slice_index}
 use Rattle.std.specs.List.{list_all, list_any}
+use Rattle.ags_text.specs.Field.{AreBlanks, Behind}
 use Rattle.ags_text.specs.Numeral.{IsOctal}
 use Rattle.ags_asm.specs.declared.card.Body.{Body}
 use Rattle.ags_asm.specs.declared.card.Body.TheVariants.{Comment, Org, Oct}
@@ -9,10 +10,6 @@ use Rattle.ags_asm.specs.declared.card.Body.TheVariants.{Comment, Org, Oct}
 pub record Statement : Type 0 where
   pub symbol : Option (List ℕ)
   pub body : Body
-
--- a space or a tab
-abbrev pub is_blank : ℕ → Bool
-is_blank b = b == 32 || b == 9
 
 -- a byte that may stand on a card: a tab, or a character from the space to the tilde
 abbrev pub is_allowed : ℕ → Bool
@@ -26,15 +23,6 @@ is_letter b = nat_le 65 b && nat_le b 90
 abbrev pub is_symbol_character : ℕ → Bool
 is_symbol_character b = is_letter b || (nat_le 48 b && nat_le b 57)
 
--- blanks and tabs, or nothing
-abbrev pub AreBlanks : List ℕ → Type 0
-AreBlanks text = IsTrue (list_all is_blank text)
-
--- what stands between two fields: one blank or tab, or more
-pub record IsGap (text : List ℕ) : Type 0 where
-  pub some : 0 < length text
-  pub blanks : AreBlanks text
-
 -- a symbol: one to six capital letters and digits, among them a letter
 pub record IsSymbol (text : List ℕ) : Type 0 where
   pub some : 0 < length text
@@ -42,16 +30,12 @@ pub record IsSymbol (text : List ℕ) : Type 0 where
   pub characters : IsTrue (list_all is_symbol_character text)
   pub letter : IsTrue (list_any is_letter text)
 
--- The line has these three fields and no remark: the symbol field, which is empty where column 1 is blank,
--- the operation and the operand, with gaps between them and nothing but blanks behind.
-pub record HasFields (line symbol operation operand : List ℕ) : Type 0 where
-  pub before : List ℕ
-  pub between : List ℕ
+-- The line has these three fields and no remark: the symbol field, which is empty where column 1 is blank, and behind
+-- it the operation and the operand, a gap before each and nothing but blanks behind.
+pub record HasCardFields (line symbol operation operand : List ℕ) : Type 0 where
   pub behind : List ℕ
-  pub before_gap : IsGap before
-  pub between_gap : IsGap between
-  pub behind_blanks : AreBlanks behind
-  pub whole : line ≡ symbol ++ before ++ operation ++ between ++ operand ++ behind
+  pub whole : line ≡ symbol ++ behind
+  pub further : Behind (operation ∷ operand ∷ []) behind
 
 -- a comment: a line of nothing but blanks, or one with an asterisk in column 1
 abbrev pub IsComment : List ℕ → Type 0
@@ -68,11 +52,11 @@ abbrev pub States : List ℕ → Option (List ℕ) → Body → Type 0
 States line None Comment = IsComment line
 States line (Some symbol) Comment = ⊥
 -- ORG has no symbol, and its operand is a slash and octal digits
-States line None (Org place) = (digits : List ℕ) × IsOctal 6 digits place × HasFields line [] (codes "ORG") (47 ∷ digits)
+States line None (Org place) = (digits : List ℕ) × IsOctal 6 digits place × HasCardFields line [] (codes "ORG") (47 ∷ digits)
 States line (Some symbol) (Org place) = ⊥
 -- the operand of OCT is octal digits
 States line symbol (Oct word) = (digits : List ℕ) × IsSymbolField symbol × IsOctal 6 digits word
-    × HasFields line (unwrap_or symbol []) (codes "OCT") digits
+    × HasCardFields line (unwrap_or symbol []) (codes "OCT") digits
 
 -- The line is a spelling of the card: at most 120 bytes, each of them allowed, that state it.
 pub record Spells (line : List ℕ) (card : Statement) : Type 0 where

@@ -7,7 +7,8 @@ ghost use Rattle.ags_asm.specs.Spelling.{Statement, Spells, IsComment, IsSymbol,
 ghost use Rattle.ags_asm.specs.Field.{IsPlaceOperand, OrgStates, OctStates, StatesByFields};
 
 use crate::card::{Body, Card};
-use crate::fields::{are_blanks, split_fields};
+use crate::fields::split_fields;
+use ags_text::are_blanks;
 use ags_word::Word;
 
 /// The most bytes of a card.
