@@ -1,4 +1,3 @@
-pub mod FieldLemmas
 pub mod NumberLemmas
 pub mod ReadingExists
 pub mod ReadingLemmas

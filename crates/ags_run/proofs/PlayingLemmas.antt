@@ -1,6 +1,6 @@
 -- A play, an event and a command further.
 use Rattle.std.proofs.Common.{◌≡◌, ℕ, ◌+◌, ◌<◌, ◌≤◌, zero, suc, List, [], ◌∷◌, ◌++◌, length, drop, get_or, replicate, Option, refl, sym, ap, subst, ◌∙◌, append_assoc, append-nil, arith}
-use Rattle.std.specs.Prelude.{Bool, cond, sum_by, count_by, Result, Ok, Err, OnErr}
+use Rattle.std.specs.Prelude.{Bool, cond, sum_by, count_by}
 use Rattle.std.proofs.lemmas.List.{drop_more, drop_all, replicate_more}
 use Rattle.std.proofs.lemmas.List.Sums.{sum_by-append}
 use Rattle.ags_ports.specs.declared.events.Event.{Event}
@@ -12,7 +12,6 @@ use Rattle.ags_ports.specs.Step.{Steps}
 use Rattle.ags_ports.specs.Run.{Moment, last_state}
 use Rattle.ags_ports.proofs.RunLemmas.{run-append}
 use Rattle.ags_outside.specs.Sink.{appended, appended_nothing, appended_twice, WroteFront, wrote_nothing, front_of_wrote, front_in_first, front_in_second}
-use Rattle.ags_outside.specs.declared.sending.SendError.{SendError}
 use Rattle.ags_run.specs.declared.plain.Plain.{Plain}
 use Rattle.ags_run.specs.declared.plain.Plain.TheVariants.{Step, Pulse, Set, ShowReg, ShowCell, ShowOut}
 use Rattle.ags_run.specs.declared.playing.Played.{Played}

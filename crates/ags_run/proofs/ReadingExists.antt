@@ -1,102 +1,23 @@
 -- Each line has a reading, and only one.
-use Rattle.std.proofs.Common.{◌≡◌, ℕ, ◌<◌, ◌≤◌, Bool, true, cond, not, eqb, ◌⊎◌, List, [], ◌∷◌, length, get_or, refl, sym, ap, ◌∙◌, codes, inl, inr, arith}
-use Rattle.std.specs.List.{list_all, prefix_len}
-use Rattle.std.specs.Str.Parse.{AllDigits, digits_value}
-use Rattle.std.specs.Char.{digit_value}
-use Rattle.std.proofs.lemmas.Bool.{cases_Bool, cases_lt, cases_eq, true≢false}
+use Rattle.std.proofs.Common.{◌≡◌, ℕ, cond, eqb, ◌⊎◌, List, [], ◌∷◌, length, get_or, refl, sym, ap, ◌∙◌, codes, inl, inr, arith}
+use Rattle.std.specs.List.{list_all}
+use Rattle.std.specs.Str.Parse.{digits_value}
+use Rattle.std.proofs.lemmas.Bool.{cases_eq}
+use Rattle.ags_text.specs.Field.{is_blank, next_field}
 use Rattle.ags_text.specs.Line.{LineAt}
-use Rattle.ags_text.specs.Numeral.{Writes}
+use Rattle.ags_text.proofs.Deciding.{Decided, Found, decide_bool, decide_le, decide_list, decide_all, decide_number, decide_writes}
+use Rattle.ags_text.proofs.FieldLaws.{first_byte, blanks_none}
+use Rattle.ags_text.proofs.ReadingLemmas.{readings-exist, readings-one}
 use Rattle.ags_run.specs.declared.plain.Plain.{Plain}
 use Rattle.ags_run.specs.declared.plain.Plain.TheVariants.{Step, Pulse, Set, ShowReg, ShowCell, ShowOut}
 use Rattle.ags_run.specs.declared.reading.LineReading.{LineReading}
 use Rattle.ags_run.specs.declared.reading.LineReading.TheVariants.{Command, Skipped, Formless}
-use Rattle.ags_run.specs.Spelling.{is_blank, IsCount, Spells, IsSkipped}
-use Rattle.ags_run.specs.Field.{word_of, behind_blanks, next_field, first_field, second_field, third_field, behind_third, FieldsState}
+use Rattle.ags_run.specs.Spelling.{Spells, IsSkipped}
+use Rattle.ags_run.specs.Field.{first_field, second_field, third_field, behind_third, FieldsState}
 use Rattle.ags_run.specs.Reading.{IsReading, AreReadings}
-use Rattle.ags_run.proofs.FieldLemmas.{one-add, blanks_none}
 use Rattle.ags_run.proofs.ReadingLemmas.{line_from_fields, fields_from_line}
 
 -- What can be decided.
-
--- a fact holds, or it does not
-abbrev Decided : Type 0 → Type 0
-Decided P = P ⊎ (P → ⊥)
-
--- a number is not below one that it reaches
-not_both : (m n : ℕ) → m < n → n ≤ m → ⊥
-not_both m n lt le = omega arith
-
--- a test passes or fails
-decide_bool : (b : Bool) → Decided (b ≡ true)
-decide_bool b =
-    elim (cases_Bool b) [
-      | inl is ↦ inl is
-      | inr fails ↦ inr (λ is. true≢false (sym is ∙ fails))
-    ]
-
--- a number is at most another
-decide_le : (m n : ℕ) → Decided (m ≤ n)
-decide_le m n =
-    elim (cases_lt n m) [
-      | inl lt ↦ inr (λ le. not_both n m lt le)
-      | inr le ↦ inl le
-    ]
-
--- two numbers are one
-decide_eq : (m n : ℕ) → Decided (m ≡ n)
-decide_eq m n = cases_eq m n
-
--- two texts are one
-decide_list : (xs ys : List ℕ) → Decided (xs ≡ ys)
-decide_list [] [] = inl refl
-decide_list [] (y ∷ ys) = inr (λ same. cc)
-decide_list (x ∷ xs) [] = inr (λ same. cc)
-decide_list (x ∷ xs) (y ∷ ys) =
-    elim (cases_eq x y) [
-      | inr other ↦ inr (λ same. other (cc))
-      | inl first ↦ elim (decide_list xs ys) [
-        | inl rest ↦ inl (cc)
-        | inr others ↦ inr (λ same. others (cc))
-      ]
-    ]
-
--- each byte of a text is a digit
-decide_digits : (base : ℕ) (text : List ℕ) → Decided (AllDigits base text)
-decide_digits base [] = inl tt
-decide_digits base (b ∷ text) =
-    elim (cases_lt (digit_value b) base) [
-      | inr past ↦ inr (λ digits. not_both (digit_value b) base digits.0 past)
-      | inl digit ↦ elim (decide_digits base text) [
-        | inl digits ↦ inl (digit, digits)
-        | inr others ↦ inr (λ digits. others digits.1)
-      ]
-    ]
-
--- three facts hold together
-decide_all : (A B C : Type 0) → Decided A → Decided B → Decided C → Decided (A × B × C)
-decide_all A B C (inl a) (inl b) (inl c) = inl (a, b, c)
-decide_all A B C (inl a) (inl b) (inr fails) = inr (λ all. fails all.2)
-decide_all A B C (inl a) (inr fails) c = inr (λ all. fails all.1)
-decide_all A B C (inr fails) b c = inr (λ all. fails all.0)
-
--- a text is a count
-decide_count : (text : List ℕ) (count : ℕ) → Decided (IsCount text count)
-decide_count text count =
-    elim (cases_lt 0 (length text)) [
-      | inr none ↦ inr (λ is. not_both 0 (length text) is.digits.0 none)
-      | inl some ↦ elim (decide_all _ _ _ (decide_digits 10 text) (decide_le (length text) 9) (decide_eq count (digits_value 10 text))) [
-        | inl all ↦ inl (record { digits = (some, all.0); fits = all.1; value = all.2 })
-        | inr fails ↦ inr (λ is. fails (is.digits.1, is.fits, is.value))
-      ]
-    ]
-
--- octal digits write a number
-decide_octal : (width : ℕ) (text : List ℕ) (number : ℕ) → Decided (Writes 8 width text number)
-decide_octal width text number =
-    elim (decide_all _ _ _ (decide_eq (length text) width) (decide_digits 8 text) (decide_eq (digits_value 8 text) number)) [
-      | inl all ↦ inl (record { length = all.0; digits = all.1; value = all.2 })
-      | inr fails ↦ inr (λ is. fails (is.length, is.digits, is.value))
-    ]
 
 -- a line is skipped
 decide_skipped : (line : List ℕ) → Decided (IsSkipped line)
@@ -114,12 +35,12 @@ decide_skipped line =
 
 -- three fields state a command
 decide_state : (first second third : List ℕ) (command : Plain) → Decided (FieldsState first second third command)
-decide_state first second third (Step count) = decide_all _ _ _ (decide_list first (codes "STEP")) (decide_count second count) (decide_list third [])
+decide_state first second third (Step count) = decide_all _ _ _ (decide_list first (codes "STEP")) (decide_number 10 9 second count) (decide_list third [])
 decide_state first second third Pulse = decide_all _ _ _ (decide_list first (codes "PULSE")) (decide_list second []) (decide_list third [])
-decide_state first second third (Set address word) = decide_all _ _ _ (decide_list first (codes "SET")) (decide_octal 4 second address) (decide_octal 6 third word)
+decide_state first second third (Set address word) = decide_all _ _ _ (decide_list first (codes "SET")) (decide_writes 8 4 second address) (decide_writes 8 6 third word)
 decide_state first second third ShowReg = decide_all _ _ _ (decide_list first (codes "SHOW")) (decide_list second (codes "REG")) (decide_list third [])
-decide_state first second third (ShowCell address) = decide_all _ _ _ (decide_list first (codes "SHOW")) (decide_list second (codes "CELL")) (decide_octal 4 third address)
-decide_state first second third (ShowOut address) = decide_all _ _ _ (decide_list first (codes "SHOW")) (decide_list second (codes "OUT")) (decide_octal 4 third address)
+decide_state first second third (ShowCell address) = decide_all _ _ _ (decide_list first (codes "SHOW")) (decide_list second (codes "CELL")) (decide_writes 8 4 third address)
+decide_state first second third (ShowOut address) = decide_all _ _ _ (decide_list first (codes "SHOW")) (decide_list second (codes "OUT")) (decide_writes 8 4 third address)
 
 -- ---- the one command that fields can state
 
@@ -144,7 +65,7 @@ pub one_command : (first second third : List ℕ) (one other : Plain) → Fields
 one_command first second third one other states too = told_is first second third one states ∙ sym (told_is first second third other too)
 
 -- fields state a command, or none
-state_found : (first second third : List ℕ) → ((command : Plain) × FieldsState first second third command) ⊎ ((command : Plain) → FieldsState first second third command → ⊥)
+state_found : (first second third : List ℕ) → Found Plain (λ command. FieldsState first second third command)
 state_found first second third =
     elim (decide_state first second third (told first second third)) [
       | inl is ↦ inl (told first second third, is)
@@ -152,7 +73,7 @@ state_found first second third =
     ]
 
 -- a line spells a command, or none
-command_found : (line : List ℕ) → ((command : Plain) × Spells line command) ⊎ ((command : Plain) → Spells line command → ⊥)
+command_found : (line : List ℕ) → Found Plain (λ command. Spells line command)
 command_found line =
     elim (decide_le (length line) 512) [
       | inr long ↦ inr (λ command spells. long spells.most)
@@ -178,9 +99,8 @@ first_letter first second third (ShowOut address) states = inl (rw (states.0) re
 
 -- a line that begins with a number sign has a first field that does
 sign_field : (line : List ℕ) → get_or line 0 0 ≡ 35 → get_or (next_field line) 0 0 ≡ 35
-unfolding next_field word_of behind_blanks
 sign_field [] sign = absurd (omega arith)
-sign_field (b ∷ line) sign = let at : b ≡ 35 = sign in rw (at, one-add (prefix_len (λ x. not (is_blank x)) line)) refl
+sign_field (b ∷ line) sign = let at : b ≡ 35 = sign in rw (at) (first_byte 35 line refl)
 
 skipped_letter : (line : List ℕ) → IsSkipped line → (get_or (next_field line) 0 0 ≡ 35) ⊎ (get_or (next_field line) 0 0 ≡ 0)
 skipped_letter line is =
@@ -231,20 +151,8 @@ one_reading line Formless Formless first second = refl
 
 -- lines have readings
 pub readings_exist : (lines : List LineAt) → (readings : List LineReading) × AreReadings lines readings
-readings_exist [] = ([], tt)
-readings_exist (line ∷ lines) =
-    let first = reading_exists line.bytes in
-    let rest = readings_exist lines in
-    (first.0 ∷ rest.0, (first.1, rest.1))
+readings_exist = readings-exist IsReading reading_exists
 
 -- and only these
 pub one_readings : (lines : List LineAt) (one other : List LineReading) → AreReadings lines one → AreReadings lines other → one ≡ other
-one_readings [] [] [] first second = refl
-one_readings [] [] (read ∷ others) first second = absurd second
-one_readings [] (read ∷ readings) other first second = absurd first
-one_readings (line ∷ lines) [] other first second = absurd first
-one_readings (line ∷ lines) (read ∷ readings) [] first second = absurd second
-one_readings (line ∷ lines) (read ∷ readings) (too ∷ others) first second =
-    let same = one_reading line.bytes read too first.0 second.0 in
-    let rest = one_readings lines readings others first.1 second.1 in
-    ap (λ x. x ∷ readings) same ∙ ap (λ xs. too ∷ xs) rest
+one_readings = readings-one IsReading one_reading

@@ -1,51 +1,32 @@
 -- What the fields of a line state is what the line states.
-use Rattle.std.proofs.Common.{◌≡◌, ℕ, ◌+◌, ◌<◌, Bool, true, false, eqb, not, List, [], ◌∷◌, length, refl, sym, ap, codes, inl, inr, ◌∙◌, arith}
-use Rattle.std.specs.List.{list_all}
-use Rattle.std.specs.Prelude.{nat_lt}
-use Rattle.std.specs.Str.Parse.{AllDigits}
-use Rattle.std.specs.Char.{digit_value}
-use Rattle.std.proofs.lemmas.Bool.{cases_Bool, and_parts, and_from, or_cases, eqb-true, lt-ltb, true≢false}
-use Rattle.ags_text.specs.Numeral.{Writes}
+use Rattle.std.proofs.Common.{ℕ, ◌+◌, ◌<◌, List, [], ◌∷◌, length, refl, codes, arith}
+use Rattle.ags_text.specs.Field.{HasNoBlank, IsField, AreSome, AreCut, HasFields, behind_field}
+use Rattle.ags_text.specs.Numeral.{IsDecimal, Writes}
+use Rattle.ags_text.proofs.FieldLaws.{standing_cut, cut_standing, blanks_none, none_blank, number_field, writes_field}
 use Rattle.ags_run.specs.declared.plain.Plain.{Plain}
 use Rattle.ags_run.specs.declared.plain.Plain.TheVariants.{Step, Pulse, Set, ShowReg, ShowCell, ShowOut}
-use Rattle.ags_run.specs.Spelling.{is_blank, IsCount, States}
-use Rattle.ags_run.specs.Field.{behind_field, second_field, third_field, StatesByFields}
-use Rattle.ags_run.proofs.FieldLemmas.{HasNoBlank, blanks_none, none_blank, has_are, are_has}
+use Rattle.ags_run.specs.Spelling.{States}
+use Rattle.ags_run.specs.Field.{second_field, third_field, StatesByFields}
 
--- Bytes that pass a test which no blank passes are no blanks.
+-- Fields.
 
--- one byte
-no_blank_byte : (p : ℕ → Bool) → p 32 ≡ false → p 9 ≡ false → (b : ℕ) → p b ≡ true → not (is_blank b) ≡ true
-no_blank_byte p space tab b is =
-    elim (cases_Bool (is_blank b)) [
-      | inl blank ↦ absurd (elim (or_cases (eqb b 32) (eqb b 9) blank) [
-        | inl at ↦ true≢false (sym is ∙ ap p (eqb-true b 32 at) ∙ space)
-        | inr at ↦ true≢false (sym is ∙ ap p (eqb-true b 9 at) ∙ tab)
-      ])
-      | inr mark ↦ rw (mark) refl
-    ]
+-- a name is one
+named : (text : List ℕ) → 0 < length text → HasNoBlank text → IsField text
+named text some marks = record { some = some; marks = marks }
 
--- a text of them
-no_blank_text : (p : ℕ → Bool) → p 32 ≡ false → p 9 ≡ false → (text : List ℕ) → list_all p text ≡ true → HasNoBlank text
-no_blank_text p space tab [] all = refl
-no_blank_text p space tab (b ∷ text) all =
-    let parts = and_parts (p b) (list_all p text) all in
-    and_from _ _ (no_blank_byte p space tab b parts.0) (no_blank_text p space tab text parts.1)
-
--- digits are tested digits
-all_digits : (base : ℕ) (text : List ℕ) → AllDigits base text → list_all (λ b. nat_lt (digit_value b) base) text ≡ true
-all_digits base [] digits = refl
-all_digits base (b ∷ text) digits = and_from _ _ (lt-ltb (digit_value b) base digits.0) (all_digits base text digits.1)
-
--- a count and octal digits are fields
-count_word : (text : List ℕ) (count : ℕ) → IsCount text count → (0 < length text) × HasNoBlank text
-count_word text count is = (is.digits.0, no_blank_text (λ b. nat_lt (digit_value b) 10) refl refl text (all_digits 10 text is.digits.1))
+-- a count and octal digits are
+count_field : (text : List ℕ) (count : ℕ) → IsDecimal 9 text count → IsField text
+count_field text count is = number_field 10 9 text count (omega arith) is
 
 octal_some : (more : ℕ) (text : List ℕ) (number : ℕ) → Writes 8 (1 + more) text number → 0 < length text
 octal_some more text number is = omega (arith, is.length)
 
-octal_word : (more : ℕ) (text : List ℕ) (number : ℕ) → Writes 8 (1 + more) text number → (0 < length text) × HasNoBlank text
-octal_word more text number is = (octal_some more text number is, no_blank_text (λ b. nat_lt (digit_value b) 8) refl refl text (all_digits 8 text is.digits))
+octal_field : (more : ℕ) (text : List ℕ) (number : ℕ) → Writes 8 (1 + more) text number → IsField text
+octal_field more text number is = writes_field 8 (1 + more) text number (omega arith) (omega arith) is
+
+-- what is cut makes the line
+are_has : (fields : List (List ℕ)) (line : List ℕ) → AreSome fields → AreCut fields line → HasFields line fields
+are_has fields line some are = (cut_standing line fields some are).1
 
 -- what the fields state, the line states
 pub line_from_fields : (line : List ℕ) (command : Plain) → StatesByFields line command → States line command
@@ -77,24 +58,24 @@ line_from_fields line (ShowOut address) states =
 -- what the line states, its fields state
 pub fields_from_line : (line : List ℕ) (command : Plain) → States line command → StatesByFields line command
 fields_from_line line (Step count) states =
-    let are = has_are (codes "STEP" ∷ states.0 ∷ []) line ((omega arith, refl), (count_word states.0 count states.1, tt)) states.2 in
+    let are = standing_cut line (codes "STEP" ∷ states.0 ∷ []) (named (codes "STEP") (omega arith) refl, (count_field states.0 count states.1, tt)) states.2 in
     let none = blanks_none (behind_field (behind_field line)) are.1.1 in
     ((are.0, rw (are.1.0) states.1, none.0), none.1)
 fields_from_line line Pulse states =
-    let are = has_are (codes "PULSE" ∷ []) line ((omega arith, refl), tt) states in
+    let are = standing_cut line (codes "PULSE" ∷ []) (named (codes "PULSE") (omega arith) refl, tt) states in
     let none = blanks_none (behind_field line) are.1 in
     let further = blanks_none (behind_field (behind_field line)) none.1 in
     ((are.0, none.0, further.0), further.1)
 fields_from_line line (Set address word) states =
-    let are = has_are (codes "SET" ∷ states.0 ∷ states.1 ∷ []) line ((omega arith, refl), (octal_word 3 states.0 address states.2, (octal_word 5 states.1 word states.3, tt))) states.4 in
+    let are = standing_cut line (codes "SET" ∷ states.0 ∷ states.1 ∷ []) (named (codes "SET") (omega arith) refl, (octal_field 3 states.0 address states.2, (octal_field 5 states.1 word states.3, tt))) states.4 in
     ((are.0, rw (are.1.0) states.2, rw (are.1.1.0) states.3), are.1.1.1)
 fields_from_line line ShowReg states =
-    let are = has_are (codes "SHOW" ∷ codes "REG" ∷ []) line ((omega arith, refl), ((omega arith, refl), tt)) states in
+    let are = standing_cut line (codes "SHOW" ∷ codes "REG" ∷ []) (named (codes "SHOW") (omega arith) refl, (named (codes "REG") (omega arith) refl, tt)) states in
     let none = blanks_none (behind_field (behind_field line)) are.1.1 in
     ((are.0, are.1.0, none.0), none.1)
 fields_from_line line (ShowCell address) states =
-    let are = has_are (codes "SHOW" ∷ codes "CELL" ∷ states.0 ∷ []) line ((omega arith, refl), ((omega arith, refl), (octal_word 3 states.0 address states.1, tt))) states.2 in
+    let are = standing_cut line (codes "SHOW" ∷ codes "CELL" ∷ states.0 ∷ []) (named (codes "SHOW") (omega arith) refl, (named (codes "CELL") (omega arith) refl, (octal_field 3 states.0 address states.1, tt))) states.2 in
     ((are.0, are.1.0, rw (are.1.1.0) states.1), are.1.1.1)
 fields_from_line line (ShowOut address) states =
-    let are = has_are (codes "SHOW" ∷ codes "OUT" ∷ states.0 ∷ []) line ((omega arith, refl), ((omega arith, refl), (octal_word 3 states.0 address states.1, tt))) states.2 in
+    let are = standing_cut line (codes "SHOW" ∷ codes "OUT" ∷ states.0 ∷ []) (named (codes "SHOW") (omega arith) refl, (named (codes "OUT") (omega arith) refl, (octal_field 3 states.0 address states.1, tt))) states.2 in
     ((are.0, are.1.0, rw (are.1.1.0) states.1), are.1.1.1)

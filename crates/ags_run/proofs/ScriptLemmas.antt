@@ -10,6 +10,7 @@ use Rattle.std.specs.Prelude.{Result, Ok, Err, IfOk, IfErr, IsOkAnd, IsErrOf, Ve
 use Rattle.std.specs.Global.{Global}
 use Rattle.ags_text.specs.Fault.{first_fault, first_fault-nil, first_fault-faulty, first_fault-faultless}
 use Rattle.ags_text.specs.Line.{LineAt, Follow, lines_of}
+use Rattle.ags_text.proofs.ReadingLemmas.{readings-append, readings-push}
 use Rattle.ags_ports.specs.declared.machines.Machine.{Machine}
 use Rattle.ags_run.specs.declared.plain.Plain.{Plain}
 use Rattle.ags_run.specs.declared.plain.Plain.TheVariants.{Step, Pulse, Set, ShowReg, ShowCell, ShowOut}
@@ -87,19 +88,6 @@ commands-push (Command command ∷ readings) reading = ap (λ (rest : List Plain
 commands-push (Skipped ∷ readings) reading = commands-push readings reading
 commands-push (Formless ∷ readings) reading = commands-push readings reading
 
-AreReadings-push : (lines : List LineAt) (readings : List LineReading) (line : LineAt) (reading : LineReading) → AreReadings lines readings → IsReading line.bytes reading
-    → AreReadings (lines ++ line ∷ []) (readings ++ reading ∷ [])
-AreReadings-push [] [] line reading are is = (is, tt)
-AreReadings-push [] (one ∷ readings) line reading are is = absurd are
-AreReadings-push (first ∷ lines) [] line reading are is = absurd are
-AreReadings-push (first ∷ lines) (one ∷ readings) line reading are is = (are.0, AreReadings-push lines readings line reading are.1 is)
-
-AreReadings-append : (lines more : List LineAt) (readings others : List LineReading) → AreReadings lines readings → AreReadings more others → AreReadings (lines ++ more) (readings ++ others)
-AreReadings-append [] more [] others are rest = rest
-AreReadings-append [] more (one ∷ readings) others are rest = absurd are
-AreReadings-append (first ∷ lines) more [] others are rest = absurd are
-AreReadings-append (first ∷ lines) more (one ∷ readings) others are rest = (are.0, AreReadings-append lines more readings others are.1 rest)
-
 -- ---- the loop over the lines
 
 -- Of a text's lines, so many are read without a fault, with these commands and so many steps, and these are left.
@@ -156,7 +144,7 @@ SoFar-more machine text left commands number steps now line reading so is fault 
       readings = so.readings ++ reading ∷ [];
       before = reading ∷ so.before;
       whole = so.whole ∙ sym (append_assoc so.front (line ∷ []) left);
-      are = AreReadings-push so.front so.readings line reading so.are is;
+      are = readings-push IsReading so.front so.readings line reading so.are is;
       on = λ rest. rw append_assoc (so.on (reading ∷ rest) ∙ first_fault-faultless (line_fault machine) so.before reading rest here);
       steps_are = omega (arith, now_is, so.steps_are, sum_by-cons reading_steps reading so.before);
       most = rw (now_is) (reading_most machine steps reading so.most fault);
@@ -193,7 +181,7 @@ SoFar-fault machine text left commands number steps line reading kind so is faul
     let rest = readings_exist left in
     record {
       readings = so.readings ++ reading ∷ rest.0;
-      are_readings = rw so.whole (AreReadings-append so.front (line ∷ left) so.readings (reading ∷ rest.0) so.are (is, rest.1));
+      are_readings = rw so.whole (readings-append IsReading so.front (line ∷ left) so.readings (reading ∷ rest.0) so.are (is, rest.1));
       first = so.on (reading ∷ rest.0) ∙ rw so.so_many (first_fault-faulty (line_fault machine) so.before reading rest.0 kind here);
     }
 

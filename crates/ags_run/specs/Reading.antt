@@ -1,6 +1,7 @@
 -- What the lines of a script are read as.
-use Rattle.std.specs.Prelude.{ℕ, List, [], ◌∷◌, Option, Some, None}
+use Rattle.std.specs.Prelude.{ℕ, List, Option, Some, None}
 use Rattle.ags_text.specs.Line.{LineAt}
+use Rattle.ags_text.specs.Reading.{AreReadingsBy}
 use Rattle.ags_run.specs.declared.plain.Plain.{Plain}
 use Rattle.ags_run.specs.declared.reading.LineReading.{LineReading}
 use Rattle.ags_run.specs.declared.reading.LineReading.TheVariants.{Command, Skipped, Formless}
@@ -15,10 +16,7 @@ IsReading line Formless = ((command : Plain) → Spells line command → ⊥) ×
 
 -- the readings of lines, one for each
 abbrev pub AreReadings : List LineAt → List LineReading → Type 0
-AreReadings [] [] = Unit {0}
-AreReadings (line ∷ lines) (reading ∷ readings) = IsReading line.bytes reading × AreReadings lines readings
-AreReadings [] (reading ∷ readings) = ⊥
-AreReadings (line ∷ lines) [] = ⊥
+AreReadings lines readings = AreReadingsBy IsReading lines readings
 
 -- the command of a reading, where it has one
 abbrev pub command_of : LineReading → Option Plain

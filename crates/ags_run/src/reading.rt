@@ -5,9 +5,10 @@ ghost use Rattle.ags_run.specs.Spelling.{IsSkipped, Spells};
 ghost use Rattle.ags_run.specs.Field.{FieldsState, StatesByFields};
 ghost use Rattle.ags_run.specs.Reading.{IsReading};
 
-use crate::fields::{are_blanks, split_fields};
-use crate::numbers::{read_address, read_count, read_word};
+use crate::fields::split_fields;
+use crate::numbers::{read_address, read_word};
 use crate::plain::Plain;
+use ags_text::{are_blanks, read_decimal};
 
 /// The most bytes of a line.
 const MOST_BYTES: usize = 512;
@@ -42,7 +43,7 @@ fn step_command(second: &[u8], third: &[u8]) -> Option<Plain>
     if !third.is_empty() {
         return None;
     }
-    let Some(count) = read_count(second) else {
+    let Some(count) = read_decimal(second) else {
         return None;
     };
     Some(Plain::Step(count))
