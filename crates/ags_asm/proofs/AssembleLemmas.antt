@@ -77,6 +77,13 @@ assembled text cards placed so places is words =
       cards = is ∙ rw (asked_are (lines_of text) cards so, so.cards_are) (place_cards-source (lines_of text) (bodies so.readings) (definitions (bodies so.readings)) so.one_each);
     }
 
+-- the places and words of the placed cards are what the text defines
+pub defines_placed : (text : List ℕ) (cards : List SourceCard) (placed : List Placed) → AreRead (lines_of text) cards → first_fault place_fault [] (asked cards) ≡ None
+    → placed ≡ place_cards cards (definitions (asked cards)) → first_fault word_fault [] (map defined placed) ≡ None → Defines text (map defined placed)
+unfolding assembled
+defines_placed text cards placed so places is words =
+    rw (defined_are (lines_of text) cards placed so is) (assembled text cards placed so places is words).defines
+
 pub refused_cards : (text : List ℕ) (error : AssembleError) → AreMisread (lines_of text) error → IsRefused text error
 refused_cards text (Source error) so = record { readings = so.0; are_readings = so.1; first = rw so.2 refl }
 refused_cards text NoMemory so = tt
@@ -102,19 +109,19 @@ one_error error other same =
     let pairs : (error.card, error.kind) ≡ (other.card, other.kind) = cc in
     ap (λ (p : ℕ × SourceKind). record { card = p.0; kind = p.1 }) pairs
 
-not_both : (text : List ℕ) (defined : List (Option (ℕ × ℕ))) (error : SourceError) → Defines text defined → IsFaulty text error → ⊥
+pub not_both : (text : List ℕ) (defined : List (Option (ℕ × ℕ))) (error : SourceError) → Defines text defined → IsFaulty text error → ⊥
 not_both text defined error defines faulty =
     let same = one_readings (lines_of text) defines.readings faulty.readings defines.are_readings faulty.are_readings in
     let none : source_fault faulty.readings ≡ None = rw (← same) defines.faultless in
     let some = faulty.first in
     cc
 
-one_meaning : (text : List ℕ) (defined other : List (Option (ℕ × ℕ))) → Defines text defined → Defines text other → defined ≡ other
+pub one_meaning : (text : List ℕ) (defined other : List (Option (ℕ × ℕ))) → Defines text defined → Defines text other → defined ≡ other
 one_meaning text defined other one two =
     let same = one_readings (lines_of text) one.readings two.readings one.are_readings two.are_readings in
     one.words ∙ rw same (sym two.words)
 
-one_fault : (text : List ℕ) (error other : SourceError) → IsFaulty text error → IsFaulty text other → error ≡ other
+pub one_fault : (text : List ℕ) (error other : SourceError) → IsFaulty text error → IsFaulty text other → error ≡ other
 one_fault text error other one two =
     let same = one_readings (lines_of text) one.readings two.readings one.are_readings two.are_readings in
     one_error error other (sym one.first ∙ rw same two.first)

@@ -1,3 +1,4 @@
+pub mod ApartLemmas
 pub mod AssembleLemmas
 pub mod CardLemmas
 pub mod ListLemmas

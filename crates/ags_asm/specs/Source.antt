@@ -1,6 +1,6 @@
 -- What a source means: the cards that its lines spell, its first fault, and the words that it defines.
-use Rattle.std.specs.Prelude.{◌≡◌, ℕ, ◌+◌, ◌≤◌, Bool, false, ◌&&◌, if◌then◌else◌, List, [], ◌∷◌, length, Option, Some, None, option_map, is_some}
-use Rattle.std.specs.List.{list_any, filter_map}
+use Rattle.std.specs.Prelude.{◌≡◌, ℕ, ◌+◌, ◌≤◌, Bool, false, ◌&&◌, if◌then◌else◌, List, [], ◌∷◌, ◌++◌, length, Option, Some, None, option_map, is_some}
+use Rattle.std.specs.List.{Contains, list_any, filter_map}
 use Rattle.ags_text.specs.Fault.{first_fault}
 use Rattle.ags_text.specs.Line.{LineAt, lines_of}
 use Rattle.ags_text.specs.Reading.{AreReadingsBy}
@@ -89,3 +89,8 @@ IsRefused text NoMemory = Unit {0}
 abbrev pub AreSpans : (from len : ℕ) → List Placed → Type 0
 AreSpans from len [] = Unit {0}
 AreSpans from len (card ∷ cards) = (from ≤ card.start) × (card.start ≤ card.end) × (card.end ≤ len) × AreSpans (card.end + 1) len cards
+
+-- No card's word stands where an earlier one's does.
+abbrev pub EachPlaceOnce : List (Option (ℕ × ℕ)) → Type 0
+EachPlaceOnce defined = (front rest : List (Option (ℕ × ℕ))) (place word : ℕ) → defined ≡ front ++ Some (place, word) ∷ rest
+    → (other : ℕ) → Contains front (Some (place, other)) → ⊥

@@ -1,10 +1,10 @@
 //! The assembler: the phases, one after the other.
 
-ghost use Rattle.std.specs.Prelude.{◌≡◌, ◌≤◌, ◌⊎◌, ℕ, List, Option, length, All, OnOk, IfOk, IfErr, IsOkAnd, IsErrOf};
+ghost use Rattle.std.specs.Prelude.{◌≡◌, ◌≤◌, ◌⊎◌, ℕ, List, Option, length, map, All, OnOk, IfOk, IfErr, IsOkAnd, IsErrOf};
 ghost use Rattle.ags_text.specs.Line.{Follow, lines_of};
 ghost use Rattle.ags_asm.specs.declared.source_error.SourceError.{SourceError};
 ghost use Rattle.ags_asm.specs.Source.{AreSpans, Defines, IsAssembled, IsFaulty, IsRefused, placed_cards};
-ghost use Rattle.ags_asm.specs.Phase.{IsInMemory};
+ghost use Rattle.ags_asm.specs.Phase.{IsInMemory, defined};
 
 use crate::cards::read_cards;
 use crate::placed::Placed;
@@ -17,6 +17,7 @@ use std::alloc::Global;
 fn run_phases(alloc: Global, bytes: &[u8]) -> Result<Vec<Placed>, AssembleError>
     requires { length bytes.now ≤ 4194304 }
     ensures assembled { IfOk result (λ placed. IsAssembled bytes.now placed.items) }
+    ensures defines { IfOk result (λ placed. Defines bytes.now (map defined placed.items)) }
     ensures refused { IfErr result (IsRefused bytes.now) }
     ensures within { IfOk result (λ placed. All IsInMemory placed.items) }
     ensures follow { OnOk result (Follow bytes.now 0 (lines_of bytes.now)) }
@@ -33,13 +34,15 @@ fn run_phases(alloc: Global, bytes: &[u8]) -> Result<Vec<Placed>, AssembleError>
 /// any source, and says nothing of it.
 pub fn assemble(alloc: Global, bytes: &[u8]) -> Result<Vec<Placed>, AssembleError>
     requires { length bytes.now ≤ 4194304 }
-    // It is a source without a fault, and these are its cards; or its first fault is this one.
+    // It is a source without a fault, and these are its cards, whose places and words are those that it defines; or its
+    // first fault is this one.
     ensures assembled { IfOk result (λ placed. IsAssembled bytes.now placed.items) }
+    ensures defines { IfOk result (λ placed. Defines bytes.now (map defined placed.items)) }
     ensures refused { IfErr result (IsRefused bytes.now) }
 
     // A source without a fault is assembled, and one with a fault is refused for it, unless memory runs out.
-    ensures faultless { (defined : List (Option (ℕ × ℕ))) → Defines bytes.now defined
-        → IsOkAnd result (λ placed. placed.items ≡ placed_cards (lines_of bytes.now) defined)
+    ensures faultless { (words : List (Option (ℕ × ℕ))) → Defines bytes.now words
+        → IsOkAnd result (λ placed. placed.items ≡ placed_cards (lines_of bytes.now) words)
         ⊎ IsErrOf result AssembleError.NoMemory }
     ensures faulty { (error : SourceError) → IsFaulty bytes.now error
         → IsErrOf result (AssembleError.Source error) ⊎ IsErrOf result AssembleError.NoMemory }

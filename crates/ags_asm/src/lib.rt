@@ -13,6 +13,7 @@ mod reading;
 mod reading_laws;
 mod source_card;
 mod source_error;
+mod source_laws;
 #[cfg(test)]
 mod tests;
 mod words;
@@ -22,3 +23,4 @@ pub use card::Body;
 pub use placed::Placed;
 pub use reading_laws::{each_line_has_a_reading, no_line_has_two_readings};
 pub use source_error::{AssembleError, SourceError, SourceKind};
+pub use source_laws::{source_defines_each_place_once, source_means_one_thing};

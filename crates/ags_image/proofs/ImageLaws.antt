@@ -6,11 +6,16 @@
 --     entry_at-other, word_at-other           every other location stays as it was
 --     length-with_word, IsImage-with_word     an image that is given a word is an image of as many locations
 --     image_same                              images with the same entry at each location are one
-use Rattle.std.proofs.Common.{◌≡◌, ◌≢◌, ℕ, ◌<◌, ◌^◌, List, Option, Some, None, length, sym, ◌∙◌, ⊎_elim, arith}
-use Rattle.std.proofs.lemmas.Bool.{cases_lt}
+--     image_of_nothing                        the image without a word is that of no words
+--     image_of_none_more, image_of_word_more  what it is of one word more
+--     one_image                               words have one image
+use Rattle.std.proofs.Common.{◌≡◌, ◌≢◌, ℕ, ◌<◌, ◌^◌, List, [], ◌∷◌, ◌++◌, Option, Some, None, length, refl, sym, ap, ◌∙◌, ⊎_elim, inl, inr, arith}
+use Rattle.std.specs.List.{Contains}
+use Rattle.std.proofs.lemmas.Bool.{cases_lt, cases_eq}
 use Rattle.std.proofs.lemmas.Grind.{common_steps}
 use Rattle.std.proofs.lemmas.List.{get_or-set_same, get_or-set_other, get_or_past, get_or_default, length-set, length-replicate, get_or-replicate, same_lists}
-use Rattle.ags_image.specs.Image.{memory_size, no_words, entry_at, word_at, with_word, IsImage}
+use Rattle.std.proofs.lemmas.List.Elements.{Contains-append_left, Contains-push, Contains-push_cases}
+use Rattle.ags_image.specs.Image.{memory_size, no_words, entry_at, word_at, with_word, IsImage, IsImageOf}
 
 -- ---- no word
 
@@ -77,3 +82,79 @@ unfolding entry_at
 image_same left right is_left is_right same = same_lists left right (is_left.whole ∙ sym is_right.whole)
     (λ location entry inside.
     get_or_default left location entry None inside ∙ same location (rw (sym is_left.whole) inside) ∙ get_or_default right location None entry (rw (is_right.whole, sym is_left.whole) inside))
+
+-- ---- the image of words
+
+pub image_of_nothing : IsImageOf [] no_words
+image_of_nothing = record {
+  is_image = IsImage-no_words;
+  from_words = λ location word is. let none = entry_at-no_words location in absurd cc;
+  has_words = λ location word is. absurd (omega (arith, is.1));
+}
+
+-- where nothing is added, each word is one of those before
+none_more : (words : List (Option (ℕ × ℕ))) (location word : ℕ) → Contains (words ++ None ∷ []) (Some (location, word)) → Contains words (Some (location, word))
+none_more words location word is = elim (Contains-push_cases words None (Some (location, word)) is) [ inl before ↦ before | inr last ↦ absurd cc ]
+
+pub image_of_none_more : (words : List (Option (ℕ × ℕ))) (image : List (Option ℕ)) → IsImageOf words image → IsImageOf (words ++ None ∷ []) image
+image_of_none_more words image of = record {
+  is_image = of.is_image;
+  from_words = λ location word is. Contains-append_left words (None ∷ []) (Some (location, word)) (of.from_words location word is);
+  has_words = λ location word is. of.has_words location word (none_more words location word is);
+}
+
+-- what an image holds once a word more is set
+from_word_more : (words : List (Option (ℕ × ℕ))) (image : List (Option ℕ)) (at given : ℕ) → at < memory_size → IsImageOf words image
+    → (location word : ℕ) → entry_at (with_word image at given) location ≡ Some word → Contains (words ++ Some (at, given) ∷ []) (Some (location, word))
+from_word_more words image at given within of location word is =
+    elim (cases_eq location at) [
+      | inl same ↦
+          let set = entry_at-set image at given (rw of.is_image.whole within) in
+          let here : entry_at (with_word image at given) at ≡ Some word = rw same at is in
+          let value : given ≡ word = cc in
+          rw (same, ← value) (Contains-push words (Some (at, given)))
+      | inr apart ↦
+          Contains-append_left words (Some (at, given) ∷ []) (Some (location, word))
+              (of.from_words location word (sym (entry_at-other image at location given apart) ∙ is))
+    ]
+
+-- and which of the words it holds
+has_word_more : (words : List (Option (ℕ × ℕ))) (image : List (Option ℕ)) (at given : ℕ) → at < memory_size → IsImageOf words image
+    → ((other : ℕ) → Contains words (Some (at, other)) → other ≡ given)
+    → (location word : ℕ) → Contains (words ++ Some (at, given) ∷ []) (Some (location, word)) → entry_at (with_word image at given) location ≡ Some word
+has_word_more words image at given within of apart location word is =
+    let set = entry_at-set image at given (rw of.is_image.whole within) in
+    elim (Contains-push_cases words (Some (at, given)) (Some (location, word)) is) [
+      | inr last ↦
+          let pairs : (at, given) ≡ (location, word) = cc in
+          let place : at ≡ location = ap (λ (p : ℕ × ℕ). p.0) pairs in
+          let value : given ≡ word = ap (λ (p : ℕ × ℕ). p.1) pairs in
+          rw (← place, ← value) set
+      | inl before ↦ elim (cases_eq location at) [
+        | inl same ↦
+            let value : word ≡ given = apart word (rw same at before) in
+            rw (same, value) set
+        | inr other ↦ entry_at-other image at location given other ∙ of.has_words location word before
+      ]
+    ]
+
+pub image_of_word_more : (words : List (Option (ℕ × ℕ))) (image : List (Option ℕ)) (at given : ℕ) → at < memory_size → given < 2 ^ 18 → IsImageOf words image
+    → ((other : ℕ) → Contains words (Some (at, other)) → other ≡ given) → IsImageOf (words ++ Some (at, given) ∷ []) (with_word image at given)
+image_of_word_more words image at given within below of apart = record {
+  is_image = IsImage-with_word image at given of.is_image below;
+  from_words = from_word_more words image at given within of;
+  has_words = has_word_more words image at given within of apart;
+}
+
+-- two images of the same words have the same entries
+entry_same : (words : List (Option (ℕ × ℕ))) (one other : List (Option ℕ)) → IsImageOf words one → IsImageOf words other → (location : ℕ) (entry : Option ℕ)
+    → entry_at one location ≡ entry → entry ≡ entry_at other location
+entry_same words one other of too location (Some word) is = sym (too.has_words location word (of.from_words location word is))
+entry_same words one other of too location None is = none_too (entry_at other location) refl
+  where
+    none_too : (found : Option ℕ) → entry_at other location ≡ found → None ≡ entry_at other location
+    none_too None found_is = sym found_is
+    none_too (Some word) found_is = let some = of.has_words location word (too.from_words location word found_is) in absurd cc
+
+pub one_image : (words : List (Option (ℕ × ℕ))) (one other : List (Option ℕ)) → IsImageOf words one → IsImageOf words other → one ≡ other
+one_image words one other of too = image_same one other of.is_image too.is_image (λ location within. entry_same words one other of too location (entry_at one location) refl)

@@ -1,6 +1,7 @@
 -- What an assembly puts into the machine's memory: for each location a word or none, as a list in the order of the
 -- locations.
 use Rattle.std.specs.Prelude.{◌≡◌, ℕ, ◌<◌, ◌^◌, List, Option, Some, None, length, get_or, replicate, slice_set, unwrap_or}
+use Rattle.std.specs.List.{Contains}
 
 -- how many locations the memory has
 abbrev pub memory_size : ℕ
@@ -26,3 +27,10 @@ with_word image location word = slice_set image location (Some word)
 pub record IsImage (image : List (Option ℕ)) : Type 0 where
   pub whole : length image ≡ memory_size
   pub words : (location : ℕ) → word_at image location < 2 ^ 18
+
+-- The image has exactly these words at these locations, of which some may be left out: each word in it is one of them,
+-- and each of them is in it.
+pub record IsImageOf (words : List (Option (ℕ × ℕ))) (image : List (Option ℕ)) : Type 0 where
+  pub is_image : IsImage image
+  pub from_words : (location word : ℕ) → entry_at image location ≡ Some word → Contains words (Some (location, word))
+  pub has_words : (location word : ℕ) → Contains words (Some (location, word)) → entry_at image location ≡ Some word

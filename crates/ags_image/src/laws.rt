@@ -1,8 +1,9 @@
 //! How the definitions meet, for the crates above. Each law is what a function that does nothing ensures, so that it is
 //! proved with the crate. Behind each clause is a lemma of `proofs/ImageLaws`.
 
-ghost use Rattle.std.specs.Prelude.{◌≡◌, ◌≢◌, ℕ, ◌<◌, ◌^◌, List, Option, Some, None, length};
-ghost use Rattle.ags_image.specs.Image.{memory_size, no_words, entry_at, word_at, with_word, IsImage};
+ghost use Rattle.std.specs.Prelude.{◌≡◌, ◌≢◌, ℕ, ◌<◌, ◌^◌, ◌++◌, List, [], ◌∷◌, Option, Some, None, length};
+ghost use Rattle.std.specs.List.{Contains};
+ghost use Rattle.ags_image.specs.Image.{memory_size, no_words, entry_at, word_at, with_word, IsImage, IsImageOf};
 
 /// The image without a word is an image, and none of its locations has a word.
 pub fn no_words_has_no_word()
@@ -47,4 +48,22 @@ pub fn entries_make_image()
     ensures { (left right : List (Option ℕ)) → IsImage left → IsImage right
         → ((location : ℕ) → location < memory_size → entry_at left location ≡ entry_at right location)
         → left ≡ right }
+{}
+
+/// The image of words is made word by word: of none at first, then of one more, where the words before have no other
+/// word at its location.
+pub fn image_is_made_word_by_word()
+    ensures first { IsImageOf [] no_words }
+    ensures none { (words : List (Option (ℕ × ℕ))) (image : List (Option ℕ)) → IsImageOf words image
+        → IsImageOf (words ++ None ∷ []) image }
+    ensures word { (words : List (Option (ℕ × ℕ))) (image : List (Option ℕ)) (at given : ℕ) → at < memory_size
+        → given < 2 ^ 18 → IsImageOf words image
+        → ((other : ℕ) → Contains words (Some (at, other)) → other ≡ given)
+        → IsImageOf (words ++ Some (at, given) ∷ []) (with_word image at given) }
+{}
+
+/// Words have one image.
+pub fn words_have_one_image()
+    ensures { (words : List (Option (ℕ × ℕ))) (one other : List (Option ℕ)) → IsImageOf words one
+        → IsImageOf words other → one ≡ other }
 {}

@@ -1,5 +1,5 @@
 use Rattle.std.proofs.lemmas.Result.{err_from_is_err_and}
-use Rattle.ags_asm.proofs.AssembleLemmas.{assembled, refused_cards, refused_places, refused_words}
+use Rattle.ags_asm.proofs.AssembleLemmas.{assembled, defines_placed, refused_cards, refused_places, refused_words}
 use Rattle.ags_asm.proofs.assembling.run_phases.Goals as goal
 
 pub returns-in_err-cards-clause-refused : goal.returns-in_err-cards-clause-refused
@@ -22,5 +22,11 @@ returns-in_err-check_words-clause-refused c =
 pub returns-clause-assembled : goal.returns-clause-assembled
 returns-clause-assembled c =
     assembled c.args.bytes.now c.in_ok-cards.cards.items c.in_ok-placed.placed.items c.in_ok-cards.ensures.read
+    (rw c.deref.ensures.value at c.in_ok-placed.ensures.faultless) (rw c.deref.ensures.value at c.in_ok-placed.ensures.placed)
+    (rw c.deref-2.ensures.value at c.in_ok-check_words.ensures.faultless)
+
+pub returns-clause-defines : goal.returns-clause-defines
+returns-clause-defines c =
+    defines_placed c.args.bytes.now c.in_ok-cards.cards.items c.in_ok-placed.placed.items c.in_ok-cards.ensures.read
     (rw c.deref.ensures.value at c.in_ok-placed.ensures.faultless) (rw c.deref.ensures.value at c.in_ok-placed.ensures.placed)
     (rw c.deref-2.ensures.value at c.in_ok-check_words.ensures.faultless)

@@ -1,0 +1,20 @@
+//! Laws of sources: what a text means, and what it defines. Behind each clause is a lemma of `proofs/`, which the crates
+//! above cite.
+
+ghost use Rattle.std.specs.Prelude.{◌≡◌, ℕ, List, Option};
+ghost use Rattle.ags_asm.specs.declared.source_error.SourceError.{SourceError};
+ghost use Rattle.ags_asm.specs.Source.{Defines, EachPlaceOnce, IsFaulty};
+
+/// A text means one thing: it defines one list of words, or it has one first fault, and never both.
+pub fn source_means_one_thing()
+    ensures words { (text : List ℕ) (one other : List (Option (ℕ × ℕ))) → Defines text one → Defines text other
+        → one ≡ other }
+    ensures fault { (text : List ℕ) (one other : SourceError) → IsFaulty text one → IsFaulty text other → one ≡ other }
+    ensures not_both { (text : List ℕ) (defined : List (Option (ℕ × ℕ))) (error : SourceError) → Defines text defined
+        → IsFaulty text error → ⊥ }
+{}
+
+/// What a source defines has each place once.
+pub fn source_defines_each_place_once()
+    ensures { (text : List ℕ) (defined : List (Option (ℕ × ℕ))) → Defines text defined → EachPlaceOnce defined }
+{}
