@@ -1,6 +1,11 @@
 //! Files as a shelf.
 
-ghost use Rattle.std.specs.Prelude.{◌≡◌, ◌≤◌, None, IfOk, length};
+ghost use Rattle.std.specs.Prelude.{◌≡◌, ◌≢◌, ◌+◌, ◌-◌, ◌^◌, ◌<◌, ◌≤◌, None, Some, Ok, IfOk, IfErr, OnErr, IfSome, length, min};
+ghost use Rattle.std.specs.Io.KnownBytes.{ReadConsumes};
+ghost use Rattle.std.specs.IoError.{error_kind};
+ghost use Rattle.std.specs.Option.{ForSome};
+ghost use Rattle.std.specs.String.{string_bytes};
+ghost use Rattle.ags.specs.Answers.{faults_after};
 ghost use Rattle.ags_outside.specs.Shelf.{absences_after};
 
 use ags_outside::{Pull, Shelf};
@@ -22,23 +27,41 @@ struct OpenFile<F> {
 pub(crate) struct FileShelf<'a, R: Files> {
     rt: &'a R,
     alloc: Global,
-    open: Option<OpenFile<R::File>>,
+    held: Option<OpenFile<R::File>>,
     faults: u64,
     absences: u64,
 }
 
-/// Opens a file to be read from that place on.
-fn open_at<R: Files>(
-    rt: &R,
-    alloc: Global,
-    name: &str,
-    from: u64,
-) -> io::Result<OpenFile<R::File>> {
-    let name = String::from_str(alloc, name)?;
-    let mut file = fs::open(rt, name.as_str())?;
+/// A file that stood at its start, at that place.
+fn go_to<F: Seek + Drop>(file: F, from: u64) -> io::Result<F>
+    ensures { IfOk result (λ there. F.stream_position file ≡ Some 0 → F.stream_position there ≡ Some from) }
+{
+    let mut file = file;
     if from != 0 {
         file.seek(SeekFrom::Start(from))?;
     }
+    Ok(file)
+}
+
+/// Reads on in a file that is open.
+fn read_more<F: Read>(file: &mut OpenFile<F>, into: &mut [u8]) -> io::Result<usize>
+    ensures count { IfOk result (λ count. count ≤ length into.old) }
+    ensures bytes { ReadConsumes (F.remaining file.old.file) (F.remaining file.new.file) result into.new }
+    ensures name { file.new.name ≡ file.old.name }
+    ensures place { IfOk result (λ count. file.new.at ≡ min (file.old.at + count) (2 ^ 64 - 1)) }
+{
+    let count = file.file.read(into)?;
+    file.at = file.at.saturating_add(count as u64);
+    Ok(count)
+}
+
+/// Opens a file to be read from that place on.
+fn open_at<R: Files>(rt: &R, alloc: Global, name: &str, from: u64) -> io::Result<OpenFile<R::File>>
+    ensures name { IfOk result (λ file. string_bytes file.name ≡ name.now) }
+    ensures place { IfOk result (λ file. file.at ≡ from) }
+{
+    let name = String::from_str(alloc, name)?;
+    let file = go_to(fs::open(rt, name.as_str())?, from)?;
     Ok(OpenFile {
         name,
         file,
@@ -50,39 +73,84 @@ fn open_at<R: Files>(
 fn file_at<R: Files>(
     rt: &R,
     alloc: Global,
-    open: Option<OpenFile<R::File>>,
+    held: Option<OpenFile<R::File>>,
     name: &str,
     from: u64,
-) -> io::Result<OpenFile<R::File>> {
-    match open {
-        Some(open) if open.at == from && open.name.as_str() == name => Ok(open),
+) -> io::Result<OpenFile<R::File>>
+    ensures name { IfOk result (λ file. string_bytes file.name ≡ name.now) }
+    ensures place { IfOk result (λ file. file.at ≡ from) }
+    ensures kept { IfSome held (λ file. file.at ≡ from → string_bytes file.name ≡ name.now → result ≡ Ok file) }
+{
+    match held {
+        Some(file) if file.at == from && file.name.as_str() == name => Ok(file),
         _ => open_at(rt, alloc, name, from),
+    }
+}
+
+/// What a shelf answers to a read. What the system names as not found is absent, and each other error that isn't want
+/// of memory is a fault.
+fn answer_to(read: io::Result<usize>) -> Pull
+    ensures end { read ≡ Ok 0 → result ≡ Pull.End }
+    ensures got { IfOk read (λ count. 0 < count → result ≡ Pull.Got count) }
+    ensures absent { IfErr read (λ error. error_kind error ≡ ErrorKind.NotFound → result ≡ Pull.Absent) }
+    ensures memory { IfErr read (λ error. error_kind error ≡ ErrorKind.OutOfMemory → result ≡ Pull.NoMemory) }
+    ensures failed { IfErr read (λ error. error_kind error ≢ ErrorKind.NotFound → error_kind error ≢ ErrorKind.OutOfMemory
+        → result ≡ Pull.Failed) }
+{
+    match read {
+        Ok(0) => Pull::End,
+        Ok(count) => Pull::Got(count),
+        Err(error) => match error.kind() {
+            ErrorKind::NotFound => Pull::Absent,
+            ErrorKind::OutOfMemory => Pull::NoMemory,
+            _ => Pull::Failed,
+        },
     }
 }
 
 impl<'a, R: Files> FileShelf<'a, R> {
     /// The files that the runtime reaches.
-    pub(crate) fn new(rt: &'a R, alloc: Global) -> FileShelf<'a, R> {
+    pub(crate) fn new(rt: &'a R, alloc: Global) -> FileShelf<'a, R>
+        ensures held { result.held ≡ None }
+        ensures faults { result.faults ≡ 0 }
+        ensures absences { result.absences ≡ 0 }
+    {
         FileShelf {
             rt,
             alloc,
-            open: None,
+            held: None,
             faults: 0,
             absences: 0,
         }
     }
 
-    /// Reads on in a file, which stays open.
+    /// Reads on in a file, which stays open. After an error none is open.
     fn read_on(&mut self, name: &str, from: u64, into: &mut [u8]) -> io::Result<usize>
         ensures count { IfOk result (λ count. count ≤ length into.old) }
         ensures faults { self.new.faults ≡ self.old.faults }
         ensures absences { self.new.absences ≡ self.old.absences }
+        ensures name { IfOk result (λ count. ForSome self.new.held (λ file. string_bytes file.name ≡ name.now)) }
+        ensures place { IfOk result (λ count. ForSome self.new.held (λ file. file.at ≡ min (from + count) (2 ^ 64 - 1))) }
+        ensures closed { OnErr result (self.new.held ≡ None) }
     {
-        let mut open = file_at(self.rt, self.alloc, self.open.take(), name, from)?;
-        let count = open.file.read(into)?;
-        open.at = open.at.saturating_add(count as u64);
-        self.open = Some(open);
+        let mut file = file_at(self.rt, self.alloc, self.held.take(), name, from)?;
+        let count = read_more(&mut file, into)?;
+        self.held = Some(file);
         Ok(count)
+    }
+
+    /// Counts a file that is absent, and a failure.
+    fn count(&mut self, answer: Pull)
+        ensures faults { self.new.faults ≡ faults_after self.old.faults answer }
+        ensures absences { self.new.absences ≡ absences_after self.old.absences answer }
+        ensures faults_stay { self.old.faults ≤ self.new.faults }
+        ensures absences_stay { self.old.absences ≤ self.new.absences }
+    {
+        match answer {
+            Pull::Absent => self.absences = self.absences.saturating_add(1),
+            Pull::Failed => self.faults = self.faults.saturating_add(1),
+            Pull::Got(_) | Pull::End | Pull::NoMemory => {}
+        }
     }
 }
 
@@ -94,20 +162,8 @@ impl<R: Files> Shelf for FileShelf<'_, R> {
     ghost absences = { λ shelf. shelf.absences };
 
     fn pull(&mut self, name: &str, from: u64, into: &mut [u8]) -> Pull {
-        match self.read_on(name, from, into) {
-            Ok(0) => Pull::End,
-            Ok(count) => Pull::Got(count),
-            Err(error) => match error.kind() {
-                ErrorKind::NotFound => {
-                    self.absences = self.absences.saturating_add(1);
-                    Pull::Absent
-                }
-                ErrorKind::OutOfMemory => Pull::NoMemory,
-                _ => {
-                    self.faults = self.faults.saturating_add(1);
-                    Pull::Failed
-                }
-            },
-        }
+        let answer = answer_to(self.read_on(name, from, into));
+        self.count(answer);
+        answer
     }
 }

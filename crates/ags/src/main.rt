@@ -5,6 +5,8 @@
 mod file_shelf;
 mod out_sink;
 
+ghost use Rattle.std.specs.Prelude.{◌≡◌, true, false};
+
 use ags_top::{Status, ags_main};
 use file_shelf::FileShelf;
 use out_sink::OutSink;
@@ -23,17 +25,21 @@ fn words_of(alloc: Global, all: Args) -> Result<Vec<String>, AllocError> {
     Ok(words)
 }
 
+/// The status of a run whose output was written, or wasn't.
+fn ended(status: Status, written: bool) -> Status
+    ensures written { written ≡ true → result ≡ status }
+    ensures unwritten { written ≡ false → result ≡ Status.WriteFault }
+{
+    if written { status } else { Status::WriteFault }
+}
+
 /// Runs the program over its words, and answers its status.
 fn run<R: Files + Print + AllocGlobal>(rt: &R, all: Args) -> io::Result<Status> {
     let words = words_of(rt.alloc(), all)?;
     let mut shelf = FileShelf::new(rt, rt.alloc());
     let mut out = OutSink::new(rt.alloc(), io::writer(rt))?;
     let status = ags_main(rt.alloc(), &words, &mut shelf, &mut out);
-    if out.finish() {
-        Ok(status)
-    } else {
-        Ok(Status::WriteFault)
-    }
+    Ok(ended(status, out.finish()))
 }
 
 fn main(rt: HostRuntime) -> ExitCode {

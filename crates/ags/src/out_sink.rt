@@ -1,6 +1,12 @@
 //! Standard output as a sink.
 
-ghost use Rattle.std.specs.Prelude.{None};
+ghost use Rattle.std.specs.Prelude.{◌≡◌, ◌≢◌, ◌<◌, ◌≤◌, [], true, None, Ok, IfOk, IfErr, length};
+ghost use Rattle.std.specs.Io.Buffered.{writer_buffer, writer_contents, writer_inner};
+ghost use Rattle.std.specs.Io.KnownBytes.{Keeps};
+ghost use Rattle.std.specs.IoError.{error_kind};
+ghost use Rattle.ags.specs.Answers.{PutAppends};
+ghost use Rattle.ags_outside.specs.Count.{Rose};
+ghost use Rattle.ags_outside.specs.Sink.{IsCleanPut, TookWithin};
 
 use ags_outside::{PutDone, Sink};
 use std::alloc::Global;
@@ -16,15 +22,38 @@ pub(crate) struct OutSink<W: Write + Drop> {
     faults: u64,
 }
 
+/// What a sink answers to a write. One that took nothing is a fault, and so is each error that isn't want of memory.
+fn answer_to(write: io::Result<usize>) -> PutDone
+    ensures nothing { write ≡ Ok 0 → result ≡ PutDone.Failed }
+    ensures took { IfOk write (λ count. 0 < count → result ≡ PutDone.Took count) }
+    ensures memory { IfErr write (λ error. error_kind error ≡ ErrorKind.OutOfMemory → result ≡ PutDone.NoMemory) }
+    ensures failed { IfErr write (λ error. error_kind error ≢ ErrorKind.OutOfMemory → result ≡ PutDone.Failed) }
+{
+    match write {
+        Ok(0) => PutDone::Failed,
+        Ok(count) => PutDone::Took(count),
+        Err(error) if error.kind() == ErrorKind::OutOfMemory => PutDone::NoMemory,
+        Err(_) => PutDone::Failed,
+    }
+}
+
 impl<W: Write + Drop> OutSink<W> {
     /// A sink that writes to this.
-    pub(crate) fn new(alloc: Global, writer: W) -> io::Result<OutSink<W>> {
+    pub(crate) fn new(alloc: Global, writer: W) -> io::Result<OutSink<W>>
+        ensures writer { IfOk result (λ sink. writer_inner sink.out ≡ writer) }
+        ensures empty { IfOk result (λ sink. writer_buffer sink.out ≡ []) }
+        ensures faults { IfOk result (λ sink. sink.faults ≡ 0) }
+        ensures memory { IfErr result (λ error. error_kind error ≡ ErrorKind.OutOfMemory) }
+    {
         let out = BufWriter::with_capacity(alloc, ROOM, writer)?;
         Ok(OutSink { out, faults: 0 })
     }
 
     /// Writes what is not yet written, and tells whether that was done.
-    pub(crate) fn finish(&mut self) -> bool {
+    pub(crate) fn finish(&mut self) -> bool
+        ensures bytes { Keeps (writer_contents W.contents self.old.out) (writer_contents W.contents self.new.out) }
+        ensures written { result ≡ true → writer_buffer self.new.out ≡ [] }
+    {
         self.out.flush().is_ok()
     }
 }
@@ -34,14 +63,18 @@ impl<W: Write + Drop> Sink for OutSink<W> {
 
     ghost faults = { λ sink. sink.faults };
 
-    fn put(&mut self, piece: &[u8]) -> PutDone {
-        match self.out.write(piece) {
-            Ok(0) => {}
-            Ok(count) => return PutDone::Took(count),
-            Err(error) if error.kind() == ErrorKind::OutOfMemory => return PutDone::NoMemory,
-            Err(_) => {}
+    fn put(&mut self, piece: &[u8]) -> PutDone
+        requires { 0 < length piece.now }
+        ensures took { TookWithin (length piece.now) result }
+        ensures bytes { PutAppends (writer_contents W.contents self.old.out) (writer_contents W.contents self.new.out) piece.now result }
+        ensures faults_stay { self.old.faults ≤ self.new.faults }
+        ensures failed { result ≡ PutDone.Failed → Rose self.old.faults self.new.faults }
+        ensures clean { IsCleanPut result (self.new.faults ≡ self.old.faults) }
+    {
+        let answer = answer_to(self.out.write(piece));
+        if answer == PutDone::Failed {
+            self.faults = self.faults.saturating_add(1);
         }
-        self.faults = self.faults.saturating_add(1);
-        PutDone::Failed
+        answer
     }
 }

@@ -3,12 +3,12 @@ use Rattle.std.proofs.Common.{◌≡◌, ℕ, ◌+◌, Bool, true, false, cond, 
 use Rattle.std.specs.Prelude.{◌⊎◌}
 use Rattle.std.specs.List.{Contains}
 use Rattle.std.proofs.lemmas.Bool.{true≢false}
-use Rattle.std.proofs.lemmas.List.Elements.{Contains-append_left, Contains-append_right, Contains-append_cases, Contains-push, Contains-push_cases}
+use Rattle.std.proofs.lemmas.List.Elements.{Contains-append_left, Contains-append_right, Contains-append_cases, Contains-push_cases}
 use Rattle.ags_text.specs.Fault.{or_later, first_fault}
 use Rattle.ags_asm.specs.declared.source_error.SourceKind.{SourceKind}
 use Rattle.ags_asm.specs.declared.source_error.SourceKind.TheVariants.{PlaceTwice}
 use Rattle.ags_asm.specs.Place.{stands_at, owner, place_fault, word_fault, definitions}
-use Rattle.ags_asm.specs.Source.{bodies, card_fault, or_fault, Defines, EachPlaceOnce}
+use Rattle.ags_asm.specs.Source.{or_fault, Defines, EachPlaceOnce}
 
 -- ---- no owner
 
@@ -39,7 +39,7 @@ no_twice (Some card) is = absurd cc
 -- ---- no fault
 
 -- an element without a fault, and none behind it
-no_later : {F : Type 0} (number : ℕ) (head : Option F) (later : Option (ℕ × F)) → or_later number head later ≡ None → (head ≡ None) × (later ≡ None)
+pub no_later : {F : Type 0} (number : ℕ) (head : Option F) (later : Option (ℕ × F)) → or_later number head later ≡ None → (head ≡ None) × (later ≡ None)
 no_later number None later none = (refl, none)
 no_later number (Some fault) later none = absurd cc
 
@@ -73,6 +73,5 @@ no_or_fault (Some fault) later none = absurd cc
 
 pub each_place_once : (text : List ℕ) (defined : List (Option (ℕ × ℕ))) → Defines text defined → EachPlaceOnce defined
 each_place_once text defined so = λ front rest place word is other held.
-    let places = no_or_fault (first_fault card_fault [] so.readings) _ so.faultless in
-    let words = no_or_fault (first_fault place_fault [] (bodies so.readings)) _ places in
-    apart_behind [] (definitions (bodies so.readings)) words front rest place word (sym so.words ∙ is) other (inl held)
+    let words = no_or_fault (first_fault place_fault [] so.bodies) _ so.faultless in
+    apart_behind [] (definitions so.bodies) words front rest place word (sym so.words ∙ is) other (inl held)

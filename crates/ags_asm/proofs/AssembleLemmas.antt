@@ -1,5 +1,5 @@
 -- What the phases tell, put together.
-use Rattle.std.proofs.Common.{◌≡◌, ℕ, suc, ◌+◌, List, [], ◌∷◌, length, map, Option, Some, None, refl, sym, ap, ◌∙◌, arith, inl, inr}
+use Rattle.std.proofs.Common.{◌≡◌, ℕ, suc, ◌+◌, List, [], ◌∷◌, length, map, Option, Some, None, refl, ap, ◌∙◌, arith, inl, inr}
 use Rattle.std.specs.Prelude.{Result, Ok, Err, IfOk, IfErr, OnOk, IsOkAnd, IsErrOf, Vec, ◌⊎◌}
 use Rattle.std.specs.Global.{Global}
 use Rattle.std.proofs.lemmas.List.{length-map}
@@ -11,16 +11,10 @@ use Rattle.ags_asm.specs.declared.source_card.SourceCard.{SourceCard}
 use Rattle.ags_asm.specs.declared.source_error.AssembleError.{AssembleError}
 use Rattle.ags_asm.specs.declared.source_error.AssembleError.TheVariants.{Source, NoMemory}
 use Rattle.ags_asm.specs.declared.source_error.SourceError.{SourceError}
-use Rattle.ags_asm.specs.declared.source_error.SourceKind.{SourceKind}
-use Rattle.ags_asm.proofs.ReadingExists.{one_readings}
-use Rattle.ags_asm.specs.Place.{place_fault, word_fault, definitions, definitions_after}
-use Rattle.ags_asm.specs.Source.{bodies, source_fault, placed_at, placed_cards, AreSpans, Defines, IsAssembled, IsFaulty, IsRefused}
+use Rattle.ags_asm.specs.Place.{place_fault, word_fault, definitions}
+use Rattle.ags_asm.specs.Source.{placed_at, placed_cards, AreSpans, Defines, IsAssembled, IsFaulty, IsRefused}
+use Rattle.ags_asm.proofs.MeaningLemmas.{length-definitions_after, not_both, one_meaning, one_fault}
 use Rattle.ags_asm.specs.Phase.{source_card, source_cards, asked, place_card, place_cards, defined, AreRead, AreMisread, Stops}
-
-length-definitions_after : (front cards : List Body) → length (definitions_after front cards) ≡ length cards
-unfolding definitions_after
-length-definitions_after front [] = refl
-length-definitions_after front (card ∷ cards) = ap suc (length-definitions_after (card ∷ front) cards)
 
 -- what cards ask for is what their lines ask for
 asked-source_cards : (lines : List LineAt) (bs : List Body) → length bs ≡ length lines → asked (source_cards lines bs) ≡ bs
@@ -57,11 +51,11 @@ defined-place_cards (card ∷ cards) (d ∷ ds) same =
 -- ---- the three answers
 
 -- what the phases of places and of words look at, by the readings
-pub asked_are : (lines : List LineAt) (cards : List SourceCard) (so : AreRead lines cards) → asked cards ≡ bodies so.readings
-asked_are lines cards so = ap asked so.cards_are ∙ asked-source_cards lines (bodies so.readings) so.one_each
+pub asked_are : (lines : List LineAt) (cards : List SourceCard) (so : AreRead lines cards) → asked cards ≡ so.bodies
+asked_are lines cards so = ap asked so.cards_are ∙ asked-source_cards lines so.bodies so.one_each
 
 pub defined_are : (lines : List LineAt) (cards : List SourceCard) (placed : List Placed) (so : AreRead lines cards) → placed ≡ place_cards cards (definitions (asked cards))
-    → map defined placed ≡ definitions (bodies so.readings)
+    → map defined placed ≡ definitions so.bodies
 defined_are lines cards placed so is =
     ap (map defined) is ∙ defined-place_cards cards (definitions (asked cards)) (length-definitions_after [] (asked cards) ∙ length-map cards (λ card. card.body))
     ∙ ap definitions (asked_are lines cards so)
@@ -72,9 +66,18 @@ assembled text cards placed so places is words =
     let places_too = rw (asked_are (lines_of text) cards so) at places in
     let words_too = rw (defined_are (lines_of text) cards placed so is) at words in
     record {
-      defined = definitions (bodies so.readings);
-      defines = record { readings = so.readings; are_readings = so.are_readings; faultless = rw (so.faultless, places_too, words_too) refl; words = refl };
-      cards = is ∙ rw (asked_are (lines_of text) cards so, so.cards_are) (place_cards-source (lines_of text) (bodies so.readings) (definitions (bodies so.readings)) so.one_each);
+      defined = definitions so.bodies;
+      defines = record {
+        readings = so.readings;
+        are_readings = so.are_readings;
+        spelled = so.faultless;
+        bodies = so.bodies;
+        are_bodies = so.are_bodies;
+        faultless = rw (places_too, words_too) refl;
+        words = refl;
+      };
+      one_each = length-definitions_after [] so.bodies ∙ so.one_each;
+      cards = is ∙ rw (asked_are (lines_of text) cards so, so.cards_are) (place_cards-source (lines_of text) so.bodies (definitions so.bodies) so.one_each);
     }
 
 -- the places and words of the placed cards are what the text defines
@@ -91,7 +94,7 @@ refused_cards text NoMemory so = tt
 pub refused_places : (text : List ℕ) (cards : List SourceCard) (error : AssembleError) → AreRead (lines_of text) cards → Stops (first_fault place_fault [] (asked cards)) error → IsRefused text error
 refused_places text cards (Source error) so first =
     let first_too = rw (asked_are (lines_of text) cards so) at first in
-    record { readings = so.readings; are_readings = so.are_readings; first = rw (so.faultless, first_too) refl }
+    record { readings = so.readings; are_readings = so.are_readings; first = rw so.faultless (so.bodies, so.are_bodies, rw first_too refl) }
 refused_places text cards NoMemory so first = tt
 
 pub refused_words : (text : List ℕ) (cards : List SourceCard) (placed : List Placed) (error : AssembleError) → AreRead (lines_of text) cards → first_fault place_fault [] (asked cards) ≡ None
@@ -99,32 +102,21 @@ pub refused_words : (text : List ℕ) (cards : List SourceCard) (placed : List P
 refused_words text cards placed (Source error) so places is first =
     let places_too = rw (asked_are (lines_of text) cards so) at places in
     let first_too = rw (defined_are (lines_of text) cards placed so is) at first in
-    record { readings = so.readings; are_readings = so.are_readings; first = rw (so.faultless, places_too, first_too) refl }
+    record { readings = so.readings; are_readings = so.are_readings; first = rw so.faultless (so.bodies, so.are_bodies, rw (places_too, first_too) refl) }
 refused_words text cards placed NoMemory so places is first = tt
 
--- ---- a text means one thing
+-- ---- the answer
 
-one_error : (error other : SourceError) → ◌≡◌ {A = Option (ℕ × SourceKind)} (Some (error.card, error.kind)) (Some (other.card, other.kind)) → error ≡ other
-one_error error other same =
-    let pairs : (error.card, error.kind) ≡ (other.card, other.kind) = cc in
-    ap (λ (p : ℕ × SourceKind). record { card = p.0; kind = p.1 }) pairs
+-- each line's card is placed
+length-placed_cards : (lines : List LineAt) (defined : List (Option (ℕ × ℕ))) → length defined ≡ length lines → length (placed_cards lines defined) ≡ length lines
+length-placed_cards [] defined same = refl
+length-placed_cards (line ∷ lines) [] same = same
+length-placed_cards (line ∷ lines) (one ∷ defined) same = ap suc (length-placed_cards lines defined (omega arith))
 
-pub not_both : (text : List ℕ) (defined : List (Option (ℕ × ℕ))) (error : SourceError) → Defines text defined → IsFaulty text error → ⊥
-not_both text defined error defines faulty =
-    let same = one_readings (lines_of text) defines.readings faulty.readings defines.are_readings faulty.are_readings in
-    let none : source_fault faulty.readings ≡ None = rw (← same) defines.faultless in
-    let some = faulty.first in
-    cc
-
-pub one_meaning : (text : List ℕ) (defined other : List (Option (ℕ × ℕ))) → Defines text defined → Defines text other → defined ≡ other
-one_meaning text defined other one two =
-    let same = one_readings (lines_of text) one.readings two.readings one.are_readings two.are_readings in
-    one.words ∙ rw same (sym two.words)
-
-pub one_fault : (text : List ℕ) (error other : SourceError) → IsFaulty text error → IsFaulty text other → error ≡ other
-one_fault text error other one two =
-    let same = one_readings (lines_of text) one.readings two.readings one.are_readings two.are_readings in
-    one_error error other (sym one.first ∙ rw same two.first)
+pub card_for_each : (text : List ℕ) (result : Result (Vec Placed Global) AssembleError) → IfOk result (λ placed. IsAssembled text placed.items)
+    → IfOk result (λ placed. length placed.items ≡ length (lines_of text))
+card_for_each text (Ok placed) assembled = ap length assembled.cards ∙ length-placed_cards (lines_of text) assembled.defined assembled.one_each
+card_for_each text (Err error) assembled = tt
 
 pub faulty_exactly : (text : List ℕ) (result : Result (Vec Placed Global) AssembleError) → IfOk result (λ placed. IsAssembled text placed.items) → IfErr result (IsRefused text)
     → (error : SourceError) → IsFaulty text error → (IsErrOf result (Source error)) ⊎ (IsErrOf result NoMemory)

@@ -12,19 +12,19 @@ use Rattle.ags_asm.specs.declared.source_error.AssembleError.{AssembleError}
 use Rattle.ags_asm.specs.declared.source_error.AssembleError.TheVariants.{Source, NoMemory}
 use Rattle.ags_asm.specs.Spelling.{Statement}
 use Rattle.ags_asm.specs.Place.{range_fault}
-use Rattle.ags_asm.specs.Source.{AreReadings, card_fault, bodies}
+use Rattle.ags_asm.specs.Source.{AreReadings, card_fault, AreBodies}
 
 -- a line's card, and what it asks for
 abbrev pub source_card : LineAt → Body → SourceCard
 source_card line body = record { start = line.start; end = line.start + length line.bytes; body = body }
 
--- each line's card, and what it asks for
+-- each line's card, and what it asks for, where as many are asked as there are lines
 abbrev pub source_cards : List LineAt → List Body → List SourceCard
 source_cards [] asked = []
 source_cards (line ∷ lines) [] = []
 source_cards (line ∷ lines) (body ∷ asked) = source_card line body ∷ source_cards lines asked
 
--- the fault of a reading where a card with a symbol came before, or none did
+-- The fault of a reading; `labelled` is true where a card with a symbol came before.
 abbrev pub card_fault_at : Bool → Option Statement → Option SourceKind
 card_fault_at labelled None = Some NotYet
 card_fault_at labelled (Some card) = if is_some card.symbol && labelled then Some NotYet else None
@@ -34,8 +34,10 @@ pub record AreRead (lines : List LineAt) (cards : List SourceCard) : Type 0 wher
   pub readings : List (Option Statement)
   pub are_readings : AreReadings lines readings
   pub faultless : first_fault card_fault [] readings ≡ None
-  pub one_each : length (bodies readings) ≡ length lines
-  pub cards_are : cards ≡ source_cards lines (bodies readings)
+  pub bodies : List Body
+  pub are_bodies : AreBodies readings bodies
+  pub one_each : length bodies ≡ length lines
+  pub cards_are : cards ≡ source_cards lines bodies
 
 -- the first fault of a phase is this one, unless it was want of memory
 abbrev pub Stops : Option (ℕ × SourceKind) → AssembleError → Type 0

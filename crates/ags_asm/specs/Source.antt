@@ -1,6 +1,6 @@
 -- What a source means: the cards that its lines spell, its first fault, and the words that it defines.
-use Rattle.std.specs.Prelude.{◌≡◌, ℕ, ◌+◌, ◌≤◌, Bool, false, ◌&&◌, if◌then◌else◌, List, [], ◌∷◌, ◌++◌, length, Option, Some, None, option_map, is_some}
-use Rattle.std.specs.List.{Contains, list_any, filter_map}
+use Rattle.std.specs.Prelude.{◌≡◌, ℕ, ◌+◌, ◌≤◌, Bool, false, ◌&&◌, if◌then◌else◌, List, [], ◌∷◌, ◌++◌, length, Option, Some, None, is_some}
+use Rattle.std.specs.List.{Contains, list_any}
 use Rattle.ags_text.specs.Fault.{first_fault}
 use Rattle.ags_text.specs.Line.{LineAt, lines_of}
 use Rattle.ags_text.specs.Reading.{AreReadingsBy}
@@ -34,27 +34,36 @@ abbrev pub card_fault : List (Option Statement) → Option Statement → Option 
 card_fault before None = Some NotYet
 card_fault before (Some card) = if is_some card.symbol && list_any has_symbol before then Some NotYet else None
 
--- what the cards that were read ask for
-abbrev pub bodies : List (Option Statement) → List Body
-bodies readings = filter_map (option_map (λ card. card.body)) readings
+-- What the cards ask for that the lines spell, one for each line. Lines of which one spells no card have no such list.
+abbrev pub AreBodies : List (Option Statement) → List Body → Type 0
+AreBodies [] [] = Unit {0}
+AreBodies [] (body ∷ bodies) = ⊥
+AreBodies (None ∷ readings) bodies = ⊥
+AreBodies (Some card ∷ readings) [] = ⊥
+AreBodies (Some card ∷ readings) (body ∷ bodies) = (body ≡ card.body) × AreBodies readings bodies
 
 -- the first of two faults that is there
 abbrev pub or_fault : Option (ℕ × SourceKind) → Option (ℕ × SourceKind) → Option (ℕ × SourceKind)
 or_fault (Some fault) later = Some fault
 or_fault None later = later
 
--- The first fault of a source, and its card's number: the phase of cards comes first, then that of places,
--- then that of words, and in a phase the first card.
-abbrev pub source_fault : List (Option Statement) → Option (ℕ × SourceKind)
-source_fault readings = or_fault (first_fault card_fault [] readings)
-    (or_fault (first_fault place_fault [] (bodies readings)) (first_fault word_fault [] (definitions (bodies readings))))
+-- The first fault of cards that ask for this, and its card's number: the phase of places comes first, then that of
+-- words, and in a phase the first card.
+abbrev pub bodies_fault : List Body → Option (ℕ × SourceKind)
+bodies_fault bodies = or_fault (first_fault place_fault [] bodies) (first_fault word_fault [] (definitions bodies))
+
+-- The first fault of a source, where the phase of cards finds this: it is that one, and where that phase finds none,
+-- each line spells a card, and it is the first of those that these have.
+abbrev pub IsFirstOf : Option (ℕ × SourceKind) → List (Option Statement) → ℕ × SourceKind → Type 0
+IsFirstOf (Some found) readings fault = found ≡ fault
+IsFirstOf None readings fault = (bodies : List Body) × AreBodies readings bodies × (bodies_fault bodies ≡ Some fault)
 
 -- a card as it was placed: the span of its bytes, and its place and word, where it has one
 abbrev pub placed_at : LineAt → Option (ℕ × ℕ) → Placed
 placed_at line None = record { start = line.start; end = line.start + length line.bytes; place = None; word = 0 }
 placed_at line (Some defined) = record { start = line.start; end = line.start + length line.bytes; place = Some defined.0; word = defined.1 }
 
--- each line's card as it was placed
+-- each line's card as it was placed, where there are as many definitions as lines
 abbrev pub placed_cards : List LineAt → List (Option (ℕ × ℕ)) → List Placed
 placed_cards [] defined = []
 placed_cards (line ∷ lines) [] = []
@@ -65,30 +74,34 @@ placed_cards (line ∷ lines) (one ∷ defined) = placed_at line one ∷ placed_
 pub record Defines (text : List ℕ) (defined : List (Option (ℕ × ℕ))) : Type 0 where
   pub readings : List (Option Statement)
   pub are_readings : AreReadings (lines_of text) readings
-  pub faultless : source_fault readings ≡ None
-  pub words : defined ≡ definitions (bodies readings)
+  pub spelled : first_fault card_fault [] readings ≡ None
+  pub bodies : List Body
+  pub are_bodies : AreBodies readings bodies
+  pub faultless : bodies_fault bodies ≡ None
+  pub words : defined ≡ definitions bodies
 
 -- The text is a source without a fault, and these are its cards as they are placed.
 pub record IsAssembled (text : List ℕ) (placed : List Placed) : Type 0 where
   pub defined : List (Option (ℕ × ℕ))
   pub defines : Defines text defined
+  pub one_each : length defined ≡ length (lines_of text)
   pub cards : placed ≡ placed_cards (lines_of text) defined
 
 -- the text is a source whose first fault is this one
 pub record IsFaulty (text : List ℕ) (error : SourceError) : Type 0 where
   pub readings : List (Option Statement)
   pub are_readings : AreReadings (lines_of text) readings
-  pub first : source_fault readings ≡ Some (error.card, error.kind)
+  pub first : IsFirstOf (first_fault card_fault [] readings) readings (error.card, error.kind)
 
 -- why a text was not assembled, where it was not want of memory
 abbrev pub IsRefused : List ℕ → AssembleError → Type 0
 IsRefused text (Source error) = IsFaulty text error
 IsRefused text NoMemory = Unit {0}
 
--- The spans of the cards lie behind that byte, one behind the other, and within a text of that length.
-abbrev pub AreSpans : (from len : ℕ) → List Placed → Type 0
-AreSpans from len [] = Unit {0}
-AreSpans from len (card ∷ cards) = (from ≤ card.start) × (card.start ≤ card.end) × (card.end ≤ len) × AreSpans (card.end + 1) len cards
+-- The spans of the cards begin at that byte or behind it, lie one behind the other, and end within that limit.
+abbrev pub AreSpans : (from limit : ℕ) → List Placed → Type 0
+AreSpans from limit [] = Unit {0}
+AreSpans from limit (card ∷ cards) = (from ≤ card.start) × (card.start ≤ card.end) × (card.end ≤ limit) × AreSpans (card.end + 1) limit cards
 
 -- No card's word stands where an earlier one's does.
 abbrev pub EachPlaceOnce : List (Option (ℕ × ℕ)) → Type 0

@@ -47,6 +47,9 @@ pub fn assemble(alloc: Global, bytes: &[u8]) -> Result<Vec<Placed>, AssembleErro
     ensures faulty { (error : SourceError) → IsFaulty bytes.now error
         → IsErrOf result (AssembleError.Source error) ⊎ IsErrOf result AssembleError.NoMemory }
 
+    // There is a card for each line.
+    ensures one_each { IfOk result (λ placed. length placed.items ≡ length (lines_of bytes.now)) }
+
     // Each place is one of the memory's. The cards' spans, which are those of the lines, follow each other in the source.
     ensures within { IfOk result (λ placed. All IsInMemory placed.items) }
     ensures spans { IfOk result (λ placed. AreSpans 0 (length bytes.now) placed.items) }

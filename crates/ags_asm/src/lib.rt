@@ -23,4 +23,7 @@ pub use card::Body;
 pub use placed::Placed;
 pub use reading_laws::{each_line_has_a_reading, no_line_has_two_readings};
 pub use source_error::{AssembleError, SourceError, SourceKind};
-pub use source_laws::{source_defines_each_place_once, source_means_one_thing};
+pub use source_laws::{
+    each_line_has_its_definition, each_text_has_a_meaning, source_defines_each_place_once,
+    source_defines_words_of_the_memory, source_means_one_thing,
+};

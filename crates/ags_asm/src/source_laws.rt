@@ -1,7 +1,9 @@
 //! Laws of sources: what a text means, and what it defines. Behind each clause is a lemma of `proofs/`, which the crates
 //! above cite.
 
-ghost use Rattle.std.specs.Prelude.{◌≡◌, ℕ, List, Option};
+ghost use Rattle.std.specs.Prelude.{◌≡◌, ◌⊎◌, ℕ, ◌<◌, ◌^◌, List, Option, Some, length};
+ghost use Rattle.std.specs.List.{Contains};
+ghost use Rattle.ags_text.specs.Line.{lines_of};
 ghost use Rattle.ags_asm.specs.declared.source_error.SourceError.{SourceError};
 ghost use Rattle.ags_asm.specs.Source.{Defines, EachPlaceOnce, IsFaulty};
 
@@ -14,7 +16,24 @@ pub fn source_means_one_thing()
         → IsFaulty text error → ⊥ }
 {}
 
+/// Each text means something: it defines words, or it has a first fault.
+pub fn each_text_has_a_meaning()
+    ensures { (text : List ℕ) → ((defined : List (Option (ℕ × ℕ))) × Defines text defined)
+        ⊎ ((error : SourceError) × IsFaulty text error) }
+{}
+
 /// What a source defines has each place once.
 pub fn source_defines_each_place_once()
     ensures { (text : List ℕ) (defined : List (Option (ℕ × ℕ))) → Defines text defined → EachPlaceOnce defined }
+{}
+
+/// What a source defines are words of the memory: each stands at one of its places, and is below 2 ^ 18.
+pub fn source_defines_words_of_the_memory()
+    ensures { (text : List ℕ) (defined : List (Option (ℕ × ℕ))) → Defines text defined → (place word : ℕ)
+        → Contains defined (Some (place, word)) → (place < 4096) × (word < 2 ^ 18) }
+{}
+
+/// What a source defines has one entry for each line of its text.
+pub fn each_line_has_its_definition()
+    ensures { (text : List ℕ) (defined : List (Option (ℕ × ℕ))) → Defines text defined → length defined ≡ length (lines_of text) }
 {}

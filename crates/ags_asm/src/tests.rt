@@ -3,7 +3,8 @@
 
 use crate::{
     AssembleError, Placed, SourceError, SourceKind, assemble, each_line_has_a_reading,
-    no_line_has_two_readings,
+    each_line_has_its_definition, each_text_has_a_meaning, no_line_has_two_readings,
+    source_defines_each_place_once, source_means_one_thing,
 };
 use std::alloc::Global;
 use std::process::Abort;
@@ -220,4 +221,8 @@ fn faults_come_phase_by_phase(rt: HostRuntime) -> Result<(), Fail> {
 fn laws_can_be_called() {
     each_line_has_a_reading();
     no_line_has_two_readings();
+    source_means_one_thing();
+    source_defines_each_place_once();
+    each_text_has_a_meaning();
+    each_line_has_its_definition();
 }

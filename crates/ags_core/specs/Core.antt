@@ -4,11 +4,15 @@ use Rattle.ags_ports.specs.declared.events.Phase.TheVariants.{Running}
 use Rattle.ags_ports.specs.declared.machines.Machine.{Machine}
 use Rattle.ags_ports.specs.State.{State}
 
--- what is so of every core: the index register and the location are in their ranges, and there are 4096 cells
-pub record IsCore (s : State) : Type 0 where
-  pub index : s.index < 8
-  pub location : s.location < 4096
-  pub cells : length s.cells ≡ 4096
+-- an index register and a location are in their ranges, and there are 4096 cells
+pub record AreHeld (index_register address : ℕ) (words : List ℕ) : Type 0 where
+  pub index : index_register < 8
+  pub location : address < 4096
+  pub cells : length words ≡ 4096
+
+-- what is so of every core: it holds such
+abbrev pub IsCore : State → Type 0
+IsCore s = AreHeld s.index s.location s.cells
 
 -- the words that an image puts into the cells: each location's word, and 0 where it has none
 abbrev pub cells_of : List (Option ℕ) → List ℕ

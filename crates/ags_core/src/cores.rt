@@ -37,7 +37,7 @@ pub struct Core {
 
 impl Model for Core {
     ghost use Rattle.ags_ports.specs.State.{State};
-    ghost use Rattle.ags_core.specs.Core.{IsCore};
+    ghost use Rattle.ags_core.specs.Core.{AreHeld};
 
     ghost Value = { State };
 
@@ -53,17 +53,7 @@ impl Model for Core {
       outputs = core.outputs.items;
     } };
 
-    ghost invariant = { λ core. IsCore (record {
-      a = core.a;
-      q = core.q;
-      index = core.index;
-      indicator = core.indicator;
-      location = core.location;
-      phase = core.phase;
-      cells = core.cells.items;
-      inputs = core.inputs.items;
-      outputs = core.outputs.items;
-    }) };
+    ghost invariant = { λ core. AreHeld core.index core.location core.cells.items };
 }
 
 impl Core {

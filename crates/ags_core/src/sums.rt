@@ -20,7 +20,7 @@ impl Core {
         self.set_a(word, over)
     }
 
-    /// SUB: the difference from the cell.
+    /// SUB: A less the cell.
     pub(crate) fn sub(&mut self, e: u16) -> Told
         requires { e < 4096 }
         ensures { Does (subtracts self.old (cell self.old e)) self.new result }

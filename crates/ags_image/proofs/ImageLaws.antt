@@ -8,8 +8,9 @@
 --     image_same                              images with the same entry at each location are one
 --     image_of_nothing                        the image without a word is that of no words
 --     image_of_none_more, image_of_word_more  what it is of one word more
+--     some_image                              words of the memory, of which no two lie at one location, have an image
 --     one_image                               words have one image
-use Rattle.std.proofs.Common.{◌≡◌, ◌≢◌, ℕ, ◌<◌, ◌^◌, List, [], ◌∷◌, ◌++◌, Option, Some, None, length, refl, sym, ap, ◌∙◌, ⊎_elim, inl, inr, arith}
+use Rattle.std.proofs.Common.{◌≡◌, ◌≢◌, ℕ, ◌<◌, ◌^◌, List, [], ◌∷◌, ◌++◌, Option, Some, None, length, refl, sym, ap, ◌∙◌, ⊎_elim, inl, inr, arith, append_assoc, append-nil}
 use Rattle.std.specs.List.{Contains}
 use Rattle.std.proofs.lemmas.Bool.{cases_lt, cases_eq}
 use Rattle.std.proofs.lemmas.Grind.{common_steps}
@@ -115,7 +116,7 @@ from_word_more words image at given within of location word is =
           rw (same, ← value) (Contains-push words (Some (at, given)))
       | inr apart ↦
           Contains-append_left words (Some (at, given) ∷ []) (Some (location, word))
-              (of.from_words location word (sym (entry_at-other image at location given apart) ∙ is))
+          (of.from_words location word (sym (entry_at-other image at location given apart) ∙ is))
     ]
 
 -- and which of the words it holds
@@ -145,6 +146,32 @@ image_of_word_more words image at given within below of apart = record {
   from_words = from_word_more words image at given within of;
   has_words = has_word_more words image at given within of apart;
 }
+
+-- The image of all words, where that of those at the front is this one: what is left is set word by word.
+image_grown : (words front rest : List (Option (ℕ × ℕ))) (image : List (Option ℕ)) → words ≡ front ++ rest
+    → ((location word : ℕ) → Contains words (Some (location, word)) → (location < memory_size) × (word < 2 ^ 18))
+    → ((before after : List (Option (ℕ × ℕ))) (location word : ℕ) → words ≡ before ++ Some (location, word) ∷ after
+    → (other : ℕ) → Contains before (Some (location, other)) → other ≡ word)
+    → IsImageOf front image → (whole : List (Option ℕ)) × IsImageOf words whole
+image_grown words front [] image is within apart of =
+    let all : words ≡ front = is ∙ append-nil front in
+    (image, rw all of)
+image_grown words front (None ∷ rest) image is within apart of =
+    image_grown words (front ++ None ∷ []) rest image (is ∙ sym (append_assoc front (None ∷ []) rest)) within apart (image_of_none_more front image of)
+image_grown words front (Some pair ∷ rest) image is within apart of =
+    let cut : words ≡ (front ++ Some pair ∷ []) ++ rest = is ∙ sym (append_assoc front (Some pair ∷ []) rest) in
+    let held : Contains words (Some pair) = rw cut (Contains-append_left (front ++ Some pair ∷ []) rest (Some pair) (Contains-push front (Some pair))) in
+    let inside = within pair.0 pair.1 held in
+    let more : IsImageOf (front ++ Some pair ∷ []) (with_word image pair.0 pair.1) =
+    image_of_word_more front image pair.0 pair.1 inside.0 inside.1 of (λ other before. apart front rest pair.0 pair.1 is other before) in
+    image_grown words (front ++ Some pair ∷ []) rest (with_word image pair.0 pair.1) cut within apart more
+
+pub some_image : (words : List (Option (ℕ × ℕ)))
+    → ((location word : ℕ) → Contains words (Some (location, word)) → (location < memory_size) × (word < 2 ^ 18))
+    → ((before after : List (Option (ℕ × ℕ))) (location word : ℕ) → words ≡ before ++ Some (location, word) ∷ after
+    → (other : ℕ) → Contains before (Some (location, other)) → other ≡ word)
+    → (image : List (Option ℕ)) × IsImageOf words image
+some_image words within apart = image_grown words [] words no_words refl within apart image_of_nothing
 
 -- two images of the same words have the same entries
 entry_same : (words : List (Option (ℕ × ℕ))) (one other : List (Option ℕ)) → IsImageOf words one → IsImageOf words other → (location : ℕ) (entry : Option ℕ)

@@ -28,8 +28,8 @@ pub record IsImage (image : List (Option ℕ)) : Type 0 where
   pub whole : length image ≡ memory_size
   pub words : (location : ℕ) → word_at image location < 2 ^ 18
 
--- The image has exactly these words at these locations, of which some may be left out: each word in it is one of them,
--- and each of them is in it.
+-- The image has exactly the words of the list, each at its location; an element of the list may be none. Each word in the
+-- image is an element, and each element that is a word is in the image.
 pub record IsImageOf (words : List (Option (ℕ × ℕ))) (image : List (Option ℕ)) : Type 0 where
   pub is_image : IsImage image
   pub from_words : (location word : ℕ) → entry_at image location ≡ Some word → Contains words (Some (location, word))

@@ -62,6 +62,15 @@ pub fn image_is_made_word_by_word()
         → IsImageOf (words ++ Some (at, given) ∷ []) (with_word image at given) }
 {}
 
+/// Words of the memory have an image, where no location has two words.
+pub fn apart_words_have_an_image()
+    ensures { (words : List (Option (ℕ × ℕ)))
+        → ((location word : ℕ) → Contains words (Some (location, word)) → (location < memory_size) × (word < 2 ^ 18))
+        → ((before after : List (Option (ℕ × ℕ))) (location word : ℕ) → words ≡ before ++ Some (location, word) ∷ after
+        → (other : ℕ) → Contains before (Some (location, other)) → other ≡ word)
+        → (image : List (Option ℕ)) × IsImageOf words image }
+{}
+
 /// Words have one image.
 pub fn words_have_one_image()
     ensures { (words : List (Option (ℕ × ℕ))) (one other : List (Option ℕ)) → IsImageOf words one

@@ -1,4 +1,5 @@
--- A table of codes tells its orders apart.
+-- A table of codes tells its orders apart. The crates above cite:
+--     standard_are_codes    the standard codes are a table
 use Rattle.std.proofs.Common.{◌≡◌, ◌≢◌, ◌↔◌, ℕ, suc, take, drop, ◌≤◌, ◌-◌, ◌+◌, ◌*◌, ap, sym, ◌∙◌, ◌<◌, ◌==◌, ltb, Bool, true, not, ◌&&◌, List, [], ◌∷◌, length, All, AllPairs, get_or, refl, rules, arith}
 use Rattle.std.specs.List.{list_all}
 use Rattle.std.proofs.lemmas.Grind.{common_steps}
@@ -9,7 +10,7 @@ use Rattle.std.proofs.lemmas.List.Kept.{AllPairs-cons}
 use Rattle.ags_isa.specs.declared.orders.Order.{Order}
 use Rattle.ags_isa.specs.Order.{order_number, all_orders}
 use Rattle.ags_isa.specs.Code.{AreCodes, code_of, standard_codes, standard_digits, unused_digits}
-use Rattle.ags_isa.proofs.OrderLemmas.{order_at_number, order_number-below, order_number-injective}
+use Rattle.ags_isa.proofs.OrderLemmas.{order_at_number, order_number-below, order_number-injective, each_order}
 
 -- places with one code are one place
 pub place_of_code-one : (table : List ℕ) → AreCodes table → (i j : ℕ) → i < 27 → j < 27
@@ -83,12 +84,6 @@ others_after table code number default earlier this order before same =
     let not_sooner : order_number order < number → ⊥ = λ sooner. earlier order sooner same in
     let last : order_number order ≡ number = omega (arith, not_sooner, before) in
     this (ap (code_of table) (ap (λ place. get_or all_orders place default) (sym last) ∙ order_at_number order default) ∙ same)
-
--- what a test tells of each order, each order passes
-each_order : (test : Order → Bool) → list_all test all_orders ≡ true → (order : Order) → test order ≡ true
-each_order test pass order =
-    ap test (sym (order_at_number order order))
-    ∙ AllPass-from_list_all test all_orders pass (order_number order) order (order_number-below order)
 
 pub standard_code-half : (order : Order) → 2 * code_of standard_codes order ≡ standard_digits order
 standard_code-half order =

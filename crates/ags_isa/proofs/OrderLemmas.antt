@@ -1,12 +1,21 @@
--- An order and its number give each other.
-use Rattle.std.proofs.Common.{◌≡◌, ℕ, ◌<◌, get_or, map, find, nat_eq, Option, Some, List, refl, sym, ap, ◌∙◌, lit<, zero-add}
+-- An order and its number give each other, and its name tells both. The crates above cite:
+--     order_at_number       at an order's number stands the order
+--     order_number-below    the number is below 27
+use Rattle.std.proofs.Common.{◌≡◌, ◌↔◌, ℕ, ◌<◌, get_or, map, find, nat_eq, Option, Some, List, Bool, true, false, not, refl, sym, ap, ◌∙◌, lit<, zero-add, arith}
+use Rattle.std.specs.Prelude.{nat_lt}
+use Rattle.std.specs.Ordering.{is_lt, nat_cmp}
+use Rattle.std.specs.declared.cmp.Ordering.{Ordering}
+use Rattle.std.specs.declared.cmp.Ordering.TheVariants.{Less, Equal, Greater}
+use Rattle.std.specs.List.{list_all}
+use Rattle.std.proofs.lemmas.Bool.Decides.{nat_tests}
+use Rattle.std.proofs.lemmas.List.Sums.{AllPass-from_list_all}
 use Rattle.std.proofs.lemmas.List.FromFn.{get_or-range_with_len}
 use Rattle.std.proofs.lemmas.List.{get_or-map}
 use Rattle.std.specs.List.{range_with_len}
-use Rattle.std.specs.Cmp.Lexicographic.{pointwise}
+use Rattle.std.specs.Cmp.Lexicographic.{pointwise, slice_cmp}
 use Rattle.ags_isa.specs.declared.orders.Order.{Order}
 use Rattle.ags_isa.specs.declared.orders.Order.TheVariants.{Abs, Add, Adz, Als, Axt, Cla, Clz, Com, Dly, Dvp, Inp, Ldq, Lls, Lrs, Mpr, Mpy, Mpz, Out, Sto, Stq, Sub, Suz, Tix, Tmi, Tov, Tra, Tsq}
-use Rattle.ags_isa.specs.Order.{order_number, all_orders, order_name}
+use Rattle.ags_isa.specs.Order.{order_number, all_orders, order_name, ComesBefore}
 
 -- at an order's number stands the order
 pub order_at_number : (order other : Order) → get_or all_orders (order_number order) other ≡ order
@@ -117,3 +126,58 @@ order_found-name Tsq = refl
 pub order_name-injective : (order other : Order) → order_name order ≡ order_name other → order ≡ other
 order_name-injective order other same =
     let found : Some order ≡ Some other = sym (order_found-name order) ∙ ap order_found same ∙ order_found-name other in cc
+
+-- what a test tells of all orders, it tells of each
+pub each_order : (test : Order → Bool) → list_all test all_orders ≡ true → (order : Order) → test order ≡ true
+each_order test pass order =
+    ap test (sym (order_at_number order order))
+    ∙ AllPass-from_list_all test all_orders pass (order_number order) order (order_number-below order)
+
+-- ---- the order of the names
+
+false_true : false ≡ true → ⊥
+false_true h = cc
+
+lt_true : (m n : ℕ) → m < n → nat_lt m n ≡ true
+lt_true m n h = grind (arith, nat_tests)
+
+true_lt : (m n : ℕ) → nat_lt m n ≡ true → m < n
+true_lt m n h = grind (arith, nat_tests)
+
+-- two tests answer alike
+alike : Bool → Bool → Bool
+alike true other = other
+alike false other = not other
+
+alike_same : (one other : Bool) → alike one other ≡ true → one ≡ other
+unfolding alike
+alike_same true true h = refl
+alike_same true false h = sym h
+alike_same false true h = h
+alike_same false false h = refl
+
+less_of : (answer : Ordering) → is_lt answer ≡ true → answer ≡ Less
+less_of Less h = refl
+less_of Equal h = absurd (false_true h)
+less_of Greater h = absurd (false_true h)
+
+-- a name comes before another, as a test, and the same of the numbers
+named_before : Order → Order → Bool
+named_before order other = is_lt (slice_cmp nat_cmp (order_name order) (order_name other))
+
+numbered_before : Order → Order → Bool
+numbered_before order other = nat_lt (order_number order) (order_number other)
+
+-- the tests answer alike of each order and each other one
+all_alike : (order other : Order) → named_before order other ≡ numbered_before order other
+unfolding named_before numbered_before alike
+all_alike order other = alike_same _ _
+    (each_order (λ two. alike (named_before order two) (numbered_before order two))
+    (each_order (λ one. list_all (λ two. alike (named_before one two) (numbered_before one two)) all_orders) refl order) other)
+
+pub number_before : (order other : Order) → (order_number order < order_number other) ↔ ComesBefore (order_name order) (order_name other)
+unfolding named_before numbered_before
+number_before order other = (
+  λ less. less_of _ (all_alike order other ∙ lt_true _ _ less),
+  λ first. true_lt _ _ (sym (all_alike order other) ∙ ap is_lt first),
+)

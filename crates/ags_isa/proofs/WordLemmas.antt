@@ -1,4 +1,6 @@
--- A word that is made of a code, an index bit and an address gives each of them back.
+-- A word that is made of a code, an index bit and an address gives each of them back. The crates above cite:
+--     names-one        a word names one order, one index bit and one address
+--     word_of-below    the word of an order is below 2 ^ 18
 use Rattle.std.proofs.Common.{◌≡◌, ℕ, ◌+◌, ◌*◌, ◌/◌, ◌%◌, ◌^◌, ◌∙◌, sym, ◌<◌, Bool, true, false, List, if◌then◌else◌, refl, arith}
 use Rattle.ags_isa.specs.declared.orders.Order.{Order}
 use Rattle.ags_isa.specs.Code.{AreCodes, code_of}

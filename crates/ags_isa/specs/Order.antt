@@ -1,5 +1,8 @@
 -- The machine's 27 orders: the number of each in the alphabet's order, all of them, and the name that a source writes.
-use Rattle.std.specs.Prelude.{ℕ, List, [], ◌∷◌, codes}
+use Rattle.std.specs.Prelude.{◌≡◌, ℕ, List, [], ◌∷◌, codes}
+use Rattle.std.specs.Ordering.{nat_cmp}
+use Rattle.std.specs.declared.cmp.Ordering.TheVariants.{Less}
+use Rattle.std.specs.Cmp.Lexicographic.{slice_cmp}
 use Rattle.ags_isa.specs.declared.orders.Order.{Order}
 use Rattle.ags_isa.specs.declared.orders.Order.TheVariants.{Abs, Add, Adz, Als, Axt, Cla, Clz, Com, Dly, Dvp, Inp, Ldq, Lls, Lrs, Mpr, Mpy, Mpz, Out, Sto, Stq, Sub, Suz, Tix, Tmi, Tov, Tra, Tsq}
 
@@ -66,3 +69,7 @@ order_name Tmi = codes "TMI"
 order_name Tov = codes "TOV"
 order_name Tra = codes "TRA"
 order_name Tsq = codes "TSQ"
+
+-- a text comes before another one, byte for byte: the first bytes that differ decide, or that the text ends first
+abbrev pub ComesBefore : List ℕ → List ℕ → Type 0
+ComesBefore text other = slice_cmp nat_cmp text other ≡ Less

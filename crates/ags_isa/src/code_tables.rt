@@ -74,6 +74,7 @@ impl Codes {
         ensures found { IfSome result (λ order. code_of self.now order ≡ code) }
         ensures only { (order : Order) → code_of self.now order ≡ code → result ≡ Some order }
     {
+        // for the proof alone, which learns here that the table is one of codes
         let _table = &self.table;
         for order in Order::ALL {
             if self.code_of(order) == code {

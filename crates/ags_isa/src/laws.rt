@@ -1,9 +1,10 @@
 //! What the definitions of orders and words mean, in the machine's own words. Each law is what a function that does
-//! nothing ensures, so that it is proved with the crate. Behind each clause is a lemma of `proofs/`.
+//! nothing ensures, so that it is proved with the crate. Behind each clause is a lemma of `proofs/`; those that the crates
+//! above cite are listed at the heads of its files.
 
-ghost use Rattle.std.specs.Prelude.{◌≡◌, ◌≢◌, ℕ, ◌+◌, ◌*◌, ◌/◌, ◌%◌, ◌^◌, ◌<◌, Bool, List, All, if◌then◌else◌};
+ghost use Rattle.std.specs.Prelude.{◌≡◌, ◌≢◌, ℕ, ◌+◌, ◌*◌, ◌/◌, ◌%◌, ◌^◌, ◌<◌, ◌↔◌, Bool, List, All, length, slice_index_or, if◌then◌else◌};
 ghost use Rattle.ags_isa.specs.declared.orders.Order.{Order};
-ghost use Rattle.ags_isa.specs.Order.{order_number, order_name};
+ghost use Rattle.ags_isa.specs.Order.{order_number, all_orders, order_name, ComesBefore};
 ghost use Rattle.ags_isa.specs.Code.{AreCodes, code_of, standard_codes, standard_digits, unused_digits};
 ghost use Rattle.ags_isa.specs.Naming.{word_of, Names};
 
@@ -12,6 +13,21 @@ pub fn orders_differ()
     ensures number { (order other : Order) → order_number order ≡ order_number other → order ≡ other }
     ensures name { (order other : Order) → order_name order ≡ order_name other → order ≡ other }
     ensures below { (order : Order) → order_number order < 27 }
+{}
+
+/// The list of all orders has 27 entries, each order at its number, and so no order twice.
+pub fn all_orders_stand_at_their_numbers()
+    ensures count { length all_orders ≡ 27 }
+    ensures order { (order other : Order) → slice_index_or all_orders (order_number order) other ≡ order }
+    ensures number { (number : ℕ) (other : Order) → number < 27
+        → order_number (slice_index_or all_orders number other) ≡ number }
+{}
+
+/// The order of the numbers is the alphabet's: an order's number is below another's exactly where its name comes before
+/// the other's.
+pub fn numbers_follow_names()
+    ensures { (order other : Order) → (order_number order < order_number other)
+        ↔ ComesBefore (order_name order) (order_name other) }
 {}
 
 /// Each standard code is half the number of the two octal digits that its orders' words begin with, and five pairs of

@@ -47,9 +47,9 @@ pub enum Order {
     Sto,
     /// The cell becomes Q.
     Stq,
-    /// A becomes its difference from the cell.
+    /// The cell is taken from A.
     Sub,
-    /// A becomes its difference from the cell, which is then cleared.
+    /// The cell is taken from A, and is then cleared.
     Suz,
     /// A transfer that counts the index register down, where it isn't 0.
     Tix,

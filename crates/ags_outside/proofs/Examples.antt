@@ -1,23 +1,32 @@
 -- Worked values of the definitions that the contracts cite.
-use Rattle.std.proofs.Common.{◌≡◌, ◌-◌, ◌^◌, [], ◌∷◌, Some, None, refl, arith}
+use Rattle.std.proofs.Common.{◌≡◌, ◌-◌, ◌^◌, [], ◌∷◌, Some, None, refl, inl, inr, arith}
 use Rattle.ags_outside.specs.declared.sinks.PutDone.TheVariants.{Took, Failed}
 use Rattle.ags_outside.specs.Count.{Rose}
 use Rattle.ags_outside.specs.Files.{bytes_of}
 use Rattle.ags_outside.specs.Sink.{taken_after}
 
--- a count of four rose where it is five or more, and not where it is four still
+-- a count of four rose where it is five or more, and not where it is four still or fell
 rose_by_one : Rose 4 5
-rose_by_one = omega arith
+rose_by_one = inl (omega arith)
 
 rose_by_more : Rose 4 9
-rose_by_more = omega arith
+rose_by_more = inl (omega arith)
 
 stayed : Rose 4 4 → ⊥
-stayed rose = omega arith
+stayed (inl more) = omega arith
+stayed (inr last) = omega arith
 
--- at the last value of a counter every call may have raised it
+fell : Rose 4 3 → ⊥
+fell (inl more) = omega arith
+fell (inr last) = omega arith
+
+-- at the last value of a counter every call may have raised it, and behind that value none that left it
 rose_at_the_last : Rose (2 ^ 64 - 1) (2 ^ 64 - 1)
-rose_at_the_last = omega arith
+rose_at_the_last = inr refl
+
+stayed_behind : Rose (2 ^ 64) (2 ^ 64) → ⊥
+stayed_behind (inl more) = omega arith
+stayed_behind (inr last) = omega arith
 
 -- two files named 7 and 8: a look-up by the whole name, the first of a name counts, and no other is found
 found : bytes_of ((7 ∷ [], 1 ∷ 2 ∷ []) ∷ (8 ∷ [], []) ∷ []) (8 ∷ []) ≡ Some []

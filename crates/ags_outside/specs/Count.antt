@@ -1,6 +1,13 @@
 -- The counts that an outside keeps: of its faults, and of the files that it found absent.
-use Rattle.std.specs.Prelude.{ℕ, ◌+◌, ◌-◌, ◌^◌, ◌≤◌, min}
+use Rattle.std.specs.Prelude.{◌≡◌, ℕ, ◌-◌, ◌^◌, ◌<◌, ◌≤◌, ◌⊎◌}
+use Rattle.std.proofs.Common.{arith, inl, inr}
 
--- a count rose in a call: it is greater than before, or stands at the last value of a counter of 64 bits
+-- a count rose in a call: it is greater than before, or it stands at the last value of a counter of 64 bits, which
+-- such a counter doesn't leave
 abbrev pub Rose : ℕ → ℕ → Type 0
-Rose before now = min (before + 1) (2 ^ 64 - 1) ≤ now
+Rose before now = (before < now) ⊎ (now ≡ 2 ^ 64 - 1)
+
+-- what rose in the last of several calls, and fell in none before it, rose in all of them together
+pub rose_since : (before mid now : ℕ) → before ≤ mid → Rose mid now → Rose before now
+rose_since before mid now stays (inl more) = inl (omega arith)
+rose_since before mid now stays (inr last) = inr last

@@ -19,3 +19,13 @@ FetchTells (Some (Some bytes)) limit (Err Absent) = ⊥
 FetchTells (Some (Some bytes)) limit (Err ReadFault) = Unit {0}
 FetchTells (Some (Some bytes)) limit (Err TooLong) = limit < length bytes
 FetchTells (Some (Some bytes)) limit (Err NoMemory) = Unit {0}
+
+-- What a fetch leaves as it was, of two facts: that the shelf's count of faults stayed, and that its count of absent
+-- files did. A fetch that found the file absent leaves the faults, one that met a fault the absences, and each other
+-- fetch both. So no file is given, and none is too long, in a call in which the shelf failed or found it absent.
+abbrev pub IsCleanFetch : (answer : Result (Vec ℕ Global) FetchError) (faults_stayed absences_stayed : Type 0) → Type 0
+IsCleanFetch (Ok given) faults_stayed absences_stayed = faults_stayed × absences_stayed
+IsCleanFetch (Err Absent) faults_stayed absences_stayed = faults_stayed
+IsCleanFetch (Err ReadFault) faults_stayed absences_stayed = absences_stayed
+IsCleanFetch (Err TooLong) faults_stayed absences_stayed = faults_stayed × absences_stayed
+IsCleanFetch (Err NoMemory) faults_stayed absences_stayed = faults_stayed × absences_stayed

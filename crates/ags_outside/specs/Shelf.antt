@@ -28,13 +28,28 @@ PullTells (Some (Some bytes)) from into Absent = ⊥
 PullTells (Some (Some bytes)) from into Failed = Unit {0}
 PullTells (Some (Some bytes)) from into NoMemory = Unit {0}
 
--- an answer of a shelf that never fails and never wants memory
-abbrev pub IsSteadyPull : Pull → Type 0
-IsSteadyPull (Got count) = Unit {0}
-IsSteadyPull End = Unit {0}
-IsSteadyPull Absent = Unit {0}
-IsSteadyPull Failed = ⊥
-IsSteadyPull NoMemory = ⊥
+-- What an answer leaves as it was, of two facts: that the count of faults stayed, and that the count of absent files
+-- did. An absence leaves the faults, a failure the absences, and each other answer both.
+abbrev pub IsCleanPull : (answer : Pull) (faults_stayed absences_stayed : Type 0) → Type 0
+IsCleanPull (Got count) faults_stayed absences_stayed = faults_stayed × absences_stayed
+IsCleanPull End faults_stayed absences_stayed = faults_stayed × absences_stayed
+IsCleanPull Absent faults_stayed absences_stayed = faults_stayed
+IsCleanPull Failed faults_stayed absences_stayed = absences_stayed
+IsCleanPull NoMemory faults_stayed absences_stayed = faults_stayed × absences_stayed
+
+-- An answer of a shelf that never fails and never wants memory. Of a file that is there it gives as many bytes as
+-- stand at that place and behind it, up to the room.
+abbrev pub IsSteadyPull : (file : Option (List ℕ)) (from room : ℕ) (answer : Pull) → Type 0
+IsSteadyPull None from room (Got count) = ⊥
+IsSteadyPull None from room End = ⊥
+IsSteadyPull None from room Absent = Unit {0}
+IsSteadyPull None from room Failed = ⊥
+IsSteadyPull None from room NoMemory = ⊥
+IsSteadyPull (Some bytes) from room (Got count) = count ≡ min room (length bytes - from)
+IsSteadyPull (Some bytes) from room End = length bytes ≤ from
+IsSteadyPull (Some bytes) from room Absent = ⊥
+IsSteadyPull (Some bytes) from room Failed = ⊥
+IsSteadyPull (Some bytes) from room NoMemory = ⊥
 
 -- a count of absent files after an answer: one more where the file was absent, up to the last value of a counter
 abbrev pub absences_after : ℕ → Pull → ℕ

@@ -2,6 +2,7 @@
 --   wrote_nothing     at the start, all is left
 --   wrote_piece       a whole piece was appended, and what is behind it is left
 --   wrote_part        the same, where the piece is the first bytes of what was left
+--   wrote_of_nothing  of no bytes, nothing is left
 --   wrote_all         at the end, where nothing is left, the whole text was appended
 --   wrote_front       a piece failed, of which a front was appended
 --   wrote_front_last  the same, where the piece is all that was left
@@ -10,7 +11,7 @@
 --   front_in_first    the first failed
 --   front_in_second   the first was appended, and the second failed
 use Rattle.std.specs.Prelude.{◌≡◌, ℕ, ◌<◌, ◌≤◌, List, [], ◌++◌, take, drop, Option, Some, None, refl}
-use Rattle.std.proofs.Common.{sym, ◌∙◌, ap, append_assoc, append-nil}
+use Rattle.std.proofs.Common.{sym, ◌∙◌, ap, arith, length, append_assoc, append-nil, length-append}
 use Rattle.std.proofs.lemmas.List.{take-append-drop}
 use Rattle.ags_outside.specs.declared.sinks.PutDone.{PutDone}
 use Rattle.ags_outside.specs.declared.sinks.PutDone.TheVariants.{Took, Failed, NoMemory}
@@ -31,6 +32,18 @@ abbrev pub taken_after : (before : Option (List ℕ)) (piece : List ℕ) (answer
 taken_after before piece (Took count) = appended before (take count piece)
 taken_after before piece Failed = before
 taken_after before piece NoMemory = before
+
+-- an answer leaves the count of faults as it was, unless it is a failure
+abbrev pub IsCleanPut : (answer : PutDone) (faults_stayed : Type 0) → Type 0
+IsCleanPut (Took count) faults_stayed = faults_stayed
+IsCleanPut Failed faults_stayed = Unit {0}
+IsCleanPut NoMemory faults_stayed = faults_stayed
+
+-- an answer of a sink that never fails: so many bytes are taken, unless memory is wanting
+abbrev pub IsSteadyPut : (amount : ℕ) (answer : PutDone) → Type 0
+IsSteadyPut amount (Took count) = count ≡ amount
+IsSteadyPut amount Failed = ⊥
+IsSteadyPut amount NoMemory = Unit {0}
 
 -- of a text all was appended but the rest
 pub record Wrote (old new : Option (List ℕ)) (text rest : List ℕ) : Type 0 where
@@ -71,6 +84,11 @@ wrote_part {left = left} {rest = rest} count wrote behind put =
     let cut : left ≡ take count left ++ rest =
     sym (take-append-drop count left) ∙ ap (λ more. take count left ++ more) (sym behind) in
     wrote_piece (take count left) rest wrote cut put
+
+pub wrote_of_nothing : {old new : Option (List ℕ)} {text rest : List ℕ} →
+    Wrote old new text rest → text ≡ [] → length rest ≡ 0
+wrote_of_nothing {rest = rest} wrote none =
+    omega (arith, length-append wrote.done rest, ap length wrote.whole, ap length none)
 
 pub wrote_all : {old new : Option (List ℕ)} {text : List ℕ} → Wrote old new text [] → new ≡ appended old text
 wrote_all {old} wrote = wrote.told ∙ ap (appended old) (sym (append-nil wrote.done) ∙ wrote.whole)

@@ -2,7 +2,7 @@
 
 ghost use Rattle.std.specs.Prelude.{◌≡◌, ◌+◌, ◌-◌, ◌≤◌, min, length, IfOk, IsErrOf};
 ghost use Rattle.ags_outside.specs.Count.{Rose};
-ghost use Rattle.ags_outside.specs.Fetch.{FetchTells};
+ghost use Rattle.ags_outside.specs.Fetch.{FetchTells, IsCleanFetch};
 
 use crate::{Pull, Shelf};
 use std::alloc::Global;
@@ -57,6 +57,7 @@ pub fn fetch<S: Shelf>(
     ensures absences_stay { S.absences shelf.old ≤ S.absences shelf.new }
     ensures absent { IsErrOf result FetchError.Absent → Rose (S.absences shelf.old) (S.absences shelf.new) }
     ensures read_fault { IsErrOf result FetchError.ReadFault → Rose (S.faults shelf.old) (S.faults shelf.new) }
+    ensures clean { IsCleanFetch result (S.faults shelf.new ≡ S.faults shelf.old) (S.absences shelf.new ≡ S.absences shelf.old) }
 {
     let mut bytes = Vec::new(alloc);
     let mut piece = [0u8; PIECE];

@@ -5,6 +5,7 @@
 #![tactic(auto)]
 
 mod fetching;
+mod laws;
 mod sending;
 mod shelves;
 mod sinks;
@@ -12,6 +13,7 @@ mod steady_shelf;
 mod steady_sink;
 
 pub use fetching::{FetchError, fetch};
+pub use laws::a_later_rise_is_a_rise;
 pub use sending::{SendError, send};
 pub use shelves::{Pull, Shelf};
 pub use sinks::{PutDone, Sink};

@@ -1,7 +1,8 @@
 //! All bytes into a sink.
 
-ghost use Rattle.std.specs.Prelude.{◌≡◌, ◌≤◌, OnOk, OnErr, IsErrOf};
+ghost use Rattle.std.specs.Prelude.{◌≡◌, ◌≤◌, [], Ok, OnOk, OnErr, IsErrOf};
 ghost use Rattle.ags_outside.specs.Count.{Rose};
+ghost use Rattle.ags_outside.specs.Send.{IsCleanSend};
 ghost use Rattle.ags_outside.specs.Sink.{appended, WroteFront};
 
 use crate::{PutDone, Sink};
@@ -25,6 +26,8 @@ pub fn send<K: Sink>(out: &mut K, bytes: &[u8]) -> Result<(), SendError>
     ensures front { OnErr result (WroteFront (K.told out.old) (K.told out.new) bytes.now) }
     ensures faults_stay { K.faults out.old ≤ K.faults out.new }
     ensures write_fault { IsErrOf result SendError.WriteFault → Rose (K.faults out.old) (K.faults out.new) }
+    ensures clean { IsCleanSend result (K.faults out.new ≡ K.faults out.old) }
+    ensures nothing { bytes.now ≡ [] → (result ≡ Ok tt) × (out.new ≡ out.old) }
 {
     let mut rest = bytes;
     while !rest.is_empty() {

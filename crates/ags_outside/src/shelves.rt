@@ -2,7 +2,7 @@
 
 ghost use Rattle.std.specs.Prelude.{◌≡◌, ℕ, ◌<◌, ◌≤◌, List, length, Option};
 ghost use Rattle.ags_outside.specs.Count.{Rose};
-ghost use Rattle.ags_outside.specs.Shelf.{GotWithin, PullTells};
+ghost use Rattle.ags_outside.specs.Shelf.{GotWithin, IsCleanPull, PullTells};
 
 /// What a shelf answers to a pull.
 #[derive(Clone, Copy, Debug, PartialEq, Eq)]
@@ -39,5 +39,6 @@ pub trait Shelf {
         ensures faults_stay { faults self.old ≤ faults self.new }
         ensures absences_stay { absences self.old ≤ absences self.new }
         ensures absent { result ≡ Pull.Absent → Rose (absences self.old) (absences self.new) }
-        ensures failed { result ≡ Pull.Failed → Rose (faults self.old) (faults self.new) };
+        ensures failed { result ≡ Pull.Failed → Rose (faults self.old) (faults self.new) }
+        ensures clean { IsCleanPull result (faults self.new ≡ faults self.old) (absences self.new ≡ absences self.old) };
 }

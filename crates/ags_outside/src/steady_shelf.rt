@@ -98,7 +98,7 @@ impl Shelf for SteadyShelf {
         ensures absences_stay { self.old.absences ≤ self.new.absences }
         ensures got { GotWithin (length into.old) result }
         ensures tells { PullTells (Some (bytes_of self.old.files name.now)) from into.new result }
-        ensures steady { IsSteadyPull result }
+        ensures steady { IsSteadyPull (bytes_of self.old.files name.now) from (length into.old) result }
     {
         let Some(bytes) = find(&self.files, name) else {
             self.absences = self.absences.saturating_add(1);

@@ -1,7 +1,7 @@
 //! A sink in memory that never fails.
 
-ghost use Rattle.std.specs.Prelude.{◌≡◌, ◌≢◌, ◌<◌, ◌≤◌, [], Some, length, min};
-ghost use Rattle.ags_outside.specs.Sink.{TookWithin, taken_after};
+ghost use Rattle.std.specs.Prelude.{◌≡◌, ◌<◌, ◌≤◌, [], Some, length, min};
+ghost use Rattle.ags_outside.specs.Sink.{IsSteadyPut, TookWithin, taken_after};
 
 use crate::{PutDone, Sink};
 use std::alloc::Global;
@@ -56,7 +56,7 @@ impl Sink for SteadySink {
         ensures took { TookWithin (min (length piece.now) self.old.most) result }
         ensures taken { Some self.new.bytes ≡ taken_after (Some self.old.bytes) piece.now result }
         ensures most { self.new.most ≡ self.old.most }
-        ensures steady { result ≢ PutDone.Failed }
+        ensures steady { IsSteadyPut (min (length piece.now) self.old.most) result }
     {
         let count = piece.len().min(self.most);
         match self.taken.extend_from_slice(&piece[..count]) {

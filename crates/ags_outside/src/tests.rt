@@ -139,6 +139,66 @@ fn a_fault_in_mid_file_is_told(rt: HostRuntime) -> Result<(), Fail> {
     Ok(())
 }
 
+/// A shelf that tells nothing: it gives one byte, and from then on what it turns to.
+#[derive(Drop)]
+struct TurningShelf {
+    then: Pull,
+    pulls: u64,
+    faults: u64,
+    absences: u64,
+}
+
+impl Shelf for TurningShelf {
+    ghost told = { λ _ _. None };
+
+    ghost faults = { λ shelf. shelf.faults };
+
+    ghost absences = { λ shelf. shelf.absences };
+
+    fn pull(&mut self, _name: &str, _from: u64, _into: &mut [u8]) -> Pull {
+        self.pulls = self.pulls.saturating_add(1);
+        if self.pulls == 1 {
+            return Pull::Got(1);
+        }
+        match self.then {
+            Pull::Got(_) => Pull::Got(1),
+            Pull::End => Pull::End,
+            Pull::Absent => {
+                self.absences = self.absences.saturating_add(1);
+                Pull::Absent
+            }
+            Pull::Failed => {
+                self.faults = self.faults.saturating_add(1);
+                Pull::Failed
+            }
+            Pull::NoMemory => Pull::NoMemory,
+        }
+    }
+}
+
+// A file that is cut off is never given as a whole one, and no refusal is followed by another pull.
+#[test]
+fn a_shelf_that_turns_is_asked_twice(rt: HostRuntime) {
+    let rows = [
+        (Pull::End, Ok(1)),
+        (Pull::Absent, Err(FetchError::Absent)),
+        (Pull::Failed, Err(FetchError::ReadFault)),
+        (Pull::NoMemory, Err(FetchError::NoMemory)),
+        (Pull::Got(1), Err(FetchError::TooLong)),
+    ];
+    for (then, wanted) in rows {
+        let mut shelf = TurningShelf {
+            then,
+            pulls: 0,
+            faults: 0,
+            absences: 0,
+        };
+        let fetched = fetch(rt.alloc(), &mut shelf, "turning", 1).map(|bytes| bytes.len());
+        assert!(rt; fetched == wanted, "then {then:?}");
+        assert_eq!(rt; shelf.pulls, 2, "then {then:?}");
+    }
+}
+
 #[test]
 fn all_bytes_are_sent(rt: HostRuntime) -> Result<(), Fail> {
     let alloc = rt.alloc();
@@ -153,10 +213,10 @@ fn all_bytes_are_sent(rt: HostRuntime) -> Result<(), Fail> {
     Ok(())
 }
 
-/// A sink that tells nothing, takes two bytes a put and fails after so many puts.
+/// A sink that tells nothing, takes two bytes a put and fails at one of its puts.
 #[derive(Drop)]
 struct ShortSink {
-    room: u64,
+    fails_at: u64,
     puts: u64,
     faults: u64,
 }
@@ -168,7 +228,7 @@ impl Sink for ShortSink {
 
     fn put(&mut self, piece: &[u8]) -> PutDone {
         self.puts = self.puts.saturating_add(1);
-        if self.puts > self.room {
+        if self.puts == self.fails_at {
             self.faults = self.faults.saturating_add(1);
             return PutDone::Failed;
         }
@@ -176,20 +236,26 @@ impl Sink for ShortSink {
     }
 }
 
+// No put is made for no bytes, and none behind a put that failed.
 #[test]
 fn a_fault_in_mid_text_is_told(rt: HostRuntime) {
-    let rows: [(&[u8], u64, Result<(), SendError>); 4] = [
-        (b"", 0, Ok(())),
-        (b"12345", 3, Ok(())),
-        (b"12345", 2, Err(SendError::WriteFault)),
-        (b"12345", 1, Err(SendError::WriteFault)),
+    let rows: [(&[u8], u64, Result<(), SendError>, u64); 5] = [
+        (b"", 1, Ok(()), 0),
+        (b"12345", 1, Err(SendError::WriteFault), 1),
+        (b"12345", 2, Err(SendError::WriteFault), 2),
+        (b"12345", 3, Err(SendError::WriteFault), 3),
+        (b"12345", 4, Ok(()), 3),
     ];
-    for (bytes, puts, wanted) in rows {
+    for (bytes, fails_at, wanted, puts) in rows {
         let mut sink = ShortSink {
-            room: puts,
+            fails_at,
             puts: 0,
             faults: 0,
         };
-        assert!(rt; send(&mut sink, bytes) == wanted, "{puts} puts");
+        assert!(rt;
+            send(&mut sink, bytes) == wanted,
+            "a fault at put {fails_at}"
+        );
+        assert_eq!(rt; sink.puts, puts, "a fault at put {fails_at}");
     }
 }

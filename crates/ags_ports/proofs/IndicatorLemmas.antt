@@ -1,4 +1,4 @@
--- An order that overflows sets the indicator, and TOV alone clears it.
+-- An order that overflows sets the indicator, nothing else does, and TOV alone clears it.
 use Rattle.std.proofs.Common.{◌≡◌, ◌≢◌, ℕ, true, false, refl, sym, ap, subst, ◌∙◌, ◌⊎◌, ⊎_elim, inl, inr}
 use Rattle.std.specs.Prelude.{Bool, Option, Some, None, nat_eq, int_lt, pos, ◌||◌, if◌then◌else◌}
 use Rattle.ags_word.specs.Word.{val}
@@ -152,3 +152,44 @@ pub tov_clears : (machine : Machine) (s : State) (event : Event) (done : Done) (
 tov_clears machine s Step done after p was now = (refl, step_in_clears s.phase machine s done after refl p was now)
 tov_clears machine s Pulse done after p was now = absurd (still_set s after was now (ap (λ (v : State). v.indicator) p.1))
 tov_clears machine s (Put address word) done after p was now = absurd (still_set s after was now (ap (λ (v : State). v.indicator) p.1))
+
+-- ---- an order that overflows alone sets it
+
+or_second : (a b : Bool) → a ≡ false → (a || b) ≡ true → b ≡ true
+or_second true b clear h = absurd (differ (sym clear))
+or_second false b clear h = h
+
+other_chosen : (b : Bool) (t u : State) → b ≡ false → u.indicator ≡ false → (if b then t else u).indicator ≡ false
+other_chosen true t u clear h = absurd (differ (sym clear))
+other_chosen false t u clear h = h
+
+effect_set_by : (machine : Machine) (s : State) (order : Order) (e y : ℕ) → s.indicator ≡ false
+    → ((effect machine s order e y).after).indicator ≡ true → (effect machine s order e y).overflow ≡ true
+effect_set_by machine s order e y was now = ⊎_elim
+    (λ tov.
+    let set : ((effect machine s Tov e y).after).indicator ≡ true = subst (λ (o : Order). ((effect machine s o e y).after).indicator ≡ true) tov now in
+    absurd (differ (sym (other_chosen s.indicator _ _ was was) ∙ set)))
+    (λ other. or_second s.indicator _ was (sym (effect_indicator machine s order e y other) ∙ now))
+    (tov_or_not order)
+
+still_clear : (s after : State) → s.indicator ≡ false → after.indicator ≡ true → after.indicator ≡ s.indicator → ⊥
+still_clear s after was now same = differ (sym was ∙ sym same ∙ now)
+
+obeys_set_by : (machine : Machine) (s : State) (named : Option Decoded) (done : Done) (after : State) → Obeys machine s named done after
+    → s.indicator ≡ false → after.indicator ≡ true → done.overflow ≡ true
+obeys_set_by machine s (Some d) done after p was now =
+    ap (λ (v : Done). v.overflow) p.0
+    ∙ effect_set_by machine s d.order (effective s d.order d.indexed d.address) d.address was (sym (ap (λ (v : State). v.indicator) p.1) ∙ now)
+obeys_set_by machine s None done after p was now = absurd (still_clear s after was now (ap (λ (v : State). v.indicator) p.1))
+
+step_in_set_by : (phase : Phase) (machine : Machine) (s : State) (done : Done) (after : State) → StepsIn phase machine s done after
+    → s.indicator ≡ false → after.indicator ≡ true → done.overflow ≡ true
+step_in_set_by Running machine s done after p was now = obeys_set_by machine s p.0 done after p.2 was now
+step_in_set_by Waiting machine s done after p was now = absurd (still_clear s after was now (ap (λ (v : State). v.indicator) p.1))
+step_in_set_by Halted machine s done after p was now = absurd (still_clear s after was now (ap (λ (v : State). v.indicator) p.1))
+
+pub set_by_overflow : (machine : Machine) (s : State) (event : Event) (done : Done) (after : State) → Steps machine s event done after
+    → s.indicator ≡ false → after.indicator ≡ true → done.overflow ≡ true
+set_by_overflow machine s Step done after p was now = step_in_set_by s.phase machine s done after p was now
+set_by_overflow machine s Pulse done after p was now = absurd (still_clear s after was now (ap (λ (v : State). v.indicator) p.1))
+set_by_overflow machine s (Put address word) done after p was now = absurd (still_clear s after was now (ap (λ (v : State). v.indicator) p.1))

@@ -1,9 +1,11 @@
 pub mod TimeLemmas
+pub mod MachineLemmas
 pub mod PortLemmas
 pub mod NamingLemmas
 pub mod StepLemmas
 pub mod StateLemmas
 pub mod CellLemmas
+pub mod AddressLemmas
 pub mod PhaseLemmas
 pub mod IndicatorLemmas
 pub mod RunLemmas

@@ -1,4 +1,6 @@
--- What holds of each step holds along each run.
+-- What holds of each step holds along each run. The crates above cite:
+--     some_run, one_run          from each state, each list of events has one run
+--     run-append, last-append    a run that goes on where another ends makes one run with it, which ends where the second does
 use Rattle.std.proofs.Common.{◌≡◌, ℕ, ◌≤◌, refl, sym, ap, subst, ◌∙◌, List, [], ◌∷◌, ◌++◌}
 use Rattle.ags_ports.specs.declared.events.Phase.TheVariants.{Halted}
 use Rattle.ags_ports.specs.declared.events.Event.{Event}
@@ -6,6 +8,7 @@ use Rattle.ags_ports.specs.declared.events.Done.{Done}
 use Rattle.ags_ports.specs.declared.machines.Machine.{Machine}
 use Rattle.ags_ports.specs.Machine.{IsMachine}
 use Rattle.ags_ports.specs.State.{State, IsState, cell}
+use Rattle.ags_ports.specs.Step.{ChangesInputsAlone}
 use Rattle.ags_ports.specs.Run.{Moment, Run, AtEach, AreEvents, last_state}
 use Rattle.ags_ports.proofs.StepLemmas.{some_step, one_step}
 use Rattle.ags_ports.proofs.StateLemmas.{step_keeps}
@@ -64,9 +67,30 @@ run_halted machine s (event ∷ events) (m ∷ ms) halted p =
     let next = ap (λ (t : State). t.phase) (halts machine s event m.done m.after halted p.0) ∙ halted in
     (next, run_halted machine m.after events ms next p.1)
 
+-- what changes inputs alone, and then again, changes inputs alone
+alone_again : (s between after : State) → ChangesInputsAlone s between → ChangesInputsAlone between after → ChangesInputsAlone s after
+alone_again s between after first second = second ∙ ap (λ (t : State). record t { inputs = after.inputs }) first
+
+alone_from : (start : State) (machine : Machine) (s : State) (events : List Event) (moments : List Moment) → s.phase ≡ Halted → ChangesInputsAlone start s
+    → Run machine s events moments → AtEach (λ moment. ChangesInputsAlone start moment.after) moments
+alone_from start machine s [] [] halted alone p = tt
+alone_from start machine s [] (m ∷ ms) halted alone p = absurd p
+alone_from start machine s (event ∷ events) [] halted alone p = absurd p
+alone_from start machine s (event ∷ events) (m ∷ ms) halted alone p =
+    let step = halts machine s event m.done m.after halted p.0 in
+    let next = alone_again start s m.after alone step in
+    (next, alone_from start machine m.after events ms (ap (λ (t : State). t.phase) step ∙ halted) next p.1)
+
+pub run_alone : (machine : Machine) (s : State) (events : List Event) (moments : List Moment) → s.phase ≡ Halted → Run machine s events moments → AtEach (λ moment. ChangesInputsAlone s moment.after) moments
+run_alone machine s events moments halted p = alone_from s machine s events moments halted refl p
+
 -- a run goes on from where another ends
 pub run-append : (machine : Machine) (s : State) (events more : List Event) (moments others : List Moment) → Run machine s events moments → Run machine (last_state s moments) more others → Run machine s (events ++ more) (moments ++ others)
 run-append machine s [] more [] others p r = r
 run-append machine s [] more (m ∷ ms) others p r = absurd p
 run-append machine s (event ∷ events) more [] others p r = absurd p
 run-append machine s (event ∷ events) more (m ∷ ms) others p r = (p.0, run-append machine m.after events more ms others p.1 r)
+
+pub last-append : (s : State) (moments others : List Moment) → last_state s (moments ++ others) ≡ last_state (last_state s moments) others
+last-append s [] others = refl
+last-append s (m ∷ ms) others = last-append m.after ms others

@@ -1,4 +1,5 @@
--- A step keeps a state in its ranges.
+-- A step keeps a state in its ranges. The crates above cite:
+--     step_keeps    a step keeps each part of a state in its range
 use Rattle.std.proofs.Common.{◌≡◌, ℕ, ◌-◌, ◌%◌, ◌<◌, ◌^◌, true, false, refl, sym, subst, ◌∙◌, ⊎_elim, arith, List, length, get_or, set, All}
 use Rattle.std.specs.Prelude.{Bool, Option, Some, None, IfSome, nat_lt, bit_or, int_div, ℤ, pos, ◌||◌, ◌&&◌, slice_get, if◌then◌else◌}
 use Rattle.std.specs.Ordering.{int_eq}

@@ -72,16 +72,20 @@ then_clears done address = then_stores done address 0
 
 -- ---- what the clearing orders share with the plain ones; m is the word of the cell
 
+-- A becomes m
 abbrev pub loads : State → ℕ → Effect
 loads s m = leaves (record s { a = m; location = next_location s })
 
+-- A becomes the word of val A plus val m, and it overflows where that doesn't fit
 abbrev pub adds : State → ℕ → Effect
 adds s m = computes s (val s.a +ℤ val m)
 
+-- A becomes the word of val A less val m, and it overflows where that doesn't fit
 abbrev pub subtracts : State → ℕ → Effect
 subtracts s m = computes s (val s.a -ℤ val m)
 
--- A is the product over 2 ^ 17 to the nearest whole number, halves upward, and Q that of the whole product
+-- A becomes the word of the product over 2 ^ 17, to the nearest whole number and a half upward; Q becomes that of the
+-- pair that the product sets, and it overflows where the product is no number of a pair
 abbrev pub rounds_product : State → ℕ → Effect
 rounds_product s m = let product = val s.a *ℤ val m in overflowing (not (fits_long product)) (record s {
   a = wrap (shifted_right (product +ℤ pos (2 ^ 16)) 17);
@@ -96,8 +100,7 @@ divides s (Some quotient) = leaves (record s { a = quotient; location = next_loc
 
 -- ---- the table
 
--- The address that an order acts on: where the index bit is set and counts, the bits of the address and of the index
--- register together. It doesn't count in TIX AXT ALS LLS LRS COM ABS INP OUT DLY.
+-- whether the index bit counts in an order: it doesn't in TIX AXT ALS LLS LRS COM ABS INP OUT DLY
 abbrev pub counts_index : Order → Bool
 counts_index Tix = false
 counts_index Axt = false
@@ -111,6 +114,8 @@ counts_index Out = false
 counts_index Dly = false
 counts_index _ = true
 
+-- The address that an order acts on: its own one, and where the index bit is set and counts, the bits of that address
+-- and of the index register together.
 abbrev pub effective : State → Order → Bool → ℕ → ℕ
 effective s order indexed y = if indexed && counts_index order then bit_or y s.index else y
 

@@ -4,7 +4,7 @@ use Rattle.ags_ports.specs.declared.machines.Machine.{Machine}
 use Rattle.ags_ports.specs.Time.{AreTimes, standard_times}
 use Rattle.ags_ports.specs.Port.{AreRegisters, standard_inputs, standard_outputs}
 
--- the tables of a machine are what each says of itself; each machine that a program has is one of these
+-- the codes, times and registers are valid tables; each machine that a program has is one of these
 pub record IsMachine (machine : Machine) : Type 0 where
   pub codes : AreCodes machine.codes
   pub times : AreTimes machine.times

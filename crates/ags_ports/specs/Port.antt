@@ -37,10 +37,11 @@ abbrev pub read_at : List Port → List ℕ → Option ℕ → List ℕ
 read_at ports words None = words
 read_at ports words (Some place) = if is_once (slice_get ports place) then slice_set words place 0 else words
 
--- a register that holds its word, and one that holds it once
+-- the register at an address that holds its word until another one is set
 abbrev pub held : ℕ → Port
 held address = record { address = address; once = false }
 
+-- the register at an address that holds its word once
 abbrev pub once : ℕ → Port
 once address = record { address = address; once = true }
 

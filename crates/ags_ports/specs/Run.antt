@@ -20,7 +20,7 @@ Run machine s (event ∷ events) (moment ∷ moments) =
 Run machine s [] (moment ∷ moments) = ⊥
 Run machine s (event ∷ events) [] = ⊥
 
--- each event's word is one
+-- each word that an event puts is below 2 ^ 18
 abbrev pub AreEvents : List Event → Type 0
 AreEvents [] = ⊤
 AreEvents (event ∷ events) = IsEvent event × AreEvents events

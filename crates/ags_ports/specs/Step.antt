@@ -13,7 +13,7 @@ use Rattle.ags_ports.specs.Port.{place_of, set_at}
 use Rattle.ags_ports.specs.State.{State, word_here}
 use Rattle.ags_ports.specs.Effect.{Effect, effect, effective}
 
--- the event's word is one
+-- the word that the event puts is below 2 ^ 18
 abbrev pub IsEvent : Event → Type 0
 IsEvent Step = ⊤
 IsEvent Pulse = ⊤

@@ -1,7 +1,9 @@
 //! What the definition of the machine means. Each law is what a function that does nothing ensures, so that it is
-//! proved with the crate. Behind each clause is a lemma of `proofs/`, which the crates above cite.
+//! proved with the crate. Behind each clause is a lemma of `proofs/`; those that the crates above cite are listed at the
+//! heads of its files.
 
-ghost use Rattle.std.specs.Prelude.{◌≡◌, ◌≢◌, ℕ, ◌<◌, ◌≤◌, true, false, All, List, length, slice_index_or, Some, None};
+ghost use Rattle.std.specs.Prelude.{◌≡◌, ◌≢◌, ℕ, ◌/◌, ◌%◌, ◌^◌, ◌<◌, ◌≤◌, ◌⊎◌, ◌↔◌, Bool, true, false, All, List, ◌++◌, length, slice_index_or, Some, None};
+ghost use Rattle.ags_isa.specs.declared.orders.Order.{Order};
 ghost use Rattle.ags_isa.specs.declared.orders.Order.TheVariants.{Add, Adz, Cla, Clz, Mpr, Mpz, Sub, Suz, Tov};
 ghost use Rattle.ags_ports.specs.declared.events.Phase.TheVariants.{Running, Waiting, Halted};
 ghost use Rattle.ags_ports.specs.declared.events.Event.{Event};
@@ -9,15 +11,16 @@ ghost use Rattle.ags_ports.specs.declared.events.Event.TheVariants.{Step, Pulse}
 ghost use Rattle.ags_ports.specs.declared.events.Done.{Done};
 ghost use Rattle.ags_ports.specs.declared.registers.Port.{Port};
 ghost use Rattle.ags_ports.specs.Port.{AreRegisters, place_of};
-ghost use Rattle.ags_ports.specs.Machine.{IsMachine};
+ghost use Rattle.ags_ports.specs.Time.{AreTimes, time_of, standard_time, standard_times};
+ghost use Rattle.ags_ports.specs.Machine.{IsMachine, standard_machine};
 ghost use Rattle.ags_ports.specs.State.{State, IsState, cell};
-ghost use Rattle.ags_ports.specs.Effect.{effect, then_clears};
+ghost use Rattle.ags_ports.specs.Effect.{counts_index, effective, effect, then_clears};
 ghost use Rattle.ags_ports.specs.Step.{IsEvent, Steps, Reads, ChangesInputsAlone};
-ghost use Rattle.ags_ports.specs.Run.{Moment, Run, AtEach, AreEvents};
+ghost use Rattle.ags_ports.specs.Run.{Moment, Run, AtEach, AreEvents, last_state};
 
 use crate::machines::Machine;
 
-/// Each machine that a program has is made of tables that are what each says of itself.
+/// The codes, times and registers of each machine that a program has are valid tables.
 pub fn machine_is_made_of_tables(machine: &Machine)
     ensures { IsMachine machine.now }
 {
@@ -26,6 +29,29 @@ pub fn machine_is_made_of_tables(machine: &Machine)
     let _ = machine.ports.inputs();
     let _ = machine.ports.outputs();
 }
+
+/// The standard machine's tables are valid.
+pub fn standard_machine_is_a_machine()
+    ensures { IsMachine standard_machine }
+{}
+
+/// The standard times are a table of times, which gives each order its time.
+pub fn standard_times_are_those_of_the_orders()
+    ensures table { AreTimes standard_times }
+    ensures each { (order : Order) → time_of standard_times order ≡ standard_time order }
+{}
+
+/// Where the index bit is set and counts, the address that an order acts on has a bit exactly where its own address or
+/// the index register has it; elsewhere it is its own address. It is an address of the memory.
+pub fn index_adds_its_bits()
+    ensures bits { (s : State) (order : Order) (y k : ℕ) → counts_index order ≡ true
+        → (effective s order true y / 2 ^ k % 2 ≡ 1) ↔ ((y / 2 ^ k % 2 ≡ 1) ⊎ (s.index / 2 ^ k % 2 ≡ 1)) }
+    ensures clear { (s : State) (order : Order) (y : ℕ) → effective s order false y ≡ y }
+    ensures uncounted { (s : State) (order : Order) (indexed : Bool) (y : ℕ) → counts_index order ≡ false
+        → effective s order indexed y ≡ y }
+    ensures below { (machine : Machine) (s : State) (order : Order) (indexed : Bool) (y : ℕ) → IsState machine s
+        → y < 4096 → effective s order indexed y < 4096 }
+{}
 
 /// From each state, each event tells one thing and leaves one state.
 pub fn each_event_has_one_step()
@@ -57,18 +83,23 @@ pub fn only_a_pulse_ends_waiting()
         → s.phase ≡ Waiting → Steps machine s Pulse done after → after ≡ record s { phase = Running } }
 {}
 
-/// Nothing leaves a halt: each event changes input registers at most, and a run of any length stays halted.
+/// Nothing leaves a halt: each event, and a run of any length, changes input registers at most and stays halted.
 pub fn nothing_leaves_a_halt()
     ensures step { (machine : Machine) (s : State) (event : Event) (done : Done) (after : State)
         → s.phase ≡ Halted → Steps machine s event done after → ChangesInputsAlone s after }
     ensures run { (machine : Machine) (s : State) (events : List Event) (moments : List Moment)
         → s.phase ≡ Halted → Run machine s events moments → AtEach (λ moment. moment.after.phase ≡ Halted) moments }
+    ensures run_alone { (machine : Machine) (s : State) (events : List Event) (moments : List Moment)
+        → s.phase ≡ Halted → Run machine s events moments
+        → AtEach (λ moment. ChangesInputsAlone s moment.after) moments }
 {}
 
-/// An order that overflows sets the indicator, and only a step that runs TOV clears it.
+/// An order that overflows sets the indicator, nothing else does, and only a step that runs TOV clears it.
 pub fn only_tov_clears_the_indicator()
     ensures sets { (machine : Machine) (s : State) (event : Event) (done : Done) (after : State)
         → Steps machine s event done after → done.overflow ≡ true → after.indicator ≡ true }
+    ensures set_by { (machine : Machine) (s : State) (event : Event) (done : Done) (after : State)
+        → Steps machine s event done after → s.indicator ≡ false → after.indicator ≡ true → done.overflow ≡ true }
     ensures clears { (machine : Machine) (s : State) (event : Event) (done : Done) (after : State)
         → Steps machine s event done after → s.indicator ≡ true → after.indicator ≡ false → (event ≡ Step) × Reads machine s Tov }
 {}
@@ -89,6 +120,15 @@ pub fn each_list_of_events_has_one_run()
     ensures keeps { (machine : Machine) (s : State) (events : List Event) (moments : List Moment) → IsMachine machine
         → IsState machine s → AreEvents events → Run machine s events moments
         → AtEach (λ moment. IsState machine moment.after) moments }
+{}
+
+/// Two runs of which the second begins where the first ends make one run, and it ends where the second does.
+pub fn runs_join()
+    ensures run { (machine : Machine) (s : State) (first second : List Event) (moments others : List Moment)
+        → Run machine s first moments → Run machine (last_state s moments) second others
+        → Run machine s (first ++ second) (moments ++ others) }
+    ensures last { (s : State) (moments others : List Moment)
+        → last_state s (moments ++ others) ≡ last_state (last_state s moments) others }
 {}
 
 /// What is found at an address is a register of that address, nothing is found only where there is none, and each

@@ -1,5 +1,5 @@
--- Each script has one play, and it is one run.
-use Rattle.std.proofs.Common.{◌≡◌, ℕ, List, [], ◌∷◌, ◌++◌, refl, sym, ap, subst, ◌∙◌}
+-- Each script has one play, and what it shows lies on one run.
+use Rattle.std.proofs.Common.{◌≡◌, ℕ, List, [], ◌∷◌, ◌++◌, refl, sym, ap, subst, ◌∙◌, append_assoc}
 use Rattle.ags_ports.specs.declared.events.Event.{Event}
 use Rattle.ags_ports.specs.declared.machines.Machine.{Machine}
 use Rattle.ags_ports.specs.Machine.{IsMachine}
@@ -8,9 +8,13 @@ use Rattle.ags_ports.specs.Run.{Moment, Run, last_state}
 use Rattle.ags_ports.proofs.RunLemmas.{some_run, one_run, run-append}
 use Rattle.ags_run.specs.declared.plain.Plain.{Plain}
 use Rattle.ags_run.specs.declared.plain.Plain.TheVariants.{Step, Pulse, Set, ShowReg, ShowCell, ShowOut}
-use Rattle.ags_run.specs.Played.{Makes, Plays, shown}
+use Rattle.ags_run.specs.Played.{MakesEvents, Plays, shown}
 
-some_made : (machine : Machine) (s : State) (command : Plain) → (made : List Event) × Makes machine s command made
+pub last_state-append : (s : State) (ms ns : List Moment) → last_state s (ms ++ ns) ≡ last_state (last_state s ms) ns
+last_state-append s [] ns = refl
+last_state-append s (m ∷ ms) ns = last_state-append m.after ms ns
+
+some_made : (machine : Machine) (s : State) (command : Plain) → (made : List Event) × MakesEvents machine s command made
 some_made machine s (Step count) = (_, refl)
 some_made machine s Pulse = (_, refl)
 some_made machine s (Set address word) = (_, refl)
@@ -18,7 +22,7 @@ some_made machine s ShowReg = (_, refl)
 some_made machine s (ShowCell address) = (_, refl)
 some_made machine s (ShowOut address) = (_, refl)
 
-one_made : (machine : Machine) (s : State) (command : Plain) (made others : List Event) → Makes machine s command made → Makes machine s command others → made ≡ others
+one_made : (machine : Machine) (s : State) (command : Plain) (made others : List Event) → MakesEvents machine s command made → MakesEvents machine s command others → made ≡ others
 one_made machine s (Step count) made others p r = p ∙ sym r
 one_made machine s Pulse made others p r = p ∙ sym r
 one_made machine s (Set address word) made others p r = p ∙ sym r
@@ -55,3 +59,37 @@ play_runs machine s (command ∷ commands) events text p =
     let rest = play_runs machine (last_state s p.1) commands p.2 p.3 p.8 in
     let run = run-append machine s p.0 p.2 p.1 rest.0 p.5 rest.1 in
     (p.1 ++ rest.0, subst (λ (es : List Event). Run machine s es (p.1 ++ rest.0)) (sym p.6) run)
+
+-- a play that is cut anywhere
+pub play_split : (machine : Machine) (s : State) (first second : List Plain) (events : List Event) (text : List ℕ) → Plays machine s (first ++ second) events text
+    → (before later : List Event) × (moments : List Moment) × (front rest : List ℕ)
+    × (events ≡ before ++ later) × (text ≡ front ++ rest) × Plays machine s first before front
+    × Run machine s before moments × Plays machine (last_state s moments) second later rest
+play_split machine s [] second events text p = ([], events, [], [], text, refl, refl, (refl, refl), tt, p)
+play_split machine s (command ∷ first) second events text p =
+    let cut = play_split machine (last_state s p.1) first second p.2 p.3 p.8 in
+    let line = shown machine command (last_state s p.1) in (
+      p.0 ++ cut.0,
+      cut.1,
+      p.1 ++ cut.2,
+      line ++ cut.3,
+      cut.4,
+      p.6 ∙ ap (λ (es : List Event). p.0 ++ es) cut.5 ∙ sym (append_assoc p.0 cut.0 cut.1),
+      p.7 ∙ ap (λ (xs : List ℕ). line ++ xs) cut.6 ∙ sym (append_assoc line cut.3 cut.4),
+      (p.0, p.1, cut.0, cut.3, p.4, p.5, refl, refl, cut.7),
+      run-append machine s p.0 cut.0 p.1 cut.2 p.5 cut.8,
+      subst (λ (t : State). Plays machine t second cut.1 cut.4) (sym (last_state-append s p.1 cut.2)) cut.9,
+    )
+
+-- and a run of all its events
+pub play_along : (machine : Machine) (s : State) (first second : List Plain) (events : List Event) (text : List ℕ) (all : List Moment) → IsMachine machine → Plays machine s (first ++ second) events text → Run machine s events all
+    → (before later : List Event) × (moments further : List Moment) × (front rest : List ℕ)
+    × (events ≡ before ++ later) × (all ≡ moments ++ further) × (text ≡ front ++ rest)
+    × Plays machine s first before front × Run machine s before moments
+    × Plays machine (last_state s moments) second later rest
+play_along machine s first second events text all h p r =
+    let cut = play_split machine s first second events text p in
+    let behind = play_runs machine (last_state s cut.2) second cut.1 cut.4 cut.9 in
+    let whole = run-append machine s cut.0 cut.1 cut.2 behind.0 cut.8 behind.1 in
+    let same = one_run machine s (cut.0 ++ cut.1) all (cut.2 ++ behind.0) h (subst (λ (es : List Event). Run machine s es all) cut.5 r) whole in
+    (cut.0, cut.1, cut.2, behind.0, cut.3, cut.4, cut.5, same, cut.6, cut.7, cut.8, cut.9)

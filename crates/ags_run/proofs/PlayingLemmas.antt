@@ -9,22 +9,18 @@ use Rattle.ags_ports.specs.declared.events.Done.{Done}
 use Rattle.ags_ports.specs.declared.machines.Machine.{Machine}
 use Rattle.ags_ports.specs.State.{State}
 use Rattle.ags_ports.specs.Step.{Steps}
-use Rattle.ags_ports.specs.Run.{Moment, last_state}
+use Rattle.ags_ports.specs.Run.{Moment}
 use Rattle.ags_ports.proofs.RunLemmas.{run-append}
 use Rattle.ags_outside.specs.Sink.{appended, appended_nothing, appended_twice, WroteFront, wrote_nothing, front_of_wrote, front_in_first, front_in_second}
 use Rattle.ags_run.specs.declared.plain.Plain.{Plain}
 use Rattle.ags_run.specs.declared.plain.Plain.TheVariants.{Step, Pulse, Set, ShowReg, ShowCell, ShowOut}
 use Rattle.ags_run.specs.declared.playing.Played.{Played}
 use Rattle.ags_run.specs.For.{IsFor, SuitsMachine, step_count}
-use Rattle.ags_run.specs.Played.{Makes, Plays, shown, is_step, is_put, PlayedWhole, PlayedInPart}
+use Rattle.ags_run.specs.Played.{MakesEvents, Plays, shown, is_step, is_put, PlayedWhole, PlayedInPart}
 use Rattle.ags_run.specs.Made.{Runs, RunsCommand, put_count}
-use Rattle.ags_run.proofs.PlayLemmas.{some_play}
+use Rattle.ags_run.proofs.PlayLemmas.{last_state-append, some_play, play_runs}
 
 -- ---- an event further
-
-last_state-append : (s : State) (ms ns : List Moment) → last_state s (ms ++ ns) ≡ last_state (last_state s ms) ns
-last_state-append s [] ns = refl
-last_state-append s (m ∷ ms) ns = last_state-append m.after ms ns
 
 pub runs_none : (machine : Machine) (s : State) → Runs machine s [] s
 runs_none machine s = record { moments = []; run = tt; ends = refl }
@@ -60,7 +56,7 @@ puts_among : (count : ℕ) → count_by is_put (replicate count event.Step) ≡ 
 puts_among zero = refl
 puts_among (suc count) = omega (arith, sum_by-append (λ (e : Event). cond (is_put e) 1 0) (event.Step ∷ []) (replicate count event.Step), puts_among count)
 
-made_steps : (machine : Machine) (s : State) (command : Plain) (made : List Event) → Makes machine s command made → count_by is_step made ≡ step_count command
+made_steps : (machine : Machine) (s : State) (command : Plain) (made : List Event) → MakesEvents machine s command made → count_by is_step made ≡ step_count command
 made_steps machine s (Step count) made p = rw p (steps_among count)
 made_steps machine s Pulse made p = rw p refl
 made_steps machine s (Set address word) made p = rw p refl
@@ -68,7 +64,7 @@ made_steps machine s ShowReg made p = rw p refl
 made_steps machine s (ShowCell address) made p = rw p refl
 made_steps machine s (ShowOut address) made p = rw p refl
 
-made_puts : (machine : Machine) (s : State) (command : Plain) (made : List Event) → Makes machine s command made → count_by is_put made ≡ put_count command
+made_puts : (machine : Machine) (s : State) (command : Plain) (made : List Event) → MakesEvents machine s command made → count_by is_put made ≡ put_count command
 made_puts machine s (Step count) made p = rw p (puts_among count)
 made_puts machine s Pulse made p = rw p refl
 made_puts machine s (Set address word) made p = rw p refl
@@ -165,10 +161,14 @@ pub Playing-front : (machine : Machine) (start : State) (script : List Plain) (o
 Playing-front machine start script old now new here after steps puts i command so within is does front =
     let left = some_play machine after (drop (i + 1) script) in
     let line = shown machine command after in
+    let plays = goes_further machine start script old now here after steps puts i command so within is does left.0 left.1 left.2 in
+    let run = play_runs machine start script (so.events ++ (does.made ++ left.0)) (so.text ++ (line ++ left.1)) plays in
     record {
       events = so.events ++ (does.made ++ left.0);
+      moments = run.0;
+      run = run.1;
       text = so.text ++ (line ++ left.1);
-      plays = goes_further machine start script old now here after steps puts i command so within is does left.0 left.1 left.2;
+      plays = plays;
       front = front_in_second so.text (line ++ left.1) so.sent (front_in_first line left.1 front);
     }
 
@@ -178,10 +178,14 @@ pub Playing-all : (machine : Machine) (start : State) (script : List Plain) (old
 Playing-all machine start script old now here played i so past =
     let none : Plays machine here (drop i script) [] [] = rw (drop_all i script past) (refl, refl) in
     let whole : Plays machine start script (so.events ++ []) (so.text ++ []) = so.goes_on [] [] none in
+    let plays : Plays machine start script so.events so.text = rw (append-nil so.events, append-nil so.text) at whole in
+    let run = play_runs machine start script so.events so.text plays in
     record {
       events = so.events;
+      moments = run.0;
+      run = run.1;
       text = so.text;
-      plays = rw (append-nil so.events, append-nil so.text) at whole;
+      plays = plays;
       sent = so.sent;
       steps = so.steps_are;
       puts = so.puts_are;
@@ -191,4 +195,5 @@ Playing-all machine start script old now here played i so past =
 pub in_part_none : (machine : Machine) (start : State) (script : List Plain) (old : Option (List ℕ)) → PlayedInPart machine start script old old
 in_part_none machine start script old =
     let all = some_play machine start script in
-    record { events = all.0; text = all.1; plays = all.2; front = front_of_wrote (wrote_nothing old all.1) }
+    let run = play_runs machine start script all.0 all.1 all.2 in
+    record { events = all.0; moments = run.0; run = run.1; text = all.1; plays = all.2; front = front_of_wrote (wrote_nothing old all.1) }

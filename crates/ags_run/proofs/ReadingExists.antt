@@ -11,7 +11,7 @@ use Rattle.ags_text.proofs.ReadingLemmas.{readings-exist, readings-one}
 use Rattle.ags_run.specs.declared.plain.Plain.{Plain}
 use Rattle.ags_run.specs.declared.plain.Plain.TheVariants.{Step, Pulse, Set, ShowReg, ShowCell, ShowOut}
 use Rattle.ags_run.specs.declared.reading.LineReading.{LineReading}
-use Rattle.ags_run.specs.declared.reading.LineReading.TheVariants.{Command, Skipped, Formless}
+use Rattle.ags_run.specs.declared.reading.LineReading.TheVariants.{Command, Skipped, Malformed}
 use Rattle.ags_run.specs.Spelling.{Spells, IsSkipped}
 use Rattle.ags_run.specs.Field.{first_field, second_field, third_field, behind_third, FieldsState}
 use Rattle.ags_run.specs.Reading.{IsReading, AreReadings}
@@ -133,7 +133,7 @@ reading_exists line =
       | inl found ↦ (Command found.0, found.1)
       | inr none ↦ elim (decide_skipped line) [
         | inl is ↦ (Skipped, is)
-        | inr fails ↦ (Formless, (none, fails))
+        | inr fails ↦ (Malformed, (none, fails))
       ]
     ]
 
@@ -141,13 +141,13 @@ reading_exists line =
 pub one_reading : (line : List ℕ) (one other : LineReading) → IsReading line one → IsReading line other → one ≡ other
 one_reading line (Command one) (Command other) first second = ap (λ command. Command command) (one_spelled line one other first second)
 one_reading line (Command one) Skipped first second = absurd (not_skipped line one first second)
-one_reading line (Command one) Formless first second = absurd (second.0 one first)
+one_reading line (Command one) Malformed first second = absurd (second.0 one first)
 one_reading line Skipped (Command other) first second = absurd (not_skipped line other second first)
 one_reading line Skipped Skipped first second = refl
-one_reading line Skipped Formless first second = absurd (second.1 first)
-one_reading line Formless (Command other) first second = absurd (first.0 other second)
-one_reading line Formless Skipped first second = absurd (first.1 second)
-one_reading line Formless Formless first second = refl
+one_reading line Skipped Malformed first second = absurd (second.1 first)
+one_reading line Malformed (Command other) first second = absurd (first.0 other second)
+one_reading line Malformed Skipped first second = absurd (first.1 second)
+one_reading line Malformed Malformed first second = refl
 
 -- lines have readings
 pub readings_exist : (lines : List LineAt) → (readings : List LineReading) × AreReadings lines readings

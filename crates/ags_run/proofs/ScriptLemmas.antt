@@ -1,5 +1,5 @@
 -- The lines of a script, one further, and what a script that was read keeps.
-use Rattle.std.proofs.Common.{◌≡◌, ℕ, ◌+◌, ◌≤◌, List, [], ◌∷◌, ◌++◌, length, Option, Some, None, refl, sym, ap, ◌∙◌, append_assoc, inl, inr, arith}
+use Rattle.std.proofs.Common.{◌≡◌, ℕ, ◌+◌, ◌≤◌, List, [], ◌∷◌, ◌++◌, length, Option, Some, None, refl, sym, ap, ◌∙◌, inl, inr, arith}
 use Rattle.std.specs.Prelude.{All, sum_by}
 use Rattle.std.specs.List.{filter_map}
 use Rattle.std.proofs.lemmas.Bool.{cases_lt, lt-ltb}
@@ -8,16 +8,15 @@ use Rattle.std.proofs.lemmas.List.Elements.{All-append, All-push}
 use Rattle.std.proofs.lemmas.List.Sums.{sum_by-append, sum_by-cons}
 use Rattle.std.specs.Prelude.{Result, Ok, Err, IfOk, IfErr, IsOkAnd, IsErrOf, Vec, ◌⊎◌}
 use Rattle.std.specs.Global.{Global}
-use Rattle.ags_text.specs.Fault.{first_fault, first_fault-nil, first_fault-faulty, first_fault-faultless}
+use Rattle.ags_text.specs.Fault.{first_fault, first_fault-faulty, first_fault-faultless}
 use Rattle.ags_text.specs.Line.{LineAt, Follow, lines_of}
-use Rattle.ags_text.proofs.ReadingLemmas.{readings-append, readings-push}
+use Rattle.ags_text.proofs.ReadingLemmas.{ReadSoFar, read-none, read-more, read-fault, read-all}
 use Rattle.ags_ports.specs.declared.machines.Machine.{Machine}
 use Rattle.ags_run.specs.declared.plain.Plain.{Plain}
 use Rattle.ags_run.specs.declared.plain.Plain.TheVariants.{Step, Pulse, Set, ShowReg, ShowCell, ShowOut}
 use Rattle.ags_run.specs.declared.reading.LineReading.{LineReading}
-use Rattle.ags_run.specs.declared.reading.LineReading.TheVariants.{Command, Skipped, Formless}
+use Rattle.ags_run.specs.declared.reading.LineReading.TheVariants.{Command, Skipped, Malformed}
 use Rattle.ags_run.specs.declared.script_error.ScriptKind.{ScriptKind}
-use Rattle.ags_run.specs.declared.script_error.ScriptFault.{ScriptFault}
 use Rattle.ags_run.specs.declared.script_error.ScriptError.{ScriptError}
 use Rattle.ags_run.specs.declared.script_error.ScriptError.TheVariants.{At, NoMemory}
 use Rattle.ags_run.specs.For.{SuitsMachine, step_count, IsFor}
@@ -59,7 +58,7 @@ command_steps machine steps (ShowOut address) most fault = omega arith
 reading_most : (machine : Machine) (steps : ℕ) (reading : LineReading) → steps ≤ 100000000 → fault_after machine steps reading ≡ None → steps + reading_steps reading ≤ 100000000
 reading_most machine steps (Command command) most fault = command_steps machine steps command most fault
 reading_most machine steps Skipped most fault = omega arith
-reading_most machine steps Formless most fault = omega arith
+reading_most machine steps Malformed most fault = omega arith
 
 -- ---- what a line adds to the commands
 
@@ -73,89 +72,58 @@ no_commands machine k d lt = absurd (omega arith)
 kept_suits : (machine : Machine) (line : List ℕ) (steps : ℕ) (reading : LineReading) → IsReading line reading → fault_after machine steps reading ≡ None → All (SuitsMachine machine) (kept (command_of reading))
 kept_suits machine line steps (Command command) is fault = All-push (SuitsMachine machine) [] command (no_commands machine) (command_suits machine line steps command is fault)
 kept_suits machine line steps Skipped is fault = no_commands machine
-kept_suits machine line steps Formless is fault = no_commands machine
+kept_suits machine line steps Malformed is fault = no_commands machine
 
 kept_steps : (reading : LineReading) → sum_by step_count (kept (command_of reading)) ≡ reading_steps reading
 kept_steps (Command command) = sum_by-cons step_count command [] ∙ omega arith
 kept_steps Skipped = refl
-kept_steps Formless = refl
+kept_steps Malformed = refl
 
 commands-push : (readings : List LineReading) (reading : LineReading) → filter_map command_of (readings ++ reading ∷ []) ≡ filter_map command_of readings ++ kept (command_of reading)
 commands-push [] (Command command) = refl
 commands-push [] Skipped = refl
-commands-push [] Formless = refl
+commands-push [] Malformed = refl
 commands-push (Command command ∷ readings) reading = ap (λ (rest : List Plain). command ∷ rest) (commands-push readings reading)
 commands-push (Skipped ∷ readings) reading = commands-push readings reading
-commands-push (Formless ∷ readings) reading = commands-push readings reading
+commands-push (Malformed ∷ readings) reading = commands-push readings reading
 
 -- ---- the loop over the lines
 
 -- Of a text's lines, so many are read without a fault, with these commands and so many steps, and these are left.
 pub record SoFar (machine : Machine) (text : List ℕ) (left : List LineAt) (commands : List Plain) (number steps : ℕ) : Type 0 where
-  pub front : List LineAt
-  pub readings : List LineReading
-  pub before : List LineReading
-  pub whole : lines_of text ≡ front ++ left
-  pub are : AreReadings front readings
-  pub on : (rest : List LineReading) → first_fault (line_fault machine) [] (readings ++ rest) ≡ first_fault (line_fault machine) before rest
-  pub steps_are : steps ≡ sum_by reading_steps before
+  pub read : ReadSoFar IsReading (line_fault machine) text (lines_of text) left
+  pub steps_are : steps ≡ sum_by reading_steps read.before
   pub most : steps ≤ 100000000
-  pub commands_are : commands ≡ filter_map command_of readings
+  pub commands_are : commands ≡ filter_map command_of read.readings
   pub suits : All (SuitsMachine machine) commands
   pub commands_steps : sum_by step_count commands ≡ steps
-  pub so_many : number ≡ length before
-  pub from : ℕ
-  pub few : number ≤ from
-  pub short : from ≤ length text + 1
-  pub follow : Follow text from left
+  pub so_many : number ≡ length read.before
 
 pub SoFar-none : (machine : Machine) (text : List ℕ) → Follow text 0 (lines_of text) → SoFar machine text (lines_of text) [] 0 0
 SoFar-none machine text follow = record {
-  front = [];
-  readings = [];
-  before = [];
-  whole = refl;
-  are = tt;
-  on = λ rest. refl;
+  read = read-none IsReading (line_fault machine) text (lines_of text) follow;
   steps_are = refl;
   most = omega arith;
   commands_are = refl;
   suits = no_commands machine;
   commands_steps = refl;
   so_many = refl;
-  from = 0;
-  few = omega arith;
-  short = omega arith;
-  follow = follow;
 }
-
--- where a line is left, its number is small
-pub SoFar-small : (machine : Machine) (text : List ℕ) (left : List LineAt) (commands : List Plain) (number steps : ℕ) → SoFar machine text left commands number steps → number ≤ length text + 1
-SoFar-small machine text left commands number steps so = omega (arith, so.few, so.short)
 
 -- the next line is read
 pub SoFar-more : (machine : Machine) (text : List ℕ) (left : List LineAt) (commands : List Plain) (number steps now : ℕ) (line : LineAt) (reading : LineReading)
     → SoFar machine text (line ∷ left) commands number steps → IsReading line.bytes reading → fault_after machine steps reading ≡ None → now ≡ steps + reading_steps reading
     → SoFar machine text left (commands ++ kept (command_of reading)) (number + 1) now
 SoFar-more machine text left commands number steps now line reading so is fault now_is =
-    let here : line_fault machine so.before reading ≡ None = rw (← so.steps_are) fault in
+    let here : line_fault machine so.read.before reading ≡ None = rw (← so.steps_are) fault in
     record {
-      front = so.front ++ line ∷ [];
-      readings = so.readings ++ reading ∷ [];
-      before = reading ∷ so.before;
-      whole = so.whole ∙ sym (append_assoc so.front (line ∷ []) left);
-      are = readings-push IsReading so.front so.readings line reading so.are is;
-      on = λ rest. rw append_assoc (so.on (reading ∷ rest) ∙ first_fault-faultless (line_fault machine) so.before reading rest here);
-      steps_are = omega (arith, now_is, so.steps_are, sum_by-cons reading_steps reading so.before);
+      read = read-more IsReading (line_fault machine) text (lines_of text) left line reading so.read is here;
+      steps_are = omega (arith, now_is, so.steps_are, sum_by-cons reading_steps reading so.read.before);
       most = rw (now_is) (reading_most machine steps reading so.most fault);
       commands_are = rw (commands-push, so.commands_are) refl;
       suits = All-append (SuitsMachine machine) commands (kept (command_of reading)) so.suits (kept_suits machine line.bytes steps reading is fault);
       commands_steps = omega (arith, now_is, so.commands_steps, sum_by-append step_count commands (kept (command_of reading)), kept_steps reading);
       so_many = omega (arith, so.so_many);
-      from = line.start + length line.bytes + 1;
-      few = omega (arith, so.few, so.follow.0);
-      short = omega (arith, so.follow.1.within);
-      follow = so.follow.2;
     }
 
 -- it has a command, or none
@@ -175,64 +143,109 @@ SoFar-skip machine text left commands number steps now line reading so is fault 
 -- the next line is at fault, and those behind it have readings too
 pub SoFar-fault : (machine : Machine) (text : List ℕ) (left : List LineAt) (commands : List Plain) (number steps : ℕ) (line : LineAt) (reading : LineReading) (kind : ScriptKind)
     → SoFar machine text (line ∷ left) commands number steps → IsReading line.bytes reading → fault_after machine steps reading ≡ Some kind
-    → IsFaultyScript machine text (record { line = number + 1; kind = kind })
+    → IsFaultyScript machine text (number + 1) kind
 SoFar-fault machine text left commands number steps line reading kind so is fault =
-    let here : line_fault machine so.before reading ≡ Some kind = rw (← so.steps_are) fault in
+    let here : line_fault machine so.read.before reading ≡ Some kind = rw (← so.steps_are) fault in
     let rest = readings_exist left in
-    record {
-      readings = so.readings ++ reading ∷ rest.0;
-      are_readings = rw so.whole (readings-append IsReading so.front (line ∷ left) so.readings (reading ∷ rest.0) so.are (is, rest.1));
-      first = so.on (reading ∷ rest.0) ∙ rw so.so_many (first_fault-faulty (line_fault machine) so.before reading rest.0 kind here);
-    }
+    let faulty = read-fault IsReading (line_fault machine) text (lines_of text) left line reading rest.0 kind so.read is rest.1 here in
+    record { readings = faulty.0; are_readings = faulty.1; first = rw (so.so_many) faulty.2 }
 
 -- all lines are read
 pub SoFar-all : (machine : Machine) (text : List ℕ) (commands : List Plain) (number steps : ℕ) → SoFar machine text [] commands number steps → IsScript machine text commands
 SoFar-all machine text commands number steps so =
-    let all : lines_of text ≡ so.front = so.whole ∙ append-nil so.front in
-    record {
-      readings = so.readings;
-      are_readings = rw all so.are;
-      faultless = sym (ap (first_fault (line_fault machine) []) (append-nil so.readings)) ∙ so.on [] ∙ first_fault-nil (line_fault machine) so.before;
-      commands_are = so.commands_are;
-    }
+    let all = read-all IsReading (line_fault machine) text (lines_of text) so.read in
+    record { readings = so.read.readings; are_readings = all.1; faultless = all.2; commands_are = so.commands_are }
 
 pub SoFar-suits : (machine : Machine) (text : List ℕ) (left : List LineAt) (commands : List Plain) (number steps : ℕ) → SoFar machine text left commands number steps → IsFor machine commands
 SoFar-suits machine text left commands number steps so = record { each = so.suits; steps = omega (arith, so.commands_steps, so.most) }
 
+-- ---- a script's commands are for its machine
+
+-- the first of faultless readings has no fault, and those behind it have none
+faultless_first : (machine : Machine) (before : List LineReading) (reading : LineReading) (rest : List LineReading) → first_fault (line_fault machine) before (reading ∷ rest) ≡ None
+    → (line_fault machine before reading ≡ None) × (first_fault (line_fault machine) (reading ∷ before) rest ≡ None)
+faultless_first machine before reading rest none = by_fault (line_fault machine before reading) refl
+  where
+    by_fault : (fault : Option ScriptKind) → line_fault machine before reading ≡ fault → (line_fault machine before reading ≡ None) × (first_fault (line_fault machine) (reading ∷ before) rest ≡ None)
+    by_fault None is = (is, sym (first_fault-faultless (line_fault machine) before reading rest is) ∙ none)
+    by_fault (Some kind) is = absurd (let clash = sym (first_fault-faulty (line_fault machine) before reading rest kind is) ∙ none in cc)
+
+commands-cons : (reading : LineReading) (readings : List LineReading) → filter_map command_of (reading ∷ readings) ≡ kept (command_of reading) ++ filter_map command_of readings
+commands-cons (Command command) readings = refl
+commands-cons Skipped readings = refl
+commands-cons Malformed readings = refl
+
+-- what faultless lines spell suits the machine, and with the lines before them their steps are not too many
+commands_suit : (machine : Machine) (lines : List LineAt) (readings before : List LineReading) → AreReadings lines readings → sum_by reading_steps before ≤ 100000000 → first_fault (line_fault machine) before readings ≡ None
+    → All (SuitsMachine machine) (filter_map command_of readings) × (sum_by reading_steps before + sum_by step_count (filter_map command_of readings) ≤ 100000000)
+commands_suit machine [] [] before are most none = (no_commands machine, omega arith)
+commands_suit machine [] (reading ∷ readings) before are most none = absurd are
+commands_suit machine (line ∷ lines) [] before are most none = absurd are
+commands_suit machine (line ∷ lines) (reading ∷ readings) before are most none =
+    let split = faultless_first machine before reading readings none in
+    let more : sum_by reading_steps (reading ∷ before) ≤ 100000000 = omega (arith, reading_most machine (sum_by reading_steps before) reading most split.0, sum_by-cons reading_steps reading before) in
+    let rest = commands_suit machine lines readings (reading ∷ before) are.1 more split.1 in
+    let first = kept_suits machine line.bytes (sum_by reading_steps before) reading are.0 split.0 in
+    rw (commands-cons reading readings) (
+      All-append (SuitsMachine machine) (kept (command_of reading)) (filter_map command_of readings) first rest.0,
+      omega (arith, rest.1, kept_steps reading, sum_by-cons reading_steps reading before, sum_by-append step_count (kept (command_of reading)) (filter_map command_of readings)),
+    )
+
+pub script_for : (machine : Machine) (text : List ℕ) (commands : List Plain) → IsScript machine text commands → IsFor machine commands
+script_for machine text commands script =
+    let suit = commands_suit machine (lines_of text) script.readings [] script.are_readings (omega arith) script.faultless in
+    rw (script.commands_are) (record { each = suit.0; steps = omega (arith, suit.1) })
+
 -- ---- a text is read one way
+
+-- it is a script, or it is faulty
+pub script_or_faulty : (machine : Machine) (text : List ℕ) → ((commands : List Plain) × IsScript machine text commands) ⊎ ((line : ℕ) × (kind : ScriptKind) × IsFaultyScript machine text line kind)
+script_or_faulty machine text =
+    let all = readings_exist (lines_of text) in
+    by_fault all.0 all.1 (first_fault (line_fault machine) [] all.0) refl
+  where
+    by_fault : (readings : List LineReading) → AreReadings (lines_of text) readings → (found : Option (ℕ × ScriptKind)) → first_fault (line_fault machine) [] readings ≡ found
+        → ((commands : List Plain) × IsScript machine text commands) ⊎ ((line : ℕ) × (kind : ScriptKind) × IsFaultyScript machine text line kind)
+    by_fault readings are None is = inl (filter_map command_of readings, record { readings = readings; are_readings = are; faultless = is; commands_are = refl })
+    by_fault readings are (Some found) is = inr (found.0, found.1, record { readings = readings; are_readings = are; first = is })
 
 pub one_script : (machine : Machine) (text : List ℕ) (one other : List Plain) → IsScript machine text one → IsScript machine text other → one ≡ other
 one_script machine text one other first second =
     let same = one_readings (lines_of text) first.readings second.readings first.are_readings second.are_readings in
     first.commands_are ∙ ap (λ (readings : List LineReading). filter_map command_of readings) same ∙ sym second.commands_are
 
-pub not_faulty : (machine : Machine) (text : List ℕ) (commands : List Plain) (fault : ScriptFault) → IsScript machine text commands → IsFaultyScript machine text fault → ⊥
-not_faulty machine text commands fault script faulty =
+pub not_faulty : (machine : Machine) (text : List ℕ) (commands : List Plain) (line : ℕ) (kind : ScriptKind) → IsScript machine text commands → IsFaultyScript machine text line kind → ⊥
+not_faulty machine text commands line kind script faulty =
     let same = one_readings (lines_of text) script.readings faulty.readings script.are_readings faulty.are_readings in
-    let none : first_fault (line_fault machine) [] script.readings ≡ Some (fault.line, fault.kind) = ap (λ (readings : List LineReading). first_fault (line_fault machine) [] readings) same ∙ faulty.first in
-    let clash : ◌≡◌ {A = Option (ℕ × ScriptKind)} None (Some (fault.line, fault.kind)) = sym script.faultless ∙ none in
+    let none : first_fault (line_fault machine) [] script.readings ≡ Some (line, kind) = ap (λ (readings : List LineReading). first_fault (line_fault machine) [] readings) same ∙ faulty.first in
+    let clash : ◌≡◌ {A = Option (ℕ × ScriptKind)} None (Some (line, kind)) = sym script.faultless ∙ none in
     absurd cc
 
-same_fault : (one other : ScriptFault) → ◌≡◌ {A = Option (ℕ × ScriptKind)} (Some (one.line, one.kind)) (Some (other.line, other.kind)) → one ≡ other
-same_fault one other same =
-    let pairs : (one.line, one.kind) ≡ (other.line, other.kind) = cc in
-    ap (λ (p : ℕ × ScriptKind). record { line = p.0; kind = p.1 }) pairs
+same_fault : (line other_line : ℕ) (kind other_kind : ScriptKind) → ◌≡◌ {A = Option (ℕ × ScriptKind)} (Some (line, kind)) (Some (other_line, other_kind)) → (line ≡ other_line) × (kind ≡ other_kind)
+same_fault line other_line kind other_kind same =
+    let pairs : ◌≡◌ {A = ℕ × ScriptKind} (line, kind) (other_line, other_kind) = cc in
+    (ap (λ (p : ℕ × ScriptKind). p.0) pairs, ap (λ (p : ℕ × ScriptKind). p.1) pairs)
 
-pub one_fault : (machine : Machine) (text : List ℕ) (one other : ScriptFault) → IsFaultyScript machine text one → IsFaultyScript machine text other → one ≡ other
-one_fault machine text one other first second =
+pub one_fault : (machine : Machine) (text : List ℕ) (line other_line : ℕ) (kind other_kind : ScriptKind) → IsFaultyScript machine text line kind → IsFaultyScript machine text other_line other_kind
+    → (line ≡ other_line) × (kind ≡ other_kind)
+one_fault machine text line other_line kind other_kind first second =
     let same = one_readings (lines_of text) first.readings second.readings first.are_readings second.are_readings in
-    same_fault one other (sym first.first ∙ ap (λ (readings : List LineReading). first_fault (line_fault machine) [] readings) same ∙ second.first)
+    same_fault line other_line kind other_kind (sym first.first ∙ ap (λ (readings : List LineReading). first_fault (line_fault machine) [] readings) same ∙ second.first)
 
 -- ---- what the reading of a script answers
 
 pub faultless_exactly : (machine : Machine) (text : List ℕ) (result : Result (Vec Plain Global) ScriptError) → IfOk result (λ read. IsScript machine text read.items) → IfErr result (IsRefused machine text)
     → (commands : List Plain) → IsScript machine text commands → (IsOkAnd result (λ read. read.items ≡ commands)) ⊎ (IsErrOf result NoMemory)
 faultless_exactly machine text (Ok read) is refused commands script = inl (one_script machine text read.items commands is script)
-faultless_exactly machine text (Err (At fault)) is refused commands script = absurd (not_faulty machine text commands fault script refused)
+faultless_exactly machine text (Err (At line kind)) is refused commands script = absurd (not_faulty machine text commands line kind script refused)
 faultless_exactly machine text (Err NoMemory) is refused commands script = inr refl
 
+same_at : (line other_line : ℕ) (kind other_kind : ScriptKind) → (line ≡ other_line) × (kind ≡ other_kind) → At line kind ≡ At other_line other_kind
+same_at line other_line kind other_kind same = rw (same.0, same.1) refl
+
 pub faulty_exactly : (machine : Machine) (text : List ℕ) (result : Result (Vec Plain Global) ScriptError) → IfOk result (λ read. IsScript machine text read.items) → IfErr result (IsRefused machine text)
-    → (fault : ScriptFault) → IsFaultyScript machine text fault → (IsErrOf result (At fault)) ⊎ (IsErrOf result NoMemory)
-faulty_exactly machine text (Ok read) is refused fault faulty = absurd (not_faulty machine text read.items fault is faulty)
-faulty_exactly machine text (Err (At other)) is refused fault faulty = inl (ap (λ (f : ScriptFault). Err (At f)) (one_fault machine text other fault refused faulty))
-faulty_exactly machine text (Err NoMemory) is refused fault faulty = inr refl
+    → (line : ℕ) (kind : ScriptKind) → IsFaultyScript machine text line kind → (IsErrOf result (At line kind)) ⊎ (IsErrOf result NoMemory)
+faulty_exactly machine text (Ok read) is refused line kind faulty = absurd (not_faulty machine text read.items line kind is faulty)
+faulty_exactly machine text (Err (At other_line other_kind)) is refused line kind faulty =
+    inl (ap (λ (error : ScriptError). Err error) (same_at other_line line other_kind kind (one_fault machine text other_line line other_kind kind refused faulty)))
+faulty_exactly machine text (Err NoMemory) is refused line kind faulty = inr refl

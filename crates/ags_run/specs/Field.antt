@@ -1,4 +1,4 @@
--- The fields of a line, and what they state together.
+-- The fields that are cut from a line, and the command that they state.
 use Rattle.std.specs.Prelude.{◌≡◌, ℕ, List, [], codes}
 use Rattle.ags_text.specs.Field.{AreBlanks, next_field, behind_field}
 use Rattle.ags_text.specs.Numeral.{IsDecimal, Writes}
@@ -18,7 +18,7 @@ third_field line = next_field (behind_field (behind_field line))
 abbrev pub behind_third : List ℕ → List ℕ
 behind_third line = behind_field (behind_field (behind_field line))
 
--- three fields, each empty where the line has none there, state this command
+-- These, the first three fields of a line, state this command. A field that the line lacks is the empty text.
 abbrev pub FieldsState : (first second third : List ℕ) → Plain → Type 0
 FieldsState first second third (Step count) = (first ≡ codes "STEP") × IsDecimal 9 second count × (third ≡ [])
 FieldsState first second third Pulse = (first ≡ codes "PULSE") × (second ≡ []) × (third ≡ [])
@@ -27,6 +27,6 @@ FieldsState first second third ShowReg = (first ≡ codes "SHOW") × (second ≡
 FieldsState first second third (ShowCell address) = (first ≡ codes "SHOW") × (second ≡ codes "CELL") × Writes 8 4 third address
 FieldsState first second third (ShowOut address) = (first ≡ codes "SHOW") × (second ≡ codes "OUT") × Writes 8 4 third address
 
--- the fields of the line state this command, and it has no further ones
+-- the first three fields of the line state this command, and it has no further ones
 abbrev pub StatesByFields : List ℕ → Plain → Type 0
 StatesByFields line command = FieldsState (first_field line) (second_field line) (third_field line) command × AreBlanks (behind_third line)

@@ -6,7 +6,7 @@ use Rattle.ags_ports.specs.State.{State}
 use Rattle.ags_ports.specs.Run.{Moment, Run, last_state}
 use Rattle.ags_run.specs.declared.plain.Plain.{Plain}
 use Rattle.ags_run.specs.declared.plain.Plain.TheVariants.{Step, Pulse, Set, ShowReg, ShowCell, ShowOut}
-use Rattle.ags_run.specs.Played.{Makes}
+use Rattle.ags_run.specs.Played.{MakesEvents}
 
 -- the events run from one state to another
 pub record Runs (machine : Machine) (s : State) (events : List Event) (after : State) : Type 0 where
@@ -17,7 +17,7 @@ pub record Runs (machine : Machine) (s : State) (events : List Event) (after : S
 -- a command's events run from one state to another
 pub record RunsCommand (machine : Machine) (s : State) (command : Plain) (after : State) : Type 0 where
   pub made : List Event
-  pub makes : Makes machine s command made
+  pub makes : MakesEvents machine s command made
   pub runs : Runs machine s made after
 
 -- how many words a command puts

@@ -4,7 +4,7 @@ use Rattle.ags_text.specs.Line.{LineAt}
 use Rattle.ags_text.specs.Reading.{AreReadingsBy}
 use Rattle.ags_run.specs.declared.plain.Plain.{Plain}
 use Rattle.ags_run.specs.declared.reading.LineReading.{LineReading}
-use Rattle.ags_run.specs.declared.reading.LineReading.TheVariants.{Command, Skipped, Formless}
+use Rattle.ags_run.specs.declared.reading.LineReading.TheVariants.{Command, Skipped, Malformed}
 use Rattle.ags_run.specs.For.{step_count}
 use Rattle.ags_run.specs.Spelling.{Spells, IsSkipped}
 
@@ -12,7 +12,7 @@ use Rattle.ags_run.specs.Spelling.{Spells, IsSkipped}
 abbrev pub IsReading : List ℕ → LineReading → Type 0
 IsReading line (Command command) = Spells line command
 IsReading line Skipped = IsSkipped line
-IsReading line Formless = ((command : Plain) → Spells line command → ⊥) × (IsSkipped line → ⊥)
+IsReading line Malformed = ((command : Plain) → Spells line command → ⊥) × (IsSkipped line → ⊥)
 
 -- the readings of lines, one for each
 abbrev pub AreReadings : List LineAt → List LineReading → Type 0
@@ -22,10 +22,10 @@ AreReadings lines readings = AreReadingsBy IsReading lines readings
 abbrev pub command_of : LineReading → Option Plain
 command_of (Command command) = Some command
 command_of Skipped = None
-command_of Formless = None
+command_of Malformed = None
 
 -- how many steps the line of a reading makes
 abbrev pub reading_steps : LineReading → ℕ
 reading_steps (Command command) = step_count command
 reading_steps Skipped = 0
-reading_steps Formless = 0
+reading_steps Malformed = 0

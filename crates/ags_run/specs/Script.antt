@@ -8,10 +8,9 @@ use Rattle.ags_ports.specs.Port.{place_of}
 use Rattle.ags_run.specs.declared.plain.Plain.{Plain}
 use Rattle.ags_run.specs.declared.plain.Plain.TheVariants.{Step, Pulse, Set, ShowReg, ShowCell, ShowOut}
 use Rattle.ags_run.specs.declared.reading.LineReading.{LineReading}
-use Rattle.ags_run.specs.declared.reading.LineReading.TheVariants.{Command, Skipped, Formless}
+use Rattle.ags_run.specs.declared.reading.LineReading.TheVariants.{Command, Skipped, Malformed}
 use Rattle.ags_run.specs.declared.script_error.ScriptKind.{ScriptKind}
 use Rattle.ags_run.specs.declared.script_error.ScriptKind.TheVariants.{BadLine, NoPort, TooManySteps}
-use Rattle.ags_run.specs.declared.script_error.ScriptFault.{ScriptFault}
 use Rattle.ags_run.specs.declared.script_error.ScriptError.{ScriptError}
 use Rattle.ags_run.specs.declared.script_error.ScriptError.TheVariants.{At, NoMemory}
 use Rattle.ags_run.specs.Reading.{AreReadings, command_of, reading_steps}
@@ -34,7 +33,7 @@ command_fault machine steps (ShowOut address) = port_fault (place_of machine.por
 abbrev pub fault_after : Machine → ℕ → LineReading → Option ScriptKind
 fault_after machine steps (Command command) = command_fault machine steps command
 fault_after machine steps Skipped = None
-fault_after machine steps Formless = Some BadLine
+fault_after machine steps Malformed = Some BadLine
 
 -- the fault of a line's reading, where the lines before it have these, nearest first
 abbrev pub line_fault : Machine → List LineReading → LineReading → Option ScriptKind
@@ -47,13 +46,13 @@ pub record IsScript (machine : Machine) (text : List ℕ) (commands : List Plain
   pub faultless : first_fault (line_fault machine) [] readings ≡ None
   pub commands_are : commands ≡ filter_map command_of readings
 
--- the text is a script for the machine whose first fault is this one
-pub record IsFaultyScript (machine : Machine) (text : List ℕ) (fault : ScriptFault) : Type 0 where
+-- the text is a script for the machine whose first faulty line is this one, counted from 1, with this fault
+pub record IsFaultyScript (machine : Machine) (text : List ℕ) (line : ℕ) (kind : ScriptKind) : Type 0 where
   pub readings : List LineReading
   pub are_readings : AreReadings (lines_of text) readings
-  pub first : first_fault (line_fault machine) [] readings ≡ Some (fault.line, fault.kind)
+  pub first : first_fault (line_fault machine) [] readings ≡ Some (line, kind)
 
 -- why a text was not read, where it was not want of memory
 abbrev pub IsRefused : Machine → List ℕ → ScriptError → Type 0
-IsRefused machine text (At fault) = IsFaultyScript machine text fault
+IsRefused machine text (At line kind) = IsFaultyScript machine text line kind
 IsRefused machine text NoMemory = Unit {0}

@@ -14,6 +14,7 @@ mod reading;
 mod reading_laws;
 mod script;
 mod script_error;
+mod script_laws;
 mod shown_lines;
 
 pub use plain::Plain;
@@ -21,7 +22,8 @@ pub use playing::{PlayError, Played, play_plain};
 pub use reading::LineReading;
 pub use reading_laws::{each_line_has_a_reading, no_line_has_two_readings};
 pub use script::read_plain;
-pub use script_error::{ScriptError, ScriptFault, ScriptKind};
+pub use script_error::{ScriptError, ScriptKind};
+pub use script_laws::{read_script_is_for_its_machine, script_means_one_thing};
 pub use shown_lines::{cell_line, output_line, reg_line};
 
 #[cfg(test)]

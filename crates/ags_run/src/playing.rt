@@ -7,9 +7,10 @@ ghost use Rattle.ags_ports.specs.Port.{place_of, word_at};
 ghost use Rattle.ags_ports.specs.Run.{Moment, Run, last_state};
 ghost use Rattle.ags_core.specs.Core.{start_state};
 ghost use Rattle.ags_outside.specs.Count.{Rose};
+ghost use Rattle.ags_outside.specs.Send.{IsCleanSend};
 ghost use Rattle.ags_outside.specs.Sink.{appended, WroteFront};
 ghost use Rattle.ags_run.specs.For.{IsFor, SuitsMachine, step_count};
-ghost use Rattle.ags_run.specs.Played.{shown, PlayedWhole, PlayedInPart};
+ghost use Rattle.ags_run.specs.Played.{shown, PlayedWhole, PlayedInPart, IsCleanPlay};
 ghost use Rattle.ags_run.specs.Made.{put_count, Runs, RunsCommand};
 
 use crate::plain::Plain;
@@ -120,6 +121,7 @@ fn send_line<K: Sink>(out: &mut K, line: &[u8]) -> Result<(), SendError>
     ensures front { OnErr result (WroteFront (K.told out.old) (K.told out.new) (line.now ++ codes "\n")) }
     ensures faults_stay { K.faults out.old ≤ K.faults out.new }
     ensures write_fault { IsErrOf result SendError.WriteFault → Rose (K.faults out.old) (K.faults out.new) }
+    ensures clean { IsCleanSend result (K.faults out.new ≡ K.faults out.old) }
 {
     let mut whole: ArrayVec<u8, 35> = ArrayVec::new();
     let _ = whole.try_extend_from_slice(line);
@@ -140,6 +142,7 @@ fn show<K: Sink>(
     ensures front { OnErr result (WroteFront (K.told out.old) (K.told out.new) (shown machine.now command.now core.now)) }
     ensures faults_stay { K.faults out.old ≤ K.faults out.new }
     ensures write_fault { IsErrOf result SendError.WriteFault → Rose (K.faults out.old) (K.faults out.new) }
+    ensures clean { IsCleanSend result (K.faults out.new ≡ K.faults out.old) }
 {
     match *command {
         Plain::ShowReg => send_line(out, &reg_line(core)),
@@ -169,6 +172,7 @@ fn play_command<K: Sink>(
     ensures front { OnErr result (WroteFront (K.told out.old) (K.told out.new) (shown machine.now command.now core.new)) }
     ensures faults_stay { K.faults out.old ≤ K.faults out.new }
     ensures write_fault { IsErrOf result SendError.WriteFault → Rose (K.faults out.old) (K.faults out.new) }
+    ensures clean { IsCleanSend result (K.faults out.new ≡ K.faults out.old) }
 {
     make_events(machine, core, command);
     show(machine, core, command, out)
@@ -188,6 +192,7 @@ fn play_from<K: Sink>(
     ensures front { OnErr result (PlayedInPart machine.now core.old script.now (K.told out.old) (K.told out.new)) }
     ensures faults_stay { K.faults out.old ≤ K.faults out.new }
     ensures write_fault { IsErrOf result SendError.WriteFault → Rose (K.faults out.old) (K.faults out.new) }
+    ensures clean { IsCleanSend result (K.faults out.new ≡ K.faults out.old) }
 {
     let mut played = Played { steps: 0, puts: 0 };
     for command in script.iter() {
@@ -212,6 +217,7 @@ pub fn play_plain<K: Sink>(
     ensures front { OnErr result (PlayedInPart machine.now (start_state machine.now image.now 2048) script.now (K.told out.old) (K.told out.new)) }
     ensures faults_stay { K.faults out.old ≤ K.faults out.new }
     ensures write_fault { IsErrOf result PlayError.WriteFault → Rose (K.faults out.old) (K.faults out.new) }
+    ensures clean { IsCleanPlay result (K.faults out.new ≡ K.faults out.old) }
 {
     let Ok(mut core) = Core::new(alloc, machine, image, START) else {
         return Err(PlayError::NoMemory);

@@ -21,7 +21,7 @@ pub enum LineReading {
     /// It spells none, and is skipped.
     Skipped,
     /// It is none of the lines that a script has.
-    Formless,
+    Malformed,
 }
 
 /// Whether a line of at most 512 bytes is skipped: it has nothing but blanks, or begins with a number sign.
@@ -161,13 +161,13 @@ pub(crate) fn read_line(line: &[u8]) -> LineReading
     ensures { IsReading line.now result }
 {
     if line.len() > MOST_BYTES {
-        return LineReading::Formless;
+        return LineReading::Malformed;
     }
     if is_skipped(line) {
         return LineReading::Skipped;
     }
     match fields_command(line) {
         Some(command) => LineReading::Command(command),
-        None => LineReading::Formless,
+        None => LineReading::Malformed,
     }
 }

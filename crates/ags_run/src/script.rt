@@ -1,7 +1,7 @@
 //! A script: its lines as commands, or its first fault.
 
-ghost use Rattle.std.specs.Prelude.{◌≡◌, ◌≤◌, ◌+◌, ◌⊎◌, List, Option, Some, None, length, IfOk, IfErr, IsOkAnd, IsErrOf};
-ghost use Rattle.ags_run.specs.declared.script_error.ScriptFault.{ScriptFault};
+ghost use Rattle.std.specs.Prelude.{◌≡◌, ◌≤◌, ◌+◌, ◌⊎◌, ℕ, List, Option, Some, None, length, IfOk, IfErr, IsOkAnd, IsErrOf};
+ghost use Rattle.ags_run.specs.declared.script_error.ScriptKind.{ScriptKind};
 ghost use Rattle.ags_run.specs.For.{IsFor, step_count};
 ghost use Rattle.ags_run.specs.Reading.{IsReading, command_of, reading_steps};
 ghost use Rattle.ags_run.specs.Script.{port_fault, command_fault, fault_after, IsScript, IsFaultyScript, IsRefused};
@@ -68,7 +68,7 @@ fn check_line(
         × (fault_after machine.now steps reading ≡ Some kind)) }
 {
     match read_line(line) {
-        LineReading::Formless => Err(ScriptKind::BadLine),
+        LineReading::Malformed => Err(ScriptKind::BadLine),
         LineReading::Skipped => Ok((None, steps)),
         LineReading::Command(command) => match check_command(machine, steps, &command) {
             Ok(now) => Ok((Some(command), now)),
@@ -91,7 +91,9 @@ fn read_lines(alloc: Global, bytes: &[u8], machine: &Machine) -> Result<Vec<Plai
         number += 1;
         let (command, now) = match check_line(machine, steps, line.bytes) {
             Ok(read) => read,
-            Err(kind) => return Err(ScriptError::at(number, kind)),
+            Err(kind) => {
+                return Err(ScriptError::At { line: number, kind });
+            }
         };
         steps = now;
         let Some(command) = command else {
@@ -114,8 +116,8 @@ pub fn read_plain(alloc: Global, bytes: &[u8], machine: &Machine) -> Result<Vec<
     // A script without a fault is read, and one with a fault is refused for it, unless memory runs out.
     ensures faultless { (commands : List Plain) → IsScript machine.now bytes.now commands
         → IsOkAnd result (λ read. read.items ≡ commands) ⊎ IsErrOf result ScriptError.NoMemory }
-    ensures faulty { (fault : ScriptFault) → IsFaultyScript machine.now bytes.now fault
-        → IsErrOf result (ScriptError.At fault) ⊎ IsErrOf result ScriptError.NoMemory }
+    ensures faulty { (line : ℕ) (kind : ScriptKind) → IsFaultyScript machine.now bytes.now line kind
+        → IsErrOf result (ScriptError.At line kind) ⊎ IsErrOf result ScriptError.NoMemory }
 
     // Its addresses and its number of steps suit the machine.
     ensures suits { IfOk result (λ commands. IsFor machine.now commands.items) }

@@ -16,20 +16,16 @@ pub enum ScriptKind {
     TooManySteps,
 }
 
-/// The first fault of a script.
-#[derive(Clone, Copy, Debug, PartialEq, Eq)]
-pub struct ScriptFault {
-    /// The faulty line's number, counted from 1.
-    pub line: u32,
-    /// What is wrong with it.
-    pub kind: ScriptKind,
-}
-
 /// Why a script wasn't read.
 #[derive(Clone, Copy, Debug, PartialEq, Eq)]
 pub enum ScriptError {
-    /// It has this fault.
-    At(ScriptFault),
+    /// It has a fault, and this is the first.
+    At {
+        /// The faulty line's number, counted from 1.
+        line: u32,
+        /// What is wrong with it.
+        kind: ScriptKind,
+    },
     /// The memory didn't suffice.
     NoMemory,
 }
@@ -50,26 +46,18 @@ impl fmt::Display for ScriptKind {
     }
 }
 
-/// Prints the line of a script's fault, without a line feed.
-impl fmt::Display for ScriptFault {
+/// Prints the line of a script's fault, without a line feed, and nothing where memory didn't suffice.
+impl fmt::Display for ScriptError {
     ghost use Rattle.std.specs.Prelude.{Some};
-    ghost use Rattle.ags_run.specs.FaultText.{fault_text};
+    ghost use Rattle.ags_run.specs.FaultText.{error_text};
 
-    ghost output = { λ fault. Some (fault_text fault) };
+    ghost output = { λ error. Some (error_text error) };
 
     fn fmt<W: fmt::Write>(&self, f: &mut fmt::Formatter<W>) -> fmt::Result {
-        let line = self.line;
-        let kind = self.kind;
-        write!(f, "SCRIPT LINE {line} ERROR {kind}")
-    }
-}
-
-impl ScriptError {
-    /// The fault of the line of a number, counted from 1.
-    pub(crate) fn at(line: u32, kind: ScriptKind) -> ScriptError
-        ensures { result ≡ ScriptError.At (record { line = line; kind = kind }) }
-    {
-        ScriptError::At(ScriptFault { line, kind })
+        match self {
+            ScriptError::At { line, kind } => write!(f, "SCRIPT LINE {line} ERROR {kind}"),
+            ScriptError::NoMemory => Ok(()),
+        }
     }
 }
 

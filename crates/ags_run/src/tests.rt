@@ -1,8 +1,8 @@
 //! Rows worked out by hand from the rules of a script's lines: octal numbers are typed as octal.
 
 use crate::{
-    Plain, ScriptError, ScriptFault, ScriptKind, each_line_has_a_reading, no_line_has_two_readings,
-    read_plain,
+    Plain, ScriptError, ScriptKind, each_line_has_a_reading, no_line_has_two_readings, play_laws,
+    read_plain, read_script_is_for_its_machine, script_means_one_thing,
 };
 use ags_ports::Machine;
 use ags_word::Word;
@@ -122,11 +122,11 @@ fn other_lines_are_refused(rt: HostRuntime) {
     for (row, text) in rows.into_iter().enumerate() {
         assert!(rt; text.len() <= 4_194_304, "row {row}");
         let answer = read_plain(rt.alloc(), text, &machine).map(|commands| commands.len());
-        let fault = ScriptFault {
+        let fault = ScriptError::At {
             line: 1,
             kind: ScriptKind::BadLine,
         };
-        assert!(rt; answer == Err(ScriptError::At(fault)), "row {row}");
+        assert!(rt; answer == Err(fault), "row {row}");
     }
 }
 
@@ -141,10 +141,10 @@ fn expect_fault(
     assert!(rt; text.len() <= 4_194_304, "row {row}");
     let machine = Machine::standard();
     let answer = read_plain(alloc, text, &machine).map(|commands| commands.len());
-    let Err(ScriptError::At(fault)) = answer else {
+    let Err(error) = answer else {
         panic!(rt; "row {row}");
     };
-    let line = format!(in alloc; "{fault}")?;
+    let line = format!(in alloc; "{error}")?;
     assert!(rt; line.as_str() == wanted, "row {row}");
     Ok(())
 }
@@ -192,6 +192,14 @@ fn first_faults_are_told(rt: HostRuntime) -> Result<(), Fail> {
 }
 
 #[test]
+fn want_of_memory_prints_nothing(rt: HostRuntime) -> Result<(), Fail> {
+    let error = ScriptError::NoMemory;
+    let line = format!(in rt.alloc(); "{error}")?;
+    assert!(rt; line.is_empty());
+    Ok(())
+}
+
+#[test]
 fn so_many_steps_are_allowed(rt: HostRuntime) -> Result<(), Fail> {
     let text: &[u8] = b"STEP 99999999\nSTEP 1\nSTEP 0\nPULSE\n";
     let wanted = [
@@ -207,4 +215,8 @@ fn so_many_steps_are_allowed(rt: HostRuntime) -> Result<(), Fail> {
 fn laws_can_be_called() {
     each_line_has_a_reading();
     no_line_has_two_readings();
+    script_means_one_thing();
+    read_script_is_for_its_machine();
+    play_laws::each_script_has_one_play();
+    play_laws::what_is_shown_lies_on_one_run();
 }

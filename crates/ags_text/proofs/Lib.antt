@@ -1,4 +1,6 @@
+pub mod CutLemmas
 pub mod Deciding
+mod Examples
 pub mod FaultLemmas
 pub mod FieldLaws
 pub mod FollowLemmas

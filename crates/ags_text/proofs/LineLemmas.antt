@@ -12,7 +12,7 @@ abbrev pub is_feed : ℕ → Bool
 is_feed b = eqb b 10
 
 -- a text has a first part, and the others
-first_of_parts : (text : List ℕ) → (part : List ℕ) × (others : List (List ℕ)) × (parts text ≡ part ∷ others)
+pub first_of_parts : (text : List ℕ) → (part : List ℕ) × (others : List (List ℕ)) × (parts text ≡ part ∷ others)
 first_of_parts [] = ([], [], refl)
 first_of_parts (b ∷ text) =
     let r = first_of_parts text in

@@ -2,8 +2,9 @@
 
 use crate::{
     Lines, SevenDigits, are_blanks, blanks_have_no_field, bytes_tell_fields, cut_fields_stand,
-    decimal7, first_fault_is_first, no_fault_is_faultless, numbers_are_fields, numeral_writes,
-    octal4, octal6, read_decimal, read_octal, split_field, split_word, standing_fields_are_cut,
+    decimal7, first_fault_is_first, lines_follow, lines_make_up_the_text, no_fault_is_faultless,
+    numbers_are_fields, numeral_writes, octal4, octal6, read_decimal, read_octal, split_field,
+    split_word, standing_fields_are_cut, text_is_cut_in_one_way,
 };
 use std::alloc::{AllocError, Global};
 use std::test::Fail;
@@ -48,49 +49,33 @@ fn texts_are_cut_into_lines(rt: HostRuntime) -> Result<(), Fail> {
 }
 
 #[test]
-fn octal_digits_are_read(rt: HostRuntime) {
-    let rows: [(&[u8], Option<u32>); 15] = [
-        (b"", None),
-        (b"0", Some(0)),
-        (b"7", Some(7)),
-        (b"10", Some(8)),
-        (b"000007", Some(7)),
-        (b"777777", Some(262143)),
-        (b"123456", Some(42798)),
-        (b"8", None),
-        (b"1/", None),
-        (b"17778", None),
-        (b"1234567", None),
-        (b"0000007", None),
-        (b"-1", None),
-        (b" 1", None),
-        (b"1\r", None),
+fn digits_are_read(rt: HostRuntime) {
+    // a text, what it writes in octal digits, and what in decimal ones
+    let rows: [(&[u8], Option<u32>, Option<u32>); 20] = [
+        (b"", None, None),
+        (b"0", Some(0), Some(0)),
+        (b"7", Some(7), Some(7)),
+        (b"8", None, Some(8)),
+        (b"9", None, Some(9)),
+        (b"10", Some(8), Some(10)),
+        (b"000007", Some(7), Some(7)),
+        (b"777777", Some(262143), Some(777777)),
+        (b"123456", Some(42798), Some(123456)),
+        (b"17778", None, Some(17778)),
+        (b"0000007", None, Some(7)),
+        (b"000000000", None, Some(0)),
+        (b"999999999", None, Some(999999999)),
+        (b"0000000007", None, None),
+        (b"1/", None, None),
+        (b"1:", None, None),
+        (b"1A", None, None),
+        (b"-1", None, None),
+        (b" 1", None, None),
+        (b"1\r", None, None),
     ];
-    for (row, (text, number)) in rows.into_iter().enumerate() {
-        assert_eq!(rt; read_octal(text), number, "row {row}");
-    }
-}
-
-#[test]
-fn decimal_digits_are_read(rt: HostRuntime) {
-    let rows: [(&[u8], Option<u32>); 14] = [
-        (b"", None),
-        (b"0", Some(0)),
-        (b"9", Some(9)),
-        (b"10", Some(10)),
-        (b"0000042", Some(42)),
-        (b"000000000", Some(0)),
-        (b"100000000", Some(100000000)),
-        (b"999999999", Some(999999999)),
-        (b"1000000000", None),
-        (b"0000000001", None),
-        (b"1:", None),
-        (b"1A", None),
-        (b"+1", None),
-        (b"1 ", None),
-    ];
-    for (row, (text, number)) in rows.into_iter().enumerate() {
-        assert_eq!(rt; read_decimal(text), number, "row {row}");
+    for (row, (text, octal, decimal)) in rows.into_iter().enumerate() {
+        assert_eq!(rt; read_octal(text), octal, "row {row}");
+        assert_eq!(rt; read_decimal(text), decimal, "row {row}");
     }
 }
 
@@ -162,4 +147,7 @@ fn laws_can_be_called() {
     blanks_have_no_field();
     bytes_tell_fields();
     numbers_are_fields();
+    lines_make_up_the_text();
+    text_is_cut_in_one_way();
+    lines_follow();
 }

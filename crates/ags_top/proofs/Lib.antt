@@ -1,3 +1,10 @@
+pub mod AnswerExists
+pub mod AnswerLemmas
+pub mod CleanLemmas
 pub mod CommandLemmas
+pub mod EndingLemmas
+pub mod FileLemmas
+pub mod FillingLemmas
 pub mod ListingLemmas
-pub mod OutcomeLemmas
+pub mod RunningLemmas
+pub mod StatusLemmas

@@ -1,12 +1,16 @@
 -- The listing, a card further, and by the lines of its source.
-use Rattle.std.proofs.Common.{◌≡◌, ℕ, ◌+◌, ◌<◌, ◌≤◌, List, [], ◌∷◌, ◌++◌, length, take, drop, get_or, Option, Some, None, refl, sym, ap, ◌∙◌, arith}
+use Rattle.std.proofs.Common.{◌≡◌, ℕ, ◌+◌, ◌<◌, ◌≤◌, List, [], ◌∷◌, ◌++◌, length, take, drop, get_or, Option, Some, None, refl, sym, ap, ◌∙◌, arith, inr}
 use Rattle.std.proofs.lemmas.List.{drop_more, drop_all}
-use Rattle.ags_text.specs.Line.{LineAt, LiesIn, Follow}
+use Rattle.ags_text.specs.Line.{LineAt, LiesIn, Follow, lines_of}
 use Rattle.ags_outside.specs.Sink.{appended, Wrote, WroteFront, wrote_nothing, wrote_piece, wrote_all, wrote_front}
 use Rattle.ags_asm.specs.declared.placed.Placed.{Placed}
 use Rattle.ags_asm.specs.Phase.{defined}
-use Rattle.ags_asm.specs.Source.{AreSpans, placed_at, placed_cards}
-use Rattle.ags_top.specs.Listing.{listing_line, listing_from}
+use Rattle.ags_asm.specs.Source.{AreSpans, IsAssembled, placed_at, placed_cards}
+use Rattle.ags_top.specs.declared.status.Status.TheVariants.{Done}
+use Rattle.ags_top.specs.Answer.{ListsSource}
+use Rattle.ags_top.specs.Listing.{listing_line, listing_from, listing}
+use Rattle.ags_top.specs.Outcome.{Answered}
+use Rattle.ags_top.specs.PartOutcome.{Stopped}
 use Rattle.ags_top.specs.PlacedListing.{card_text, placed_line, placed_listing}
 
 -- ---- a card further
@@ -93,3 +97,20 @@ listing_by_lines source from number [] ds follow = refl
 listing_by_lines source from number (line ∷ lines) [] follow = refl
 listing_by_lines source from number (line ∷ lines) (d ∷ ds) follow =
     rw (placed_line-line source number line d follow.1, listing_by_lines source (line.start + length line.bytes + 1) (number + 1) lines ds follow.2) refl
+
+-- ---- what was sent of a listing is the answer's
+
+-- the cards' listing is the listing of what the source defines
+listing_is : (bytes : List ℕ) (placed : List Placed) (so : IsAssembled bytes placed) → Follow bytes 0 (lines_of bytes) → placed_listing bytes 1 placed ≡ listing bytes so.defined
+listing_is bytes placed so follow = ap (placed_listing bytes 1) so.cards ∙ listing_by_lines bytes 0 1 (lines_of bytes) so.defined follow
+
+is_listed : (bytes : List ℕ) (placed : List Placed) → IsAssembled bytes placed → Follow bytes 0 (lines_of bytes) → ListsSource bytes (placed_listing bytes 1 placed) Done
+is_listed bytes placed so follow = inr (record { defined = so.defined; defines = so.defines; text_is = listing_is bytes placed so follow; status_is = refl })
+
+pub listed : (bytes : List ℕ) (old new : Option (List ℕ)) (placed : List Placed) → IsAssembled bytes placed → Follow bytes 0 (lines_of bytes) → new ≡ appended old (placed_listing bytes 1 placed)
+    → Answered (ListsSource bytes) old new Done
+listed bytes old new placed so follow sent = record { text = placed_listing bytes 1 placed; answer = is_listed bytes placed so follow; sent = sent }
+
+pub listed_in_part : (bytes : List ℕ) (old new : Option (List ℕ)) (placed : List Placed) → IsAssembled bytes placed → Follow bytes 0 (lines_of bytes) → WroteFront old new (placed_listing bytes 1 placed)
+    → Stopped (ListsSource bytes) old new
+listed_in_part bytes old new placed so follow front = inr (record { status = Done; text = placed_listing bytes 1 placed; answer = is_listed bytes placed so follow; front = front })

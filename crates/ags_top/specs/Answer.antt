@@ -1,66 +1,94 @@
 -- The answer to words and files: a status and a text.
-use Rattle.std.specs.Prelude.{◌≡◌, ◌⊎◌, ℕ, ◌<◌, ◌≤◌, List, length, Option, Some, None, IfSome}
+use Rattle.std.specs.Prelude.{◌≡◌, ◌⊎◌, ℕ, ◌≤◌, List, length, Option, Some}
 use Rattle.ags_asm.specs.declared.source_error.SourceError.{SourceError}
 use Rattle.ags_asm.specs.Source.{Defines, IsFaulty}
+use Rattle.ags_image.specs.Image.{IsImageOf}
+use Rattle.ags_ports.specs.declared.events.Event.{Event}
+use Rattle.ags_ports.specs.Machine.{standard_machine}
+use Rattle.ags_ports.specs.Run.{Moment, Run}
+use Rattle.ags_core.specs.Core.{start_state}
+use Rattle.ags_run.specs.declared.plain.Plain.{Plain}
+use Rattle.ags_run.specs.declared.script_error.ScriptKind.{ScriptKind}
+use Rattle.ags_run.specs.declared.script_error.ScriptError.TheVariants.{At}
+use Rattle.ags_run.specs.Script.{IsScript, IsFaultyScript}
+use Rattle.ags_run.specs.Played.{Plays}
 use Rattle.ags_top.specs.declared.status.Status.{Status}
-use Rattle.ags_top.specs.declared.status.Status.TheVariants.{Done, BadSource, BadWords, AbsentFile, ReadFault, WriteFault, LongFile, NoMemory}
-use Rattle.ags_top.specs.Command.{Assemble, words_of, AreNoForm}
+use Rattle.ags_top.specs.declared.status.Status.TheVariants.{Done, BadSource, BadWords, BadText}
+use Rattle.ags_top.specs.Command as command
+use Rattle.ags_top.specs.Command.{Command, Assemble, words_of, AreNoForm}
+use Rattle.ags_top.specs.File.{Told, Agrees, Tells, AnswersFile}
 use Rattle.ags_top.specs.Listing.{listing}
-use Rattle.ags_top.specs.Text.{source_limit, words_line, absent_line, long_line, fault_line}
+use Rattle.ags_top.specs.Text.{source_limit, script_limit, words_line, fault_line, script_fault_line}
 
--- The bytes are a source without a fault, within the limit, and the text is the listing of what it defines.
-pub record IsListed (bytes text : List ℕ) : Type 0 where
-  pub short : length bytes ≤ source_limit
-  pub defined : List (Option (ℕ × ℕ))
-  pub defines : Defines bytes defined
-  pub text_is : text ≡ listing bytes defined
+-- ---- of a source's bytes
 
--- The bytes are a source with a fault, within the limit, and the text is the line of its first fault.
-pub record IsFaulted (bytes text : List ℕ) : Type 0 where
-  pub short : length bytes ≤ source_limit
+-- The bytes are a source with a fault, and the text is the line of its first fault.
+pub record IsBadSource (bytes text : List ℕ) (status : Status) : Type 0 where
   pub error : SourceError
   pub faulty : IsFaulty bytes error
   pub text_is : text ≡ fault_line error
+  pub status_is : status ≡ BadSource
 
--- The file of that name is longer than a source may be, and the text says so.
-pub record IsLong (name bytes text : List ℕ) : Type 0 where
-  pub long : source_limit < length bytes
-  pub text_is : text ≡ long_line name source_limit
+-- The bytes are a source without a fault, and the text is the listing of what it defines.
+pub record IsListed (bytes text : List ℕ) (status : Status) : Type 0 where
+  pub defined : List (Option (ℕ × ℕ))
+  pub defines : Defines bytes defined
+  pub text_is : text ≡ listing bytes defined
+  pub status_is : status ≡ Done
 
--- The text and the status answer `assemble` over the file of that name, which is absent or has these bytes.
-abbrev pub AnswersFile : (name : List ℕ) (file : Option (List ℕ)) (text : List ℕ) → Status → Type 0
-AnswersFile name None text AbsentFile = text ≡ absent_line name
-AnswersFile name None text Done = ⊥
-AnswersFile name None text BadSource = ⊥
-AnswersFile name None text BadWords = ⊥
-AnswersFile name None text ReadFault = ⊥
-AnswersFile name None text WriteFault = ⊥
-AnswersFile name None text LongFile = ⊥
-AnswersFile name None text NoMemory = ⊥
-AnswersFile name (Some bytes) text Done = IsListed bytes text
-AnswersFile name (Some bytes) text BadSource = IsFaulted bytes text
-AnswersFile name (Some bytes) text LongFile = IsLong name bytes text
-AnswersFile name (Some bytes) text BadWords = ⊥
-AnswersFile name (Some bytes) text AbsentFile = ⊥
-AnswersFile name (Some bytes) text ReadFault = ⊥
-AnswersFile name (Some bytes) text WriteFault = ⊥
-AnswersFile name (Some bytes) text NoMemory = ⊥
+-- the text and the status answer `assemble` over a source of these bytes
+abbrev pub ListsSource : (bytes text : List ℕ) → Status → Type 0
+ListsSource bytes text status = IsBadSource bytes text status ⊎ IsListed bytes text status
 
--- the file, or its absence, agrees with what a shelf tells of it
-abbrev pub Agrees : Option (Option (List ℕ)) → Option (List ℕ) → Type 0
-Agrees told file = IfSome told (λ known. known ≡ file)
+-- ---- of a script's bytes
 
--- The text and the status answer `assemble` over some file that agrees with what the shelf tells of the name.
-pub record AnswersAssemble (told : List ℕ → Option (Option (List ℕ))) (name text : List ℕ) (status : Status) : Type 0 where
-  pub file : Option (List ℕ)
-  pub agrees : Agrees (told name) file
-  pub answers : AnswersFile name file text status
+-- The bytes are a script with a fault, and the text is the line of its first fault.
+pub record IsBadScript (bytes text : List ℕ) (status : Status) : Type 0 where
+  pub line : ℕ
+  pub kind : ScriptKind
+  pub faulty : IsFaultyScript standard_machine bytes line kind
+  pub text_is : text ≡ script_fault_line (At line kind)
+  pub status_is : status ≡ BadText
 
--- The words ask for the listing of a source, and the text and the status answer that.
-pub record IsAssembled (told : List ℕ → Option (Option (List ℕ))) (words : List (List ℕ)) (text : List ℕ) (status : Status) : Type 0 where
-  pub name : List ℕ
-  pub words_are : words ≡ words_of (Assemble name)
-  pub answers : AnswersAssemble told name text status
+-- The bytes are a script without a fault, and the text is what its play shows along one run of the standard machine, which
+-- begins with the image in its cells and with its first order at 4000 octal.
+pub record IsPlayed (image : List (Option ℕ)) (bytes text : List ℕ) (status : Status) : Type 0 where
+  pub commands : List Plain
+  pub script : IsScript standard_machine bytes commands
+  pub events : List Event
+  pub moments : List Moment
+  pub run : Run standard_machine (start_state standard_machine image 0o4000) events moments
+  pub plays : Plays standard_machine (start_state standard_machine image 0o4000) commands events text
+  pub status_is : status ≡ Done
+
+-- the text and the status answer the play of a script of these bytes
+abbrev pub PlaysScript : (image : List (Option ℕ)) (bytes text : List ℕ) → Status → Type 0
+PlaysScript image bytes text status = IsBadScript bytes text status ⊎ IsPlayed image bytes text status
+
+-- The bytes are a source without a fault, and the text and the status answer the script's file on the image of its words.
+pub record RunsWords (told : Told) (script bytes text : List ℕ) (status : Status) : Type 0 where
+  pub defined : List (Option (ℕ × ℕ))
+  pub defines : Defines bytes defined
+  pub image : List (Option ℕ)
+  pub image_is : IsImageOf defined image
+  pub answers : AnswersFile told script script_limit (PlaysScript image) text status
+
+-- the text and the status answer `run` over a source of these bytes: the script's file counts only where it has no fault
+abbrev pub RunsSource : (told : Told) (script bytes text : List ℕ) → Status → Type 0
+RunsSource told script bytes text status = IsBadSource bytes text status ⊎ RunsWords told script bytes text status
+
+-- ---- of words
+
+-- The text and the status answer the command, over files that agree with what the shelf tells.
+abbrev pub AnswersCommand : Told → Command → (text : List ℕ) → Status → Type 0
+AnswersCommand told (Assemble source) text status = AnswersFile told source source_limit ListsSource text status
+AnswersCommand told (command.Run source script) text status = AnswersFile told source source_limit (RunsSource told script) text status
+
+-- The words ask for a command, and the text and the status answer it.
+pub record IsCommandAnswer (told : Told) (words : List (List ℕ)) (text : List ℕ) (status : Status) : Type 0 where
+  pub command : Command
+  pub words_are : words ≡ words_of command
+  pub answers : AnswersCommand told command text status
 
 -- The words are none of the forms, and the text and the status say so.
 pub record IsNoCommand (words : List (List ℕ)) (text : List ℕ) (status : Status) : Type 0 where
@@ -69,9 +97,40 @@ pub record IsNoCommand (words : List (List ℕ)) (text : List ℕ) (status : Sta
   pub status_is : status ≡ BadWords
 
 -- The text and the status answer the words over files that agree with what the shelf tells.
-abbrev pub IsAnswer : (told : List ℕ → Option (Option (List ℕ))) (words : List (List ℕ)) (text : List ℕ) → Status → Type 0
-IsAnswer told words text status = IsNoCommand words text status ⊎ IsAssembled told words text status
+abbrev pub IsAnswer : (told : Told) (words : List (List ℕ)) (text : List ℕ) → Status → Type 0
+IsAnswer told words text status = IsNoCommand words text status ⊎ IsCommandAnswer told words text status
 
--- the shelf tells of each file that the words name
-abbrev pub TellsFiles : (told : List ℕ → Option (Option (List ℕ))) (words : List (List ℕ)) → Type 0
-TellsFiles told words = (name : List ℕ) → words ≡ words_of (Assemble name) → (file : Option (List ℕ)) × (told name ≡ Some file)
+-- ---- what the shelf tells of a command's files
+
+-- The shelf tells of a source of that name, without a fault and within its limit.
+pub record TellsSource (told : Told) (name : List ℕ) : Type 0 where
+  pub bytes : List ℕ
+  pub told_is : told name ≡ Some (Some bytes)
+  pub short : length bytes ≤ source_limit
+  pub defined : List (Option (ℕ × ℕ))
+  pub defines : Defines bytes defined
+
+-- The command fetches the file of that name, with that limit: its source always, and its script where the shelf tells
+-- of a source without a fault.
+abbrev pub Fetches : Told → Command → (name : List ℕ) (limit : ℕ) → Type 0
+Fetches told (Assemble source) name limit = (name ≡ source) × (limit ≡ source_limit)
+Fetches told (command.Run source script) name limit =
+    ((name ≡ source) × (limit ≡ source_limit)) ⊎ (TellsSource told source × (name ≡ script) × (limit ≡ script_limit))
+
+-- A source of that name agrees with what the shelf tells, without a fault and within its limit.
+pub record AgreesWithSource (told : Told) (name : List ℕ) : Type 0 where
+  pub bytes : List ℕ
+  pub agrees : Agrees (told name) (Some bytes)
+  pub short : length bytes ≤ source_limit
+  pub defined : List (Option (ℕ × ℕ))
+  pub defines : Defines bytes defined
+
+-- Over files that agree with what the shelf tells, the command fetches the file of that name, with that limit.
+abbrev pub IsFetched : Told → Command → (name : List ℕ) (limit : ℕ) → Type 0
+IsFetched told (Assemble source) name limit = (name ≡ source) × (limit ≡ source_limit)
+IsFetched told (command.Run source script) name limit =
+    ((name ≡ source) × (limit ≡ source_limit)) ⊎ (AgreesWithSource told source × (name ≡ script) × (limit ≡ script_limit))
+
+-- the shelf tells of each file that the words' command fetches
+abbrev pub TellsFiles : (told : Told) (words : List (List ℕ)) → Type 0
+TellsFiles told words = (command : Command) → words ≡ words_of command → (name : List ℕ) (limit : ℕ) → Fetches told command name limit → Tells told name

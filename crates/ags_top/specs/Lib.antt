@@ -1,8 +1,10 @@
 pub mod Answer
 pub mod Command
 pub mod CommandView
+pub mod File
 pub mod Listing
 pub mod Number
 pub mod Outcome
+pub mod PartOutcome
 pub mod PlacedListing
 pub mod Text

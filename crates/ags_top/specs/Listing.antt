@@ -3,7 +3,7 @@ use Rattle.std.specs.Prelude.{ℕ, ◌+◌, List, [], ◌∷◌, ◌++◌, Optio
 use Rattle.ags_text.specs.Line.{LineAt, lines_of}
 use Rattle.ags_text.specs.Numeral.{decimal7_text, octal4_text, octal6_text}
 
--- the columns of a card's place and word, which are blank where it has none
+-- the columns of a card's place and word: eleven blanks where it has none
 abbrev pub columns : Option (ℕ × ℕ) → List ℕ
 columns None = codes "           "
 columns (Some defined) = octal4_text defined.0 ++ codes " " ++ octal6_text defined.1
@@ -12,7 +12,7 @@ columns (Some defined) = octal4_text defined.0 ++ codes " " ++ octal6_text defin
 unfoldable pub listing_line : ℕ → LineAt → Option (ℕ × ℕ) → List ℕ
 listing_line number line defined = decimal7_text number ++ codes " " ++ columns defined ++ codes " " ++ line.bytes ++ codes "\n"
 
--- the lines of the cards from that number on
+-- the lines of the cards from that number on, of two lists of one length: a source defines one entry for each line
 unfoldable pub listing_from : ℕ → List LineAt → List (Option (ℕ × ℕ)) → List ℕ
 listing_from number [] defined = []
 listing_from number (line ∷ lines) [] = []

@@ -3,10 +3,16 @@ use Rattle.std.specs.Prelude.{ℕ, List, ◌++◌, codes}
 use Rattle.std.specs.Fmt.{decimal}
 use Rattle.ags_asm.specs.declared.source_error.SourceError.{SourceError}
 use Rattle.ags_asm.specs.FaultText.{fault_text}
+use Rattle.ags_run.specs.declared.script_error.ScriptError.{ScriptError}
+use Rattle.ags_run.specs.FaultText.{error_text}
 
 -- the most bytes of a source
 abbrev pub source_limit : ℕ
 source_limit = 4194304
+
+-- the most bytes of a script
+abbrev pub script_limit : ℕ
+script_limit = 4194304
 
 -- the words are none of the forms
 abbrev pub words_line : List ℕ
@@ -23,3 +29,7 @@ long_line name limit = codes "LONG " ++ name ++ codes " " ++ decimal limit ++ co
 -- the source has that fault
 abbrev pub fault_line : SourceError → List ℕ
 fault_line error = fault_text error ++ codes "\n"
+
+-- the script has that fault
+abbrev pub script_fault_line : ScriptError → List ℕ
+script_fault_line error = error_text error ++ codes "\n"

@@ -10,6 +10,13 @@ ghost use Rattle.ags_top.specs.CommandView.{command_of};
 pub(crate) enum Command<'a> {
     /// The listing of the source of this name.
     Assemble(&'a str),
+    /// What a script shows of the machine that begins with a source's words.
+    Run {
+        /// The name of the source.
+        source: &'a str,
+        /// The name of the script.
+        script: &'a str,
+    },
 }
 
 /// The command that the words are a form of.
@@ -19,6 +26,10 @@ pub(crate) fn read_command(words: &[String]) -> Option<Command<'_>>
 {
     match words {
         [verb, source] if verb.as_str() == "assemble" => Some(Command::Assemble(source.as_str())),
+        [verb, source, script] if verb.as_str() == "run" => Some(Command::Run {
+            source: source.as_str(),
+            script: script.as_str(),
+        }),
         _ => None,
     }
 }

@@ -2,6 +2,7 @@
 
 ghost use Rattle.std.specs.Prelude.{◌≡◌, ◌+◌, ◌≤◌, ◌<◌, ◌^◌, ◌++◌, length, OnOk, OnErr, IsErrOf};
 ghost use Rattle.ags_outside.specs.Count.{Rose};
+ghost use Rattle.ags_outside.specs.Send.{IsCleanSend};
 ghost use Rattle.ags_outside.specs.Sink.{appended, WroteFront};
 ghost use Rattle.ags_asm.specs.Phase.{defined};
 ghost use Rattle.ags_asm.specs.Source.{AreSpans};
@@ -60,6 +61,7 @@ fn send_line<K: Sink>(
     ensures front { OnErr result (WroteFront (K.told out.old) (K.told out.new) (placed_line source.now number card.now)) }
     ensures faults_stay { K.faults out.old ≤ K.faults out.new }
     ensures write_fault { IsErrOf result SendError.WriteFault → Rose (K.faults out.old) (K.faults out.new) }
+    ensures clean_sink { IsCleanSend result (K.faults out.new ≡ K.faults out.old) }
 {
     line.clear();
     if push_line(line, source, number, card).is_err() {
@@ -81,6 +83,7 @@ pub(crate) fn send_listing<K: Sink>(
     ensures front { OnErr result (WroteFront (K.told out.old) (K.told out.new) (placed_listing source.now 1 placed.now)) }
     ensures faults_stay { K.faults out.old ≤ K.faults out.new }
     ensures write_fault { IsErrOf result SendError.WriteFault → Rose (K.faults out.old) (K.faults out.new) }
+    ensures clean_sink { IsCleanSend result (K.faults out.new ≡ K.faults out.old) }
 {
     let mut line = Vec::new(alloc);
     for (index, card) in placed.iter().enumerate() {

@@ -18,6 +18,8 @@ pub enum Status {
     ReadFault,
     /// The output couldn't be written.
     WriteFault,
+    /// The script has a fault.
+    BadText,
     /// A file is longer than its limit.
     LongFile,
     /// There was too little memory.
@@ -36,6 +38,7 @@ impl Status {
             Status::AbsentFile => 4,
             Status::ReadFault => 5,
             Status::WriteFault => 6,
+            Status::BadText => 9,
             Status::LongFile => 10,
             Status::NoMemory => 11,
         }

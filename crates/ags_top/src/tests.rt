@@ -1,4 +1,5 @@
-//! The program over files in memory. The expected lines are those of the product's description, typed by hand.
+//! The program over files in memory. The expected lines are typed by hand from docs/SOURCE.md, docs/MACHINE.md and
+//! docs/SCRIPT.md.
 
 use super::*;
 use ags_outside::{SteadyShelf, SteadySink};
@@ -15,7 +16,29 @@ fn words_of(alloc: Global, line: &str) -> Result<Vec<String>, Fail> {
     Ok(words)
 }
 
-/// Runs a command line over the source `S`, into a sink that takes so many bytes at once, and compares what comes.
+/// Runs a command line over these files, into a sink that takes so many bytes at once, and compares what comes.
+fn compare_over(
+    rt: &(impl AllocGlobal + Abort),
+    files: &[(&str, &[u8])],
+    line: &str,
+    most: usize,
+    status: Status,
+    text: &str,
+) -> Result<(), Fail> {
+    let alloc = rt.alloc();
+    let mut shelf = SteadyShelf::new(alloc);
+    for (name, bytes) in files.iter().copied() {
+        shelf.add(name, bytes)?;
+    }
+    let mut out = SteadySink::new(alloc, most.max(1));
+    let words = words_of(alloc, line)?;
+    let ended = ags_main(alloc, &words, &mut shelf, &mut out);
+    assert!(rt; ended == status, "{line}");
+    assert_eq!(rt; str::from_utf8(out.bytes())?, text);
+    Ok(())
+}
+
+/// The same over the source `S` alone.
 fn compare(
     rt: &(impl AllocGlobal + Abort),
     source: &[u8],
@@ -24,15 +47,7 @@ fn compare(
     status: Status,
     text: &str,
 ) -> Result<(), Fail> {
-    let alloc = rt.alloc();
-    let mut shelf = SteadyShelf::new(alloc);
-    shelf.add("S", source)?;
-    let mut out = SteadySink::new(alloc, most.max(1));
-    let words = words_of(alloc, line)?;
-    let ended = ags_main(alloc, &words, &mut shelf, &mut out);
-    assert_eq!(rt; ended, status);
-    assert_eq!(rt; str::from_utf8(out.bytes())?, text);
-    Ok(())
+    compare_over(rt, &[("S", source)], line, most, status, text)
 }
 
 #[test]
@@ -74,6 +89,11 @@ fn refuses_words_and_files(rt: HostRuntime) -> Result<(), Fail> {
         "workload 0",
         "workload 007",
         "assemble S M N",
+        "run",
+        "run S",
+        "run S P M N",
+        "RUN S P",
+        "run assemble",
         "ASSEMBLE S",
         "--help",
     ];
@@ -93,6 +113,12 @@ fn refuses_words_and_files(rt: HostRuntime) -> Result<(), Fail> {
 }
 
 #[test]
+fn laws_can_be_called() {
+    each_command_has_an_answer();
+    words_have_one_answer();
+}
+
+#[test]
 fn numbers_statuses(rt: HostRuntime) {
     let cases = [
         (Status::Done, 0),
@@ -101,10 +127,120 @@ fn numbers_statuses(rt: HostRuntime) {
         (Status::AbsentFile, 4),
         (Status::ReadFault, 5),
         (Status::WriteFault, 6),
+        (Status::BadText, 9),
         (Status::LongFile, 10),
         (Status::NoMemory, 11),
     ];
     for (status, number) in cases {
         assert_eq!(rt; status.number(), number);
     }
+}
+
+/// A source, a script, and what the script shows.
+type Played = (&'static str, &'static str, &'static str);
+
+// Overflow and its test, the greatest product, two divisions, a long right shift, an indexed store, and a delay that a
+// pulse ends.
+#[test]
+fn plays_scripts(rt: HostRuntime) -> Result<(), Fail> {
+    let rows: [Played; 7] = [
+        (
+            " ORG /4000\n OCT 204010\n OCT 224011\n OCT 444004\n ORG /4010\n OCT 377777\n OCT 1\n",
+            "STEP 2\nSHOW REG\nSTEP 1\nSHOW REG\nSTEP 1\nSHOW REG\n",
+            "A 400000 Q 000000 X 0 V 1 P 4002 R\nA 400000 Q 000000 X 0 V 0 P 4004 R\nA 400000 Q 000000 X 0 V 0 P 4004 H\n",
+        ),
+        (
+            " ORG /4000\n OCT 204010\n OCT 264010\n ORG /4010\n OCT 400000\n",
+            "STEP 2\nSHOW REG\n",
+            "A 400000 Q 400000 X 0 V 1 P 4002 R\n",
+        ),
+        (
+            " ORG /4000\n OCT 204010\n OCT 024011\n ORG /4010\n OCT 1\n OCT 2\n",
+            "STEP 2\nSHOW REG\n",
+            "A 200000 Q 000000 X 0 V 0 P 4002 R\n",
+        ),
+        (
+            " ORG /4000\n OCT 204010\n OCT 024011\n ORG /4010\n OCT 5\n OCT 0\n",
+            "STEP 2\nSHOW REG\n",
+            "A 000005 Q 000000 X 0 V 1 P 4002 R\n",
+        ),
+        (
+            " ORG /4000\n OCT 204010\n OCT 540001\n ORG /4010\n OCT 777777\n",
+            "STEP 2\nSHOW REG\n",
+            "A 777777 Q 600000 X 0 V 0 P 4002 R\n",
+        ),
+        (
+            " ORG /10\n OCT 7\n ORG /15\n OCT 3\n ORG /4000\n OCT 500005\n OCT 110010\n",
+            "STEP 2\nSHOW CELL 0015\nSHOW CELL 0010\n",
+            "CELL 0015 000000\nCELL 0010 000007\n",
+        ),
+        (
+            " ORG /4000\n OCT 704000\n",
+            "PULSE\nSTEP 2\nSHOW REG\nPULSE\nSHOW REG\n",
+            "A 000000 Q 000000 X 0 V 0 P 4000 W\nA 000000 Q 000000 X 0 V 0 P 4000 R\n",
+        ),
+    ];
+    for (source, script, text) in rows {
+        let files = [("S", source.as_bytes()), ("P", script.as_bytes())];
+        for most in [1000, 1] {
+            compare_over(&rt, &files, "run S P", most, Status::Done, text)?;
+        }
+    }
+    Ok(())
+}
+
+// The input register takes the word that is set, and the output register gives what was put into it.
+#[test]
+fn plays_inputs_and_outputs(rt: HostRuntime) -> Result<(), Fail> {
+    let source = b" ORG /4000\n OCT 642001\n OCT 666001\n".as_slice();
+    let script = b"# in and out\n\nSET 2001 001750\nSTEP 2\nSHOW OUT 6001\n".as_slice();
+    let files = [("S", source), ("P", script)];
+    compare_over(&rt, &files, "run S P", 9, Status::Done, "OUT 6001 001750\n")
+}
+
+#[test]
+fn says_the_first_fault_of_a_script(rt: HostRuntime) -> Result<(), Fail> {
+    let rows = [
+        ("STEP\n", "SCRIPT LINE 1 ERROR 1 BadLine\n"),
+        ("SHOW REG\nSTART 4000\n", "SCRIPT LINE 2 ERROR 1 BadLine\n"),
+        ("#\n\nSET 2003 000001\n", "SCRIPT LINE 3 ERROR 2 NoPort\n"),
+        (
+            "STEP 100000000\nSTEP 1\n",
+            "SCRIPT LINE 2 ERROR 3 TooManySteps\n",
+        ),
+    ];
+    let source = b"* FIRST\n ORG /4000\nA OCT 7\n".as_slice();
+    for (script, line) in rows {
+        let files = [("S", source), ("P", script.as_bytes())];
+        compare_over(&rt, &files, "run S P", 9, Status::BadText, line)?;
+    }
+    Ok(())
+}
+
+// A file that comes first decides: the script counts only where the source has no fault.
+#[test]
+fn takes_files_in_their_order(rt: HostRuntime) -> Result<(), Fail> {
+    let long = vec![in rt.alloc(); b'\n'; 4_194_305]?;
+    let good = b" OCT 1\n".as_slice();
+    let bad = b" CLA 1\n".as_slice();
+    let fault = "SOURCE CARD 0000001 ERROR 0 NotYet\n";
+    let files = [("S", good), ("B", bad), ("L", long.as_slice())];
+    let rows = [
+        ("run Z Y", Status::AbsentFile, "ABSENT Z\n"),
+        ("run S Y", Status::AbsentFile, "ABSENT Y\n"),
+        ("run B Y", Status::BadSource, fault),
+        ("run B L", Status::BadSource, fault),
+        ("run L Y", Status::LongFile, "LONG L 4194304\n"),
+        ("run S L", Status::LongFile, "LONG L 4194304\n"),
+        // a source is no script
+        (
+            "run S S",
+            Status::BadText,
+            "SCRIPT LINE 1 ERROR 1 BadLine\n",
+        ),
+    ];
+    for (line, status, text) in rows {
+        compare_over(&rt, &files, line, 9, status, text)?;
+    }
+    Ok(())
 }

@@ -2,9 +2,10 @@
 
 ghost use Rattle.std.specs.Prelude.{◌≡◌, IfOk};
 ghost use Rattle.std.specs.String.{string_bytes};
-ghost use Rattle.ags_top.specs.Text.{absent_line, long_line, fault_line, words_line};
+ghost use Rattle.ags_top.specs.Text.{absent_line, long_line, fault_line, script_fault_line, words_line};
 
 use ags_asm::SourceError;
+use ags_run::ScriptError;
 use std::alloc::{AllocError, Global};
 
 /// The words are none of the forms.
@@ -31,6 +32,13 @@ pub(crate) fn long_text(alloc: Global, name: &str, limit: u64) -> Result<String,
 /// The source has that fault.
 pub(crate) fn fault_text(alloc: Global, error: SourceError) -> Result<String, AllocError>
     ensures { IfOk result (λ text. string_bytes text ≡ fault_line error) }
+{
+    format!(in alloc; "{error}\n")
+}
+
+/// The script has that fault.
+pub(crate) fn script_fault_text(alloc: Global, error: ScriptError) -> Result<String, AllocError>
+    ensures { IfOk result (λ text. string_bytes text ≡ script_fault_line error) }
 {
     format!(in alloc; "{error}\n")
 }

@@ -5,7 +5,8 @@
 --     product_over, over-product        the product of two values is out of range exactly where both words are 2 ^ 17
 --     divided-zero, divided-over, divided-some    where a quotient has no word, and its word
 --     IsCutOff-divided                  a quotient's word has the number over the divisor as its value, cut off toward zero
---     int_div-cut                       so is the quotient by any divisor that is not 0
+--     divided-exact, divided-none       a number that is that quotient and fits is the answer, so that there is none only where none is
+--     int_div-cut, cut_one              by any divisor that is not 0 there is one quotient that is cut off toward zero
 -- For a whole number n:
 --     pair_a_below, pair_q_below        the pair that it sets is two words
 --     long-pair                         a number in range is the number of the pair that it sets
@@ -14,34 +15,36 @@
 --     fits_long-shifted_right           a right shift stays in range
 --     fits_long-wrap_long, wrap_long-fits, IsCongruent-wrap_long    the number left of n is in range, is n where n is, and is congruent to n modulo 2 ^ 35
 --     fits_long_in, fits_long_least, fits_long_most, fits_long_not    what `fits_long` says, both ways
-use Rattle.std.proofs.Common.{◌≡◌, ◌≢◌, ℕ, zero, suc, ◌+◌, ◌-◌, ◌*◌, ◌/◌, ◌%◌, ◌<◌, ◌≤◌, ◌^◌, true, false, refl, ap, subst, ◌∙◌, ⊎_elim, ◌⊎◌, arith, ℤ, pos, negsuc, ◌+ℤ◌, ◌-ℤ◌, ◌*ℤ◌, ◌≤ℤ◌, ◌<ℤ◌}
-use Rattle.std.specs.Prelude.{neg_ℤ, unsigned_abs, int_div, int_rem, Some, None}
+use Rattle.std.proofs.Common.{◌≡◌, ◌≢◌, ℕ, zero, suc, ◌+◌, ◌-◌, ◌*◌, ◌/◌, ◌%◌, ◌<◌, ◌≤◌, ◌^◌, Bool, true, false, refl, sym, ap, subst, ◌∙◌, ⊎_elim, ◌⊎◌, arith, ℤ, pos, negsuc, ◌+ℤ◌, ◌-ℤ◌, ◌*ℤ◌, ◌≤ℤ◌, ◌<ℤ◌}
+use Rattle.std.specs.Prelude.{neg_ℤ, unsigned_abs, int_div, int_rem, Option, Some, None}
 use Rattle.std.specs.Int.{int_rem_euclid}
 use Rattle.std.proofs.lemmas.Int.{ints, unsigned_abs-mul, quot-rem, rem_below}
+use Rattle.std.proofs.Math.Nat.{div-eq_of_lt-le, add-mul}
+use Rattle.std.proofs.Math.IntN.{pos-*ℤ-pos, pos-*ℤ-negsuc, negsuc-*ℤ-pos, negsuc-*ℤ-negsuc}
 use Rattle.std.proofs.lemmas.Nat.{shr-shr, shr_le, shr_split, mod_below, pow_pos, mul-le, div-add-mod'}
 use Rattle.std.proofs.lemmas.Bool.Decides.{nat_tests}
 use Rattle.std.proofs.lemmas.Bool.{cases_lt}
 use Rattle.ags_word.specs.Word.{val, fits, wrap, word_of, IsCongruent}
 use Rattle.ags_word.specs.Long.{long, pair, fits_long, wrap_long, divided, shifted_right, top_bit, IsFloor, IsCutOff}
-use Rattle.ags_word.proofs.WordLaws.{val_least, val_most, val-low, val-high, fits_in, wrap_below, wrap-val, val-wrap}
+use Rattle.ags_word.proofs.WordLaws.{val_least, val_most, val-low, val-high, within_in, within_least, within_most, within_not, fits_in, wrap_below, wrap-val, val-wrap}
 
 -- ---- numbers in range
 
 pub fits_long_in : (n : ℤ) → neg_ℤ (pos (2 ^ 34)) ≤ℤ n → n <ℤ pos (2 ^ 34) → fits_long n ≡ true
 unfolding fits_long
-fits_long_in n h k = grind (arith, ints)
+fits_long_in = within_in (2 ^ 34)
 
 pub fits_long_least : (n : ℤ) → fits_long n ≡ true → neg_ℤ (pos (2 ^ 34)) ≤ℤ n
 unfolding fits_long
-fits_long_least n h = grind (arith, ints)
+fits_long_least = within_least (2 ^ 34)
 
 pub fits_long_most : (n : ℤ) → fits_long n ≡ true → n <ℤ pos (2 ^ 34)
 unfolding fits_long
-fits_long_most n h = grind (arith, ints)
+fits_long_most = within_most (2 ^ 34)
 
 pub fits_long_not : (n : ℤ) → fits_long n ≡ false → (n <ℤ neg_ℤ (pos (2 ^ 34))) ⊎ (pos (2 ^ 34) ≤ℤ n)
 unfolding fits_long
-fits_long_not n h = grind (arith, ints)
+fits_long_not = within_not (2 ^ 34)
 
 pub fits_long-long : (a q : ℕ) → a < 2 ^ 18 → fits_long (long a q) ≡ true
 unfolding long
@@ -238,3 +241,75 @@ pub IsCutOff-divided : (n : ℤ) (m w : ℕ) → divided n m ≡ Some w → IsCu
 IsCutOff-divided n m w e =
     let is = val-wrap _ (quotient_fits n m w e) in
     rw (quotient_word n m w e, is) (int_div-cut n (val m) (divisor_some n m w e))
+
+-- ---- one quotient is cut off toward zero
+
+-- a number that is a times d, where that isn't more, and less than d is left, has a as its quotient
+quotient_is : (n a d rest : ℕ) → a * d ≤ n → n ≤ a * d + rest → rest < d → n / d ≡ a
+quotient_is n a d rest least most below = div-eq_of_lt-le d least (omega (arith, add-mul a 1 d))
+
+-- the size of a sum is at most the sum of the sizes
+size_sum : (m n : ℤ) → unsigned_abs (m +ℤ n) ≤ unsigned_abs m + unsigned_abs n
+size_sum m n = omega (arith, ints)
+
+-- the size of a quotient is the quotient of the sizes
+size_cut : (n d quotient : ℤ) → IsCutOff n d quotient → unsigned_abs n / unsigned_abs d ≡ unsigned_abs quotient
+size_cut n d quotient cut =
+    let product = unsigned_abs-mul quotient d in
+    let whole : unsigned_abs n ≤ unsigned_abs (quotient *ℤ d) + unsigned_abs cut.rest =
+    subst (λ (m : ℤ). unsigned_abs m ≤ unsigned_abs (quotient *ℤ d) + unsigned_abs cut.rest) cut.whole (size_sum (quotient *ℤ d) cut.rest) in
+    quotient_is (unsigned_abs n) (unsigned_abs quotient) (unsigned_abs d) (unsigned_abs cut.rest)
+    (subst (λ (m : ℕ). m ≤ unsigned_abs n) product cut.toward)
+    (subst (λ (m : ℕ). unsigned_abs n ≤ m + unsigned_abs cut.rest) product whole)
+    cut.below
+
+-- a product by a number and by its negative
+turned : (a : ℕ) (d : ℤ) → negsuc a *ℤ d ≡ neg_ℤ (pos (suc a) *ℤ d)
+turned a (pos n) = omega (arith, ints, pos-*ℤ-pos (suc a) n, negsuc-*ℤ-pos a n)
+turned a (negsuc n) = omega (arith, ints, pos-*ℤ-negsuc (suc a) n, negsuc-*ℤ-negsuc a n)
+
+-- a product by a number that is not 0 is no smaller
+no_smaller : (a : ℕ) (d : ℤ) → unsigned_abs d ≤ unsigned_abs (pos (suc a) *ℤ d)
+no_smaller a d = omega (arith, unsigned_abs-mul (pos (suc a)) d, mul-le 1 (unsigned_abs d) (suc a) (unsigned_abs d) (omega arith) (omega arith))
+
+-- no number has a quotient and its negative
+one_sign : (n d : ℤ) (a b : ℕ) → a ≡ b → IsCutOff n d (pos (suc a)) → IsCutOff n d (negsuc b) → ⊥
+one_sign n d a b same one other =
+    let here : negsuc b *ℤ d ≡ neg_ℤ (pos (suc a) *ℤ d) = ap (λ (k : ℕ). negsuc k *ℤ d) (sym same) ∙ turned a d in
+    let size = no_smaller a d in
+    let below = one.below in
+    let under = other.below in
+    let whole = one.whole in
+    let both = other.whole in
+    omega (arith, ints)
+
+same_size : (n d one other : ℤ) → unsigned_abs one ≡ unsigned_abs other → IsCutOff n d one → IsCutOff n d other → one ≡ other
+same_size n d (pos a) (pos b) same first second = ap pos same
+same_size n d (pos zero) (negsuc b) same first second = absurd (omega arith)
+same_size n d (pos (suc a)) (negsuc b) same first second = absurd (one_sign n d a b (omega arith) first second)
+same_size n d (negsuc a) (pos zero) same first second = absurd (omega arith)
+same_size n d (negsuc a) (pos (suc b)) same first second = absurd (one_sign n d b a (omega arith) second first)
+same_size n d (negsuc a) (negsuc b) same first second = ap negsuc (omega arith)
+
+pub cut_one : (n d one other : ℤ) → IsCutOff n d one → IsCutOff n d other → one ≡ other
+cut_one n d one other first second = same_size n d one other (sym (size_cut n d one first) ∙ size_cut n d other second) first second
+
+-- a divisor by which there is a quotient is not 0
+divisor_of_cut : (n d quotient : ℤ) → IsCutOff n d quotient → d ≢ pos 0
+divisor_of_cut n d quotient cut none = let below = cut.below in omega (arith, ints)
+
+pub divided-exact : (n quotient : ℤ) (m : ℕ) → IsCutOff n (val m) quotient → fits quotient ≡ true → divided n m ≡ Some (wrap quotient)
+divided-exact n quotient m cut fit =
+    let some = divisor_of_cut n (val m) quotient cut in
+    let is : int_div n (val m) ≡ quotient = cut_one n (val m) _ quotient (int_div-cut n (val m) some) cut in
+    divided-some n m some (ap fits is ∙ fit) ∙ ap (λ (k : ℤ). Some (wrap k)) is
+
+some_none : (w : ℕ) → ◌≡◌ {A = Option ℕ} (Some w) None → ⊥
+some_none w same = cc
+
+pub divided-none : (n quotient : ℤ) (m : ℕ) → divided n m ≡ None → IsCutOff n (val m) quotient → fits quotient ≡ false
+divided-none n quotient m none cut = by (fits quotient) refl
+  where
+    by : (b : Bool) → fits quotient ≡ b → b ≡ false
+    by true fit = let found = divided-exact n quotient m cut fit in absurd (some_none _ (sym found ∙ none))
+    by false fit = refl

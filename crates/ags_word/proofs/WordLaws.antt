@@ -17,7 +17,7 @@ use Rattle.std.proofs.lemmas.Int.{ints, int_rem_euclid_is}
 use Rattle.std.proofs.lemmas.Bool.Decides.{nat_tests}
 use Rattle.std.proofs.lemmas.Bool.{cases_lt}
 use borrow.Author.Differences.{up, down}
-use Rattle.ags_word.specs.Word.{val, fits, wrap, word_of, IsCongruent}
+use Rattle.ags_word.specs.Word.{val, lies_within, fits, wrap, word_of, IsCongruent}
 
 -- ---- words
 
@@ -37,23 +37,35 @@ pub val-high : (w : ℕ) → 2 ^ 17 ≤ w → val w ≡ pos w -ℤ pos (2 ^ 18)
 unfolding val
 val-high w h = grind (arith, ints, nat_tests)
 
--- ---- numbers that fit
+-- ---- numbers that lie within a bound, and those that fit
+
+pub within_in : (half : ℕ) (n : ℤ) → neg_ℤ (pos half) ≤ℤ n → n <ℤ pos half → lies_within half n ≡ true
+within_in half n h k = grind (arith, ints)
+
+pub within_least : (half : ℕ) (n : ℤ) → lies_within half n ≡ true → neg_ℤ (pos half) ≤ℤ n
+within_least half n h = grind (arith, ints)
+
+pub within_most : (half : ℕ) (n : ℤ) → lies_within half n ≡ true → n <ℤ pos half
+within_most half n h = grind (arith, ints)
+
+pub within_not : (half : ℕ) (n : ℤ) → lies_within half n ≡ false → (n <ℤ neg_ℤ (pos half)) ⊎ (pos half ≤ℤ n)
+within_not half n h = grind (arith, ints)
 
 pub fits_in : (n : ℤ) → neg_ℤ (pos (2 ^ 17)) ≤ℤ n → n <ℤ pos (2 ^ 17) → fits n ≡ true
 unfolding fits
-fits_in n h k = grind (arith, ints)
+fits_in = within_in (2 ^ 17)
 
 pub fits_least : (n : ℤ) → fits n ≡ true → neg_ℤ (pos (2 ^ 17)) ≤ℤ n
 unfolding fits
-fits_least n h = grind (arith, ints)
+fits_least = within_least (2 ^ 17)
 
 pub fits_most : (n : ℤ) → fits n ≡ true → n <ℤ pos (2 ^ 17)
 unfolding fits
-fits_most n h = grind (arith, ints)
+fits_most = within_most (2 ^ 17)
 
 pub fits_not : (n : ℤ) → fits n ≡ false → (n <ℤ neg_ℤ (pos (2 ^ 17))) ⊎ (pos (2 ^ 17) ≤ℤ n)
 unfolding fits
-fits_not n h = grind (arith, ints)
+fits_not = within_not (2 ^ 17)
 
 pub fits-val : (w : ℕ) → w < 2 ^ 18 → fits (val w) ≡ true
 fits-val w h = fits_in (val w) (val_least w h) (val_most w h)

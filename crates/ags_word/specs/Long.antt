@@ -1,10 +1,10 @@
 -- A pair of words, A and Q, stands for one whole number of 35 bits: A's value above Q's low 17 bits.
 -- Q's own top bit tells nothing of it, and is set to A's where a pair is made.
-use Rattle.std.specs.Prelude.{◌≡◌, ℕ, ◌<◌, ◌≤◌, ◌+◌, ◌*◌, ◌/◌, ◌%◌, ◌^◌, Bool, ◌&&◌, ℤ, pos, ◌+ℤ◌, ◌-ℤ◌, ◌*ℤ◌, neg_ℤ, int_lt, unsigned_abs, Option, None, if◌then◌else◌}
+use Rattle.std.specs.Prelude.{◌≡◌, ℕ, ◌<◌, ◌≤◌, ◌+◌, ◌*◌, ◌/◌, ◌%◌, ◌^◌, Bool, ℤ, pos, ◌+ℤ◌, ◌-ℤ◌, ◌*ℤ◌, int_lt, unsigned_abs, Option, None, if◌then◌else◌}
 use Rattle.std.specs.Int.{int_rem_euclid, int_div_euclid}
-use Rattle.std.specs.Int.RustNames.{int_le, int_div}
+use Rattle.std.specs.Int.RustNames.{int_div}
 use Rattle.std.specs.Ordering.{int_eq}
-use Rattle.ags_word.specs.Word.{val, wrap, word_of}
+use Rattle.ags_word.specs.Word.{val, lies_within, wrap, word_of}
 
 -- a right shift: the whole number over a power of two, rounded down
 abbrev pub shifted_right : ℤ → ℕ → ℤ
@@ -30,7 +30,7 @@ long a q = val a *ℤ pos (2 ^ 17) +ℤ pos (q % 2 ^ 17)
 
 -- the number is one that a pair stands for: it lies from -(2 ^ 34) to 2 ^ 34 - 1
 unfoldable pub fits_long : ℤ → Bool
-fits_long n = int_le (neg_ℤ (pos (2 ^ 34))) n && int_lt n (pos (2 ^ 34))
+fits_long n = lies_within (2 ^ 34) n
 
 -- the number that a pair stands for and that is congruent to a whole number modulo 2 ^ 35
 unfoldable pub wrap_long : ℤ → ℤ

@@ -8,9 +8,13 @@ use Rattle.std.specs.Int.RustNames.{int_le}
 unfoldable pub val : ℕ → ℤ
 val w = if nat_lt w (2 ^ 17) then pos w else (pos w -ℤ pos (2 ^ 18))
 
+-- the number lies from -half to half - 1
+abbrev pub lies_within : ℕ → ℤ → Bool
+lies_within half n = int_le (neg_ℤ (pos half)) n && int_lt n (pos half)
+
 -- the number is the value of a word: it lies from -(2 ^ 17) to 2 ^ 17 - 1
 unfoldable pub fits : ℤ → Bool
-fits n = int_le (neg_ℤ (pos (2 ^ 17))) n && int_lt n (pos (2 ^ 17))
+fits n = lies_within (2 ^ 17) n
 
 -- the word that is congruent to a whole number modulo 2 ^ 18
 unfoldable pub wrap : ℤ → ℕ

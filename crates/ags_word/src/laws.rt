@@ -1,9 +1,33 @@
 //! What the formulas mean, in the machine's own words. Each law is what a function that does nothing ensures,
 //! so that it is proved with the crate. Behind each clause is a lemma of `proofs/`, which the crates above cite.
 
-ghost use Rattle.std.specs.Prelude.{◌≡◌, ◌≢◌, ℕ, ℤ, ◌+◌, ◌%◌, ◌<◌, ◌^◌, true, false, pos, ◌+ℤ◌, ◌-ℤ◌, ◌*ℤ◌, neg_ℤ, unsigned_abs, int_div, Some, None};
-ghost use Rattle.ags_word.specs.Word.{val, fits, wrap, IsCongruent};
+ghost use Rattle.std.specs.Prelude.{◌≡◌, ◌≢◌, ℕ, ℤ, ◌+◌, ◌%◌, ◌<◌, ◌≤◌, ◌^◌, ◌⊎◌, true, false, pos, ◌+ℤ◌, ◌-ℤ◌, ◌*ℤ◌, ◌≤ℤ◌, ◌<ℤ◌, neg_ℤ, unsigned_abs, int_div, Some, None};
+ghost use Rattle.ags_word.specs.Word.{val, fits, wrap, word_of, IsCongruent};
 ghost use Rattle.ags_word.specs.Long.{long, pair, fits_long, wrap_long, shifted_right, top_bit, divided, IsFloor, IsCutOff};
+
+/// A word's value is its number below 2^17, and its number less 2^18 from there on, so that it lies from -2^17 to
+/// 2^17 - 1; and words of one value are one word.
+pub fn value_is_number_or_less()
+    ensures low { (w : ℕ) → w < 2 ^ 17 → val w ≡ pos w }
+    ensures high { (w : ℕ) → 2 ^ 17 ≤ w → val w ≡ pos w -ℤ pos (2 ^ 18) }
+    ensures least { (w : ℕ) → w < 2 ^ 18 → neg_ℤ (pos (2 ^ 17)) ≤ℤ val w }
+    ensures most { (w : ℕ) → w < 2 ^ 18 → val w <ℤ pos (2 ^ 17) }
+    ensures one { (v w : ℕ) → v < 2 ^ 18 → w < 2 ^ 18 → val v ≡ val w → v ≡ w }
+{}
+
+/// A number fits exactly where it lies from -2^17 to 2^17 - 1.
+pub fn fitting_numbers_are_a_range()
+    ensures inside { (n : ℤ) → neg_ℤ (pos (2 ^ 17)) ≤ℤ n → n <ℤ pos (2 ^ 17) → fits n ≡ true }
+    ensures least { (n : ℤ) → fits n ≡ true → neg_ℤ (pos (2 ^ 17)) ≤ℤ n }
+    ensures most { (n : ℤ) → fits n ≡ true → n <ℤ pos (2 ^ 17) }
+    ensures outside { (n : ℤ) → fits n ≡ false → (n <ℤ neg_ℤ (pos (2 ^ 17))) ⊎ (pos (2 ^ 17) ≤ℤ n) }
+{}
+
+/// A number that fits has a word, which is what is left of it, and no other number has one.
+pub fn fitting_number_has_a_word()
+    ensures some { (n : ℤ) → fits n ≡ true → word_of n ≡ Some (wrap n) }
+    ensures none { (n : ℤ) → fits n ≡ false → word_of n ≡ None }
+{}
 
 /// What is left of a whole number is a word, and its value is congruent to the number modulo 2^18.
 pub fn wrapping_keeps_congruence()
@@ -29,6 +53,20 @@ pub fn wrapping_in_steps_wraps_whole()
     ensures sum { (m n : ℤ) → wrap (val (wrap m) +ℤ val (wrap n)) ≡ wrap (m +ℤ n) }
     ensures difference { (m n : ℤ) → wrap (val (wrap m) -ℤ val (wrap n)) ≡ wrap (m -ℤ n) }
     ensures negative { (n : ℤ) → wrap (neg_ℤ (val (wrap n))) ≡ wrap (neg_ℤ n) }
+{}
+
+/// A pair's number is in range exactly where it lies from -2^34 to 2^34 - 1.
+pub fn numbers_of_pairs_are_a_range()
+    ensures inside { (n : ℤ) → neg_ℤ (pos (2 ^ 34)) ≤ℤ n → n <ℤ pos (2 ^ 34) → fits_long n ≡ true }
+    ensures least { (n : ℤ) → fits_long n ≡ true → neg_ℤ (pos (2 ^ 34)) ≤ℤ n }
+    ensures most { (n : ℤ) → fits_long n ≡ true → n <ℤ pos (2 ^ 34) }
+    ensures outside { (n : ℤ) → fits_long n ≡ false → (n <ℤ neg_ℤ (pos (2 ^ 34))) ⊎ (pos (2 ^ 34) ≤ℤ n) }
+{}
+
+/// The pair that a whole number sets is two words.
+pub fn pair_is_two_words()
+    ensures a { (n : ℤ) → (pair n).0 < 2 ^ 18 }
+    ensures q { (n : ℤ) → (pair n).1 < 2 ^ 18 }
 {}
 
 /// The number of a pair is in range, and a number in range is that of the pair that it sets.
@@ -71,12 +109,21 @@ pub fn one_product_overflows()
     ensures least { fits_long (val (2 ^ 17) *ℤ val (2 ^ 17)) ≡ false }
 {}
 
-/// A division's answer is the number over the divisor's value, cut off toward zero; there is none by 0, and none
-/// where that quotient doesn't fit.
+/// A division's answer is the number over the divisor's value, cut off toward zero, wherever that fits; there is none
+/// by 0, and none where that quotient doesn't fit.
 pub fn division_cuts_off()
     ensures quotient { (n : ℤ) (m w : ℕ) → divided n m ≡ Some w → IsCutOff n (val m) (val w) }
     ensures some { (n : ℤ) (m : ℕ) → val m ≢ pos 0 → fits (int_div n (val m)) ≡ true
         → divided n m ≡ Some (wrap (int_div n (val m))) }
+    ensures exact { (n quotient : ℤ) (m : ℕ) → IsCutOff n (val m) quotient → fits quotient ≡ true
+        → divided n m ≡ Some (wrap quotient) }
+    ensures none { (n quotient : ℤ) (m : ℕ) → divided n m ≡ None → IsCutOff n (val m) quotient → fits quotient ≡ false }
     ensures zero { (n : ℤ) (m : ℕ) → val m ≡ pos 0 → divided n m ≡ None }
     ensures over { (n : ℤ) (m : ℕ) → fits (int_div n (val m)) ≡ false → divided n m ≡ None }
+{}
+
+/// By a divisor that isn't 0 each number has one quotient that is cut off toward zero.
+pub fn one_quotient_is_cut_off()
+    ensures some { (n divisor : ℤ) → divisor ≢ pos 0 → IsCutOff n divisor (int_div n divisor) }
+    ensures one { (n divisor one other : ℤ) → IsCutOff n divisor one → IsCutOff n divisor other → one ≡ other }
 {}

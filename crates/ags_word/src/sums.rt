@@ -16,7 +16,7 @@ impl Word {
         Word::settled(i128::from(self.value()) + i128::from(m.value()))
     }
 
-    /// The difference from another word.
+    /// This word less another one.
     pub fn sub(self, m: Word) -> (Word, bool)
         ensures word { result.0 ≡ wrap (val self -ℤ val m) }
         ensures over { result.1 ≡ not (fits (val self -ℤ val m)) }

@@ -1,4 +1,4 @@
-use Rattle.ags_asm.proofs.AssembleLemmas.{one_meaning, one_fault, not_both}
+use Rattle.ags_asm.proofs.MeaningLemmas.{one_meaning, one_fault, not_both}
 use Rattle.ags_asm.proofs.source_laws.source_means_one_thing.Goals as goal
 
 pub returns-clause-words : goal.returns-clause-words

@@ -9,8 +9,8 @@ pulls-init g c = record {
   buffer = refl;
   same = refl;
   front = rw c.new-bytes.ensures.items (front_nothing _);
-  faults_stay = omega arith;
-  absences_stay = omega arith;
+  faults_stay = refl;
+  absences_stay = refl;
 }
 
 pub pulls-preserved : goal.pulls-preserved
@@ -23,6 +23,6 @@ pulls-preserved g c =
       same = c.pull.ensures.same ∙ c.pulls.invariant.same;
       front = rw items (front_more _ _ _ c.len-in-pulls.result _ (omega arith) c.pulls.invariant.front
           (rw (← c.pulls.invariant.same) c.in-Got.ensures.tells));
-      faults_stay = omega arith;
-      absences_stay = omega arith;
+      faults_stay = c.in-Got.ensures.clean.0 ∙ c.pulls.invariant.faults_stay;
+      absences_stay = c.in-Got.ensures.clean.1 ∙ c.pulls.invariant.absences_stay;
     }

@@ -8,8 +8,8 @@ invariant-pulls g l = record {
   buffer : length l.piece ≡ 4096;
   same : g.S.Shelf.told l.shelf ≡ g.S.Shelf.told l.fn.shelf;
   front : IsFrontTold (g.S.Shelf.told l.fn.shelf l.name) l.bytes.items;
-  faults_stay : g.S.Shelf.faults l.fn.shelf ≤ g.S.Shelf.faults l.shelf;
-  absences_stay : g.S.Shelf.absences l.fn.shelf ≤ g.S.Shelf.absences l.shelf;
+  faults_stay : g.S.Shelf.faults l.shelf ≡ g.S.Shelf.faults l.fn.shelf;
+  absences_stay : g.S.Shelf.absences l.shelf ≡ g.S.Shelf.absences l.fn.shelf;
 }
 
 abbrev pub decreases-pulls : goal.decreases-pulls

@@ -1,5 +1,5 @@
 use Rattle.ags_ports.proofs.PhaseLemmas.{halts}
-use Rattle.ags_ports.proofs.RunLemmas.{run_halted}
+use Rattle.ags_ports.proofs.RunLemmas.{run_halted, run_alone}
 use Rattle.ags_ports.proofs.laws.nothing_leaves_a_halt.Goals as goal
 
 pub returns-clause-step : goal.returns-clause-step
@@ -7,3 +7,6 @@ returns-clause-step c = halts
 
 pub returns-clause-run : goal.returns-clause-run
 returns-clause-run c = run_halted
+
+pub returns-clause-run_alone : goal.returns-clause-run_alone
+returns-clause-run_alone c = run_alone

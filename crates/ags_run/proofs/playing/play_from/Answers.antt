@@ -1,4 +1,4 @@
-use Rattle.std.proofs.Common.{refl, ◌∙◌, arith}
+use Rattle.std.proofs.Common.{refl, ◌∙◌}
 use Rattle.std.proofs.lemmas.Result.{err_from_is_err_and}
 use Rattle.ags_run.proofs.PlayingLemmas.{Playing-none, Playing-more, Playing-front, Playing-all}
 use Rattle.ags_run.proofs.playing.play_from.Goals as goal
@@ -8,7 +8,7 @@ loop-command-init g c = record {
   playing = Playing-none c.args.machine.now c.args.core.now c.args.script.now (g.K.Sink.told c.args.out.now) c.requires.is_for;
   inputs = refl;
   outputs = refl;
-  faults = omega arith;
+  faults = refl;
 }
 
 pub returns-in_err-play_command-clause-front : goal.returns-in_err-play_command-clause-front
@@ -25,7 +25,7 @@ loop-command-preserved g c = record {
       c.loop-command.invariant.playing c.loop-command-test.true c.command-item.is c.play_command.ensures.run c.in_ok-play_command.ensures.sent c.add.ensures.steps c.add.ensures.puts;
   inputs = c.play_command.ensures.inputs ∙ c.loop-command.invariant.inputs;
   outputs = c.play_command.ensures.outputs ∙ c.loop-command.invariant.outputs;
-  faults = omega (arith, c.loop-command.invariant.faults, c.play_command.ensures.faults_stay);
+  faults = c.in_ok-play_command.ensures.clean ∙ c.loop-command.invariant.faults;
 }
 
 pub returns-clause-played : goal.returns-clause-played

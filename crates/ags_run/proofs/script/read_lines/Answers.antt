@@ -11,9 +11,8 @@ loop-line-init c =
 pub returns-in-Err-clause-refused : goal.returns-in-Err-clause-refused
 returns-in-Err-clause-refused c =
     let faulty = c.in-Err.ensures.faulty in
-    rw (c.at.ensures)
-    (SoFar-fault c.args.machine.now c.args.bytes.now c.next.new.self c.loop-line.commands.items c.loop-line.number c.loop-line.steps (line_at c.in-Some.line) faulty.0 c.in-Err.kind
-    (rw c.in-Some.ensures.steps at c.loop-line.invariant) faulty.1 faulty.2)
+    SoFar-fault c.args.machine.now c.args.bytes.now c.next.new.self c.loop-line.commands.items c.loop-line.number c.loop-line.steps (line_at c.in-Some.line) faulty.0 c.in-Err.kind
+    (rw c.in-Some.ensures.steps at c.loop-line.invariant) faulty.1 faulty.2
 
 pub loop-line-preserved-in_default : goal.loop-line-preserved-in_default
 loop-line-preserved-in_default c =

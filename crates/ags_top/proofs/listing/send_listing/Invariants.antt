@@ -1,9 +1,9 @@
-use Rattle.std.proofs.Common.{◌≤◌}
+use Rattle.std.proofs.Common.{◌≡◌}
 use Rattle.ags_top.proofs.ListingLemmas.{Sending}
 use Rattle.ags_top.proofs.listing.send_listing.Given as goal
 
 abbrev pub invariant-loop-index : goal.invariant-loop-index
 invariant-loop-index g l = record {
   sending : Sending (g.K.Sink.told l.fn.out) (g.K.Sink.told l.out) l.source l.placed l.index;
-  faults : g.K.Sink.faults l.fn.out ≤ g.K.Sink.faults l.out;
+  faults : g.K.Sink.faults l.out ≡ g.K.Sink.faults l.fn.out;
 }

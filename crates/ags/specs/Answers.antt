@@ -1,0 +1,22 @@
+-- What the adapters answer to what the outside did, and what they count.
+use Rattle.std.specs.Prelude.{ℕ, ◌+◌, ◌-◌, ◌^◌, List, take, min, Option}
+use Rattle.std.specs.Io.KnownBytes.{Appends, Keeps}
+use Rattle.ags_outside.specs.declared.shelves.Pull.{Pull}
+use Rattle.ags_outside.specs.declared.shelves.Pull.TheVariants as pull
+use Rattle.ags_outside.specs.declared.sinks.PutDone.{PutDone}
+use Rattle.ags_outside.specs.declared.sinks.PutDone.TheVariants as put
+
+-- a count of faults after an answer: one more where the shelf failed, up to the last value of a counter
+abbrev pub faults_after : ℕ → Pull → ℕ
+faults_after before (pull.Got count) = before
+faults_after before pull.End = before
+faults_after before pull.Absent = before
+faults_after before pull.Failed = min (before + 1) (2 ^ 64 - 1)
+faults_after before pull.NoMemory = before
+
+-- What a put did to the bytes of the writer behind a sink and of the room before it, where they are known: those that
+-- were taken stand behind the others, and otherwise nothing does.
+abbrev pub PutAppends : (old new : Option (List ℕ)) (piece : List ℕ) (answer : PutDone) → Type 0
+PutAppends old new piece (put.Took count) = Appends old new (take count piece)
+PutAppends old new piece put.Failed = Keeps old new
+PutAppends old new piece put.NoMemory = Keeps old new
