@@ -1,4 +1,5 @@
--- In a source without a fault no card's word stands where an earlier one's does.
+-- In a source without a fault no card's word stands where an earlier one's does. The crates above cite `each_place_once`,
+-- behind the law `source_defines_each_place_once`.
 use Rattle.std.proofs.Common.{◌≡◌, ℕ, ◌+◌, Bool, true, false, cond, List, [], ◌∷◌, ◌++◌, length, Option, Some, None, option_map, refl, sym, ap, ◌∙◌, inl, inr, arith, eq-eqb}
 use Rattle.std.specs.Prelude.{◌⊎◌}
 use Rattle.std.specs.List.{Contains}

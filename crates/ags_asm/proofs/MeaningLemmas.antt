@@ -1,4 +1,7 @@
--- A text means one thing, and no text means nothing.
+-- A text means one thing, and no text means nothing. The crates above cite, behind the laws `source_means_one_thing` and
+-- `each_text_has_a_meaning`:
+--     one_meaning, one_fault, not_both    a text defines one list of words, or has one first fault, and never both
+--     each_means                          each text does one of these
 use Rattle.std.proofs.Common.{◌≡◌, ℕ, suc, ◌+◌, List, [], ◌∷◌, length, Option, Some, None, refl, sym, ap, ◌∙◌, inl, inr}
 use Rattle.std.specs.Prelude.{◌⊎◌}
 use Rattle.ags_text.specs.Fault.{first_fault}

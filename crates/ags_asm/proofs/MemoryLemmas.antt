@@ -1,4 +1,5 @@
--- What a source defines are words of the memory.
+-- What a source defines are words of the memory. The crates above cite `words_of_memory`, behind the law
+-- `source_defines_words_of_the_memory`.
 use Rattle.std.proofs.Common.{◌≡◌, ℕ, ◌+◌, ◌<◌, ◌≤◌, ◌^◌, List, [], ◌∷◌, length, Option, Some, None, refl, sym, ap, subst, inl, inr, arith}
 use Rattle.std.specs.List.{Contains}
 use Rattle.std.proofs.Math.Nat.{pow-le-pow_right}

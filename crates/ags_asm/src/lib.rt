@@ -1,5 +1,5 @@
 //! The assembler: from a source's bytes to its cards with their places and words, or its first fault.
-//! It stands on `ags_text` for lines and digits and on `ags_word` for words, and `assemble` answers exactly what
+//! It stands on `ags_text` for lines, fields and digits and on `ags_word` for words, and `assemble` answers exactly what
 //! the definitions in `specs/` say of the text.
 #![tactic(auto)]
 

@@ -1,5 +1,5 @@
 //! The outside as every reader and writer above sees it: shelves that files are read from, and sinks that
-//! bytes are put into. It stands on `std` alone. `fetch` reads a whole file from any shelf, and `send` puts
+//! bytes are put into. It stands on `thiserror` alone. `fetch` reads a whole file from any shelf, and `send` puts
 //! all bytes into any sink; each refusal is tied to what the outside did in that very call. The steady twins
 //! keep all in memory and never fail.
 #![tactic(auto)]

@@ -1,4 +1,6 @@
--- Each script has one play, and what it shows lies on one run.
+-- Each script has one play, and what it shows lies on one run. The crates above cite, behind the laws of `play_laws`:
+--     some_play, one_play    from a state a script has one list of events and one text
+--     play_runs              they are one run
 use Rattle.std.proofs.Common.{◌≡◌, ℕ, List, [], ◌∷◌, ◌++◌, refl, sym, ap, subst, ◌∙◌, append_assoc}
 use Rattle.ags_ports.specs.declared.events.Event.{Event}
 use Rattle.ags_ports.specs.declared.machines.Machine.{Machine}

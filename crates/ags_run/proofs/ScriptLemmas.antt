@@ -1,4 +1,7 @@
--- The lines of a script, one further, and what a script that was read keeps.
+-- The lines of a script, one further, and what a script that was read keeps. The crates above cite, behind the law
+-- `script_means_one_thing`:
+--     one_script, one_fault, not_faulty    a text is a script of one list of commands, or has one first fault, never both
+--     script_or_faulty                     each text is one of these
 use Rattle.std.proofs.Common.{◌≡◌, ℕ, ◌+◌, ◌≤◌, List, [], ◌∷◌, ◌++◌, length, Option, Some, None, refl, sym, ap, ◌∙◌, inl, inr, arith}
 use Rattle.std.specs.Prelude.{All, sum_by}
 use Rattle.std.specs.List.{filter_map}

@@ -1,8 +1,8 @@
 //! Scripts: what is done with the machine from outside, and what is shown of it. `read_plain` answers exactly what the
 //! definitions in `specs/` say of a script's text for a machine: its commands, or its first fault. `play_plain` plays
 //! them on the machine that starts with an image: it is one run of the definition in `ags_ports`, and what is printed
-//! are the states along it. It stands on `ags_text` for lines and digits, on `ags_core` for the machine and on
-//! `ags_outside` for the output.
+//! are the states along it. It stands on `ags_text` for lines, fields and digits, on `ags_core`, `ags_ports`, `ags_image` and
+//! `ags_word` for the machine, on `ags_outside` for the output, and on `arrayvec` and `thiserror`.
 #![tactic(auto)]
 
 mod fields;

@@ -1,6 +1,7 @@
 //! The program's one call: from the command line's words to a status and the bytes that are written, over any shelf
-//! and any sink. It stands on the assembler, on the machine with its scripts and on the outside's traits, and `ags_main`
-//! answers exactly what the definitions in `specs/` say of the words and the files.
+//! and any sink. It stands on `ags_asm` for sources, on `ags_image`, `ags_ports`, `ags_core` and `ags_run` for
+//! the machine and its scripts, on `ags_text` for digits and on `ags_outside` for the traits. `ags_main` answers exactly
+//! what the definitions in `specs/` say of the words and the files.
 #![tactic(auto)]
 
 mod answer_laws;
