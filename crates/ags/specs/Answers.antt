@@ -1,10 +1,18 @@
 -- What the adapters answer to what the outside did, and what they count.
-use Rattle.std.specs.Prelude.{ℕ, ◌+◌, ◌-◌, ◌^◌, List, take, min, Option}
+use Rattle.std.specs.Prelude.{ℕ, ◌+◌, ◌-◌, ◌^◌, List, take, min, Option, Some, None}
 use Rattle.std.specs.Io.KnownBytes.{Appends, Keeps}
 use Rattle.ags_outside.specs.declared.shelves.Pull.{Pull}
 use Rattle.ags_outside.specs.declared.shelves.Pull.TheVariants as pull
 use Rattle.ags_outside.specs.declared.sinks.PutDone.{PutDone}
 use Rattle.ags_outside.specs.declared.sinks.PutDone.TheVariants as put
+
+-- how many bytes of a file an answer gives: none at its end, and of an answer that is no file's nothing is said
+abbrev pub count_of : Pull → Option ℕ
+count_of (pull.Got count) = Some count
+count_of pull.End = Some 0
+count_of pull.Absent = None
+count_of pull.Failed = None
+count_of pull.NoMemory = None
 
 -- a count of faults after an answer: one more where the shelf failed, up to the last value of a counter
 abbrev pub faults_after : ℕ → Pull → ℕ

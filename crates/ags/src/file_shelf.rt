@@ -3,10 +3,12 @@
 ghost use Rattle.std.specs.Prelude.{◌≡◌, ◌≢◌, ◌+◌, ◌-◌, ◌^◌, ◌<◌, ◌≤◌, None, Some, Ok, IfOk, IfErr, OnErr, IfSome, length, min};
 ghost use Rattle.std.specs.Io.KnownBytes.{ReadConsumes};
 ghost use Rattle.std.specs.IoError.{error_kind};
-ghost use Rattle.std.specs.Option.{ForSome};
+ghost use Rattle.std.specs.Result.{result_ok};
 ghost use Rattle.std.specs.String.{string_bytes};
-ghost use Rattle.ags.specs.Answers.{faults_after};
-ghost use Rattle.ags_outside.specs.Shelf.{absences_after};
+ghost use Rattle.ags.specs.Answers.{count_of, faults_after};
+ghost use Rattle.ags.specs.Held.{IsAtItsEnd, ReadsOn, StaysOpen};
+ghost use Rattle.ags_outside.specs.Count.{Rose};
+ghost use Rattle.ags_outside.specs.Shelf.{GotWithin, IsCleanPull, absences_after};
 
 use ags_outside::{Pull, Shelf};
 use std::alloc::Global;
@@ -34,7 +36,8 @@ pub(crate) struct FileShelf<'a, R: Files> {
 
 /// A file that stood at its start, at that place.
 fn go_to<F: Seek + Drop>(file: F, from: u64) -> io::Result<F>
-    ensures { IfOk result (λ there. F.stream_position file ≡ Some 0 → F.stream_position there ≡ Some from) }
+    ensures there { IfOk result (λ there. F.stream_position file ≡ Some 0 → F.stream_position there ≡ Some from) }
+    ensures start { from ≡ 0 → result ≡ Ok file }
 {
     let mut file = file;
     if from != 0 {
@@ -90,6 +93,7 @@ fn file_at<R: Files>(
 /// What a shelf answers to a read. What the system names as not found is absent, and each other error that isn't want
 /// of memory is a fault.
 fn answer_to(read: io::Result<usize>) -> Pull
+    ensures count { count_of result ≡ result_ok read }
     ensures end { read ≡ Ok 0 → result ≡ Pull.End }
     ensures got { IfOk read (λ count. 0 < count → result ≡ Pull.Got count) }
     ensures absent { IfErr read (λ error. error_kind error ≡ ErrorKind.NotFound → result ≡ Pull.Absent) }
@@ -129,8 +133,9 @@ impl<'a, R: Files> FileShelf<'a, R> {
         ensures count { IfOk result (λ count. count ≤ length into.old) }
         ensures faults { self.new.faults ≡ self.old.faults }
         ensures absences { self.new.absences ≡ self.old.absences }
-        ensures name { IfOk result (λ count. ForSome self.new.held (λ file. string_bytes file.name ≡ name.now)) }
-        ensures place { IfOk result (λ count. ForSome self.new.held (λ file. file.at ≡ min (from + count) (2 ^ 64 - 1))) }
+        ensures open { StaysOpen self.new.held name.now from (result_ok result) }
+        ensures end { 0 < length into.old → IsAtItsEnd R.File.remaining self.new.held (result_ok result) }
+        ensures bytes { ReadsOn R.File.remaining self.old.held self.new.held name.now from into.new (result_ok result) }
         ensures closed { OnErr result (self.new.held ≡ None) }
     {
         let mut file = file_at(self.rt, self.alloc, self.held.take(), name, from)?;
@@ -145,6 +150,7 @@ impl<'a, R: Files> FileShelf<'a, R> {
         ensures absences { self.new.absences ≡ absences_after self.old.absences answer }
         ensures faults_stay { self.old.faults ≤ self.new.faults }
         ensures absences_stay { self.old.absences ≤ self.new.absences }
+        ensures held { self.new.held ≡ self.old.held }
     {
         match answer {
             Pull::Absent => self.absences = self.absences.saturating_add(1),
@@ -161,7 +167,21 @@ impl<R: Files> Shelf for FileShelf<'_, R> {
 
     ghost absences = { λ shelf. shelf.absences };
 
-    fn pull(&mut self, name: &str, from: u64, into: &mut [u8]) -> Pull {
+    fn pull(&mut self, name: &str, from: u64, into: &mut [u8]) -> Pull
+        requires { 0 < length into.old }
+        ensures got { GotWithin (length into.old) result }
+        ensures faults { self.new.faults ≡ faults_after self.old.faults result }
+        ensures absences { self.new.absences ≡ absences_after self.old.absences result }
+        ensures faults_stay { self.old.faults ≤ self.new.faults }
+        ensures absences_stay { self.old.absences ≤ self.new.absences }
+        ensures absent { result ≡ Pull.Absent → Rose self.old.absences self.new.absences }
+        ensures failed { result ≡ Pull.Failed → Rose self.old.faults self.new.faults }
+        ensures clean { IsCleanPull result (self.new.faults ≡ self.old.faults) (self.new.absences ≡ self.old.absences) }
+        // Bytes and an end are those of a file of that name, and what is known of it bears them out.
+        ensures open { StaysOpen self.new.held name.now from (count_of result) }
+        ensures end { IsAtItsEnd R.File.remaining self.new.held (count_of result) }
+        ensures bytes { ReadsOn R.File.remaining self.old.held self.new.held name.now from into.new (count_of result) }
+    {
         let answer = answer_to(self.read_on(name, from, into));
         self.count(answer);
         answer

@@ -5,7 +5,10 @@
 mod file_shelf;
 mod out_sink;
 
-ghost use Rattle.std.specs.Prelude.{◌≡◌, true, false};
+ghost use Rattle.std.specs.Prelude.{◌≡◌, true, false, IfOk, drop, map};
+ghost use Rattle.std.specs.String.{string_bytes};
+ghost use Rattle.std.specs.Vec.Iter.{into_iter_items};
+ghost use Rattle.ags.specs.Ended.{EndsFor};
 
 use ags_top::{Status, ags_main};
 use file_shelf::FileShelf;
@@ -17,9 +20,13 @@ use std::io;
 use std::process::ExitCode;
 
 /// The words behind the program's name.
-fn words_of(alloc: Global, all: Args) -> Result<Vec<String>, AllocError> {
+fn words_of(alloc: Global, all: Args) -> Result<Vec<String>, AllocError>
+    ensures { IfOk result (λ words. words.items ≡ drop 1 (into_iter_items all)) }
+{
     let mut words = Vec::new(alloc);
-    for word in all.skip(1) {
+    let mut rest = all;
+    let _name = rest.next();
+    for word in rest {
         words.push(word)?;
     }
     Ok(words)
@@ -34,7 +41,9 @@ fn ended(status: Status, written: bool) -> Status
 }
 
 /// Runs the program over its words, and answers its status.
-fn run<R: Files + Print + AllocGlobal>(rt: &R, all: Args) -> io::Result<Status> {
+fn run<R: Files + Print + AllocGlobal>(rt: &R, all: Args) -> io::Result<Status>
+    ensures { IfOk result (EndsFor (map string_bytes (drop 1 (into_iter_items all)))) }
+{
     let words = words_of(rt.alloc(), all)?;
     let mut shelf = FileShelf::new(rt, rt.alloc());
     let mut out = OutSink::new(rt.alloc(), io::writer(rt))?;

@@ -1,6 +1,6 @@
 //! Standard output as a sink.
 
-ghost use Rattle.std.specs.Prelude.{◌≡◌, ◌≢◌, ◌<◌, ◌≤◌, [], true, None, Ok, IfOk, IfErr, length};
+ghost use Rattle.std.specs.Prelude.{◌≡◌, ◌≢◌, ◌<◌, ◌≤◌, [], true, false, None, Ok, IfOk, IfErr, length};
 ghost use Rattle.std.specs.Io.Buffered.{writer_buffer, writer_contents, writer_inner};
 ghost use Rattle.std.specs.Io.KnownBytes.{Keeps};
 ghost use Rattle.std.specs.IoError.{error_kind};
@@ -49,12 +49,19 @@ impl<W: Write + Drop> OutSink<W> {
         Ok(OutSink { out, faults: 0 })
     }
 
-    /// Writes what is not yet written, and tells whether that was done.
+    /// Writes what is not yet written, and tells whether that was done: where it wasn't, the sink failed once more.
     pub(crate) fn finish(&mut self) -> bool
         ensures bytes { Keeps (writer_contents W.contents self.old.out) (writer_contents W.contents self.new.out) }
         ensures written { result ≡ true → writer_buffer self.new.out ≡ [] }
+        ensures faults_stay { self.old.faults ≤ self.new.faults }
+        ensures failed { result ≡ false → Rose self.old.faults self.new.faults }
+        ensures clean { result ≡ true → self.new.faults ≡ self.old.faults }
     {
-        self.out.flush().is_ok()
+        let written = self.out.flush().is_ok();
+        if !written {
+            self.faults = self.faults.saturating_add(1);
+        }
+        written
     }
 }
 

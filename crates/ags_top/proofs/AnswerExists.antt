@@ -42,7 +42,10 @@ play_exists image bytes = elim (script_or_faulty standard_machine bytes) [
       let run = play_runs standard_machine (start_state standard_machine image 0o4000) good.0 play.0 play.1 play.2 in (
         play.1,
         Done,
-        inr (record { commands = good.0; script = good.1; events = play.0; moments = run.0; run = run.1; plays = play.2; status_is = refl }),
+        inr (record {
+          play = record { commands = good.0; is_script = good.1; events = play.0; moments = run.0; run = run.1; plays = play.2 };
+          status_is = refl;
+        }),
       )
 ]
 

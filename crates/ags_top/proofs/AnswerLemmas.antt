@@ -17,7 +17,7 @@ use Rattle.ags_run.proofs.ScriptLemmas as script
 use Rattle.ags_run.proofs.PlayLemmas.{one_play}
 use Rattle.ags_top.specs.declared.status.Status.{Status}
 use Rattle.ags_top.specs.declared.status.Status.TheVariants.{BadSource, BadText}
-use Rattle.ags_top.specs.Answer.{IsBadSource, IsListed, ListsSource, IsPlayed, PlaysScript, RunsWords, RunsSource, AnswersCommand, IsAnswer, Fetches, TellsFiles}
+use Rattle.ags_top.specs.Answer.{IsBadSource, IsListed, ListsSource, IsPlayOn, IsPlayed, PlaysScript, RunsWords, RunsSource, AnswersCommand, IsAnswer, Fetches, TellsFiles}
 use Rattle.ags_top.specs.Command.{Command, Assemble, Run, words_of}
 use Rattle.ags_top.specs.File.{Told, Tells, AnswersFile}
 use Rattle.ags_top.specs.Listing.{listing}
@@ -55,7 +55,7 @@ plays_good image bytes text status commands is (inr played) = played
 -- a script with a fault is refused
 pub plays_bad : (image : List (Option ℕ)) (bytes text : List ℕ) (status : Status) (line : ℕ) (kind : ScriptKind) → IsFaultyScript standard_machine bytes line kind → PlaysScript image bytes text status → status ≡ BadText
 plays_bad image bytes text status line kind faulty (inl bad) = bad.status_is
-plays_bad image bytes text status line kind faulty (inr played) = absurd (script.not_faulty standard_machine bytes played.commands line kind played.script faulty)
+plays_bad image bytes text status line kind faulty (inr played) = absurd (script.not_faulty standard_machine bytes played.play.commands line kind played.play.is_script faulty)
 
 -- ---- bytes have one answer
 
@@ -79,17 +79,22 @@ one_list bytes text other status ended (inr first) (inr second) = (
 same_line : (line other : ℕ) (kind another : ScriptKind) → line ≡ other → kind ≡ another → script_fault_line (At line kind) ≡ script_fault_line (At other another)
 same_line line other kind another lines kinds = ap (λ (n : ℕ). script_fault_line (At n kind)) lines ∙ ap (λ (k : ScriptKind). script_fault_line (At other k)) kinds
 
+-- a script has one play on an image
+one_play_on : (image : List (Option ℕ)) (bytes text other : List ℕ) → IsPlayOn image bytes text → IsPlayOn image bytes other → text ≡ other
+one_play_on image bytes text other first second =
+    let same = script.one_script standard_machine bytes first.commands second.commands first.is_script second.is_script in
+    let plays : Plays standard_machine (start_state standard_machine image 0o4000) first.commands second.events other =
+    subst (λ (commands : List Plain). Plays standard_machine (start_state standard_machine image 0o4000) commands second.events other) (sym same) second.plays in
+    (one_play standard_machine (start_state standard_machine image 0o4000) first.commands first.events second.events text other IsMachine-standard first.plays plays).1
+
 pub one_played : (image : List (Option ℕ)) (bytes text other : List ℕ) (status ended : Status) → PlaysScript image bytes text status → PlaysScript image bytes other ended → Same text other status ended
 one_played image bytes text other status ended (inl first) (inl second) =
     let same = script.one_fault standard_machine bytes first.line second.line first.kind second.kind first.faulty second.faulty in
     (first.text_is ∙ same_line first.line second.line first.kind second.kind same.0 same.1 ∙ sym second.text_is, first.status_is ∙ sym second.status_is)
-one_played image bytes text other status ended (inl first) (inr second) = absurd (script.not_faulty standard_machine bytes second.commands first.line first.kind second.script first.faulty)
-one_played image bytes text other status ended (inr first) (inl second) = absurd (script.not_faulty standard_machine bytes first.commands second.line second.kind first.script second.faulty)
+one_played image bytes text other status ended (inl first) (inr second) = absurd (script.not_faulty standard_machine bytes second.play.commands first.line first.kind second.play.is_script first.faulty)
+one_played image bytes text other status ended (inr first) (inl second) = absurd (script.not_faulty standard_machine bytes first.play.commands second.line second.kind first.play.is_script second.faulty)
 one_played image bytes text other status ended (inr first) (inr second) =
-    let same = script.one_script standard_machine bytes first.commands second.commands first.script second.script in
-    let plays : Plays standard_machine (start_state standard_machine image 0o4000) first.commands second.events other =
-    subst (λ (commands : List Plain). Plays standard_machine (start_state standard_machine image 0o4000) commands second.events other) (sym same) second.plays in
-    ((one_play standard_machine (start_state standard_machine image 0o4000) first.commands first.events second.events text other IsMachine-standard first.plays plays).1, first.status_is ∙ sym second.status_is)
+    (one_play_on image bytes text other first.play second.play, first.status_is ∙ sym second.status_is)
 
 -- of a source that runs, where the shelf tells of the script
 one_run_of : (told : Told) (name bytes text other : List ℕ) (status ended : Status) → ((defined : List (Option (ℕ × ℕ))) → Defines bytes defined → Tells told name)

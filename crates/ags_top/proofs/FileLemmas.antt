@@ -112,33 +112,17 @@ read_answer told name limit Answer bytes text status is short so =
 
 -- ---- what a status says of a file
 
--- AbsentFile says that it is absent, or rests on its bytes
-pub absent_file : (told : Told) (name : List ℕ) (limit : ℕ) (Answer : (bytes text : List ℕ) → Status → Type 0) (text : List ℕ) (status : Status) → status ≡ AbsentFile
-    → AnswersFile told name limit Answer text status
-    → (Agrees (told name) None × (text ≡ absent_line name)) ⊎ ((bytes : List ℕ) × Agrees (told name) (Some bytes) × (length bytes ≤ limit) × Answer bytes text status)
-absent_file told name limit Answer text status is so = by_answer so.answers
+-- where its bytes don't give the answer, it isn't read
+pub unread_file : (told : Told) (name : List ℕ) (limit : ℕ) (Answer : (bytes text : List ℕ) → Status → Type 0) (text : List ℕ) (status : Status)
+    → ((bytes : List ℕ) → Agrees (told name) (Some bytes) → length bytes ≤ limit → Answer bytes text status → ⊥) → AnswersFile told name limit Answer text status
+    → IsUnreadAsTold (told name) name limit text status
+unread_file told name limit Answer text status by_no_bytes so = by_answer so.answers
   where
-    by_answer : IsUnread name limit so.file text status ⊎ AnswersRead limit Answer so.file text status
-        → (Agrees (told name) None × (text ≡ absent_line name)) ⊎ ((bytes : List ℕ) × Agrees (told name) (Some bytes) × (length bytes ≤ limit) × Answer bytes text status)
-    by_answer (inl (inl absent)) = let agrees : Agrees (told name) None = rw absent.file_is at so.agrees in inl (agrees, absent.text_is)
-    by_answer (inl (inr long)) = let other = long.status_is in absurd cc
-    by_answer (inr read) = let agrees : Agrees (told name) (Some read.bytes) = rw read.read.file_is at so.agrees in inr (read.bytes, agrees, read.read.short, read.answer)
+    by_answer : IsUnread name limit so.file text status ⊎ AnswersRead limit Answer so.file text status → IsUnreadAsTold (told name) name limit text status
+    by_answer (inl unread) = record { file = so.file; agrees = so.agrees; unread = unread }
+    by_answer (inr read) = let agrees : Agrees (told name) (Some read.bytes) = rw read.read.file_is at so.agrees in absurd (by_no_bytes read.bytes agrees read.read.short read.answer)
 
--- LongFile says that it is too long, or rests on its bytes
-pub long_file : (told : Told) (name : List ℕ) (limit : ℕ) (Answer : (bytes text : List ℕ) → Status → Type 0) (text : List ℕ) (status : Status) → status ≡ LongFile
-    → AnswersFile told name limit Answer text status
-    → ((bytes : List ℕ) × Agrees (told name) (Some bytes) × (limit < length bytes) × (text ≡ long_line name limit))
-    ⊎ ((bytes : List ℕ) × Agrees (told name) (Some bytes) × (length bytes ≤ limit) × Answer bytes text status)
-long_file told name limit Answer text status is so = by_answer so.answers
-  where
-    by_answer : IsUnread name limit so.file text status ⊎ AnswersRead limit Answer so.file text status
-        → ((bytes : List ℕ) × Agrees (told name) (Some bytes) × (limit < length bytes) × (text ≡ long_line name limit))
-        ⊎ ((bytes : List ℕ) × Agrees (told name) (Some bytes) × (length bytes ≤ limit) × Answer bytes text status)
-    by_answer (inl (inl absent)) = let other = absent.status_is in absurd cc
-    by_answer (inl (inr long)) = let agrees : Agrees (told name) (Some long.bytes) = rw long.file_is at so.agrees in inl (long.bytes, agrees, long.long, long.text_is)
-    by_answer (inr read) = let agrees : Agrees (told name) (Some read.bytes) = rw read.read.file_is at so.agrees in inr (read.bytes, agrees, read.read.short, read.answer)
-
--- every other status rests on its bytes, for some file that agrees with what the shelf tells
+-- where the status is of no file that isn't read, its bytes give the answer, for some file that agrees with what the shelf tells
 pub bytes_answer : (told : Told) (name : List ℕ) (limit : ℕ) (Answer : (bytes text : List ℕ) → Status → Type 0) (text : List ℕ) (status : Status) → (status ≡ AbsentFile → ⊥) → (status ≡ LongFile → ⊥)
     → AnswersFile told name limit Answer text status → (bytes : List ℕ) × Agrees (told name) (Some bytes) × (length bytes ≤ limit) × Answer bytes text status
 bytes_answer told name limit Answer text status not_absent not_long so = by_answer so.answers

@@ -16,7 +16,10 @@ pub played : (image : List (Option ℕ)) (bytes : List ℕ) (commands : List Pla
     → PlayedWhole standard_machine (start_state standard_machine image 0o4000) commands old new count → Answered (PlaysScript image bytes) old new Done
 played image bytes commands old new count script so = record {
   text = so.text;
-  answer = inr (record { commands = commands; script = script; events = so.events; moments = so.moments; run = so.run; plays = so.plays; status_is = refl });
+  answer = inr (record {
+    play = record { commands = commands; is_script = script; events = so.events; moments = so.moments; run = so.run; plays = so.plays };
+    status_is = refl;
+  });
   sent = so.sent;
 }
 
@@ -26,6 +29,9 @@ pub played_in_part : (image : List (Option ℕ)) (bytes : List ℕ) (commands : 
 played_in_part image bytes commands old new script so = inr (record {
   status = Done;
   text = so.text;
-  answer = inr (record { commands = commands; script = script; events = so.events; moments = so.moments; run = so.run; plays = so.plays; status_is = refl });
+  answer = inr (record {
+    play = record { commands = commands; is_script = script; events = so.events; moments = so.moments; run = so.run; plays = so.plays };
+    status_is = refl;
+  });
   front = so.front;
 })

@@ -6,15 +6,15 @@ use Rattle.ags_asm.specs.declared.source_error.SourceError.{SourceError}
 use Rattle.ags_asm.specs.Source.{Defines, IsFaulty}
 use Rattle.ags_top.specs.declared.status.Status.{Status}
 use Rattle.ags_top.specs.declared.status.Status.TheVariants.{Done, BadSource, BadWords, AbsentFile, BadText, LongFile}
-use Rattle.ags_top.specs.Answer.{ListsSource, PlaysScript, RunsWords, RunsSource, AnswersCommand, IsAnswer, TellsSource, AgreesWithSource, Fetches}
+use Rattle.ags_top.specs.Answer.{ListsSource, PlaysScript, RunsWords, RunsSource, AnswersCommand, IsAnswer, TellsSource, Fetches, IsFetched}
 use Rattle.ags_top.specs.Command.{Command, Assemble, Run, words_of, source_of, AreNoForm}
-use Rattle.ags_top.specs.File.{Told, Agrees}
+use Rattle.ags_top.specs.File.{Told, Agrees, IsUnread, IsUnreadAsTold, AnswersRead, AnswersFile}
 use Rattle.ags_top.specs.Listing.{listing}
 use Rattle.ags_top.specs.Outcome.{EndsWith, Answered, Ends, BadWordsExactly, ReadsFault, BadSourceExactly, ReadsAbsence, AbsentExactly, ReadsLong, LongExactly, ReadsScriptFault, BadTextExactly, DoneAlways, ListsWhatIsDefined, IsPlayOf, PlaysWhatIsDefined}
-use Rattle.ags_top.specs.Text.{source_limit, script_limit, absent_line, long_line}
+use Rattle.ags_top.specs.Text.{source_limit, script_limit}
 use Rattle.ags_top.proofs.AnswerLemmas.{lists_good, lists_bad, runs_good, runs_bad, plays_good, plays_bad, command_answer}
 use Rattle.ags_top.proofs.EndingLemmas.{ends_with}
-use Rattle.ags_top.proofs.FileLemmas.{absent_answer, long_answer, read_answer, absent_file, long_file, bytes_answer}
+use Rattle.ags_top.proofs.FileLemmas.{absent_answer, long_answer, read_answer, unread_file, bytes_answer}
 
 -- what a run that ended with a status was, by its answer
 answered_with : (Answer : List ℕ → Status → Type 0) (old new : Option (List ℕ)) (result status : Status) → (Ends Answer old new status → Answered Answer old new status)
@@ -133,169 +133,116 @@ bad_source_exactly told words old new result ends = record {
     reads_fault : Answered (IsAnswer told words) old new BadSource → ReadsFault told words old new
     reads_fault so = by_answer so.text so.sent so.answer
 
--- ---- AbsentFile
+-- ---- AbsentFile and LongFile
 
--- a command's answer with AbsentFile is the line of a file that it fetches
-reads_absence : (told : Told) (words : List (List ℕ)) (old new : Option (List ℕ)) (command : Command) (text : List ℕ) → words ≡ words_of command → new ≡ appended old text
-    → AnswersCommand told command text AbsentFile → ReadsAbsence told words old new
-reads_absence told words old new (Assemble source) text is sent so = by_file (absent_file told source source_limit ListsSource text AbsentFile refl so)
+-- The command fetches a file that isn't read, and the text and the status say why.
+record IsUnreadBy (told : Told) (command : Command) (text : List ℕ) (status : Status) : Type 0 where
+  name : List ℕ
+  limit : ℕ
+  fetched : IsFetched told command name limit
+  unread : IsUnreadAsTold (told name) name limit text status
+
+-- an answer whose status no bytes give says why a file that the command fetches isn't read
+unread_by : (told : Told) (command : Command) (text : List ℕ) (status : Status) → (status ≡ BadSource → ⊥) → (status ≡ BadText → ⊥) → (status ≡ Done → ⊥)
+    → AnswersCommand told command text status → IsUnreadBy told command text status
+unread_by told (Assemble source) text status not_source not_text not_done so = record {
+  name = source;
+  limit = source_limit;
+  fetched = (refl, refl);
+  unread = unread_file told source source_limit ListsSource text status (λ bytes agrees short lists. no_source bytes text status not_source not_done lists) so;
+}
+unread_by told (Run source script) text status not_source not_text not_done so = by_file so.answers
   where
-    by_file : (Agrees (told source) None × (text ≡ absent_line source)) ⊎ ((bytes : List ℕ) × Agrees (told source) (Some bytes) × (length bytes ≤ source_limit) × ListsSource bytes text AbsentFile)
-        → ReadsAbsence told words old new
-    by_file (inl absent) = record {
-      command = Assemble source;
-      words_are = is;
-      name = source;
-      limit = source_limit;
-      fetched = (refl, refl);
-      agrees = absent.0;
-      sent = sent ∙ ap (appended old) absent.1;
-    }
-    by_file (inr read) = absurd (no_source read.0 text AbsentFile (λ other. absurd cc) (λ other. absurd cc) read.3)
-reads_absence told words old new (Run source script) text is sent so = by_file (absent_file told source source_limit (RunsSource told script) text AbsentFile refl so)
-  where
-    by_script : (image : List (Option ℕ)) → AgreesWithSource told source
-        → (Agrees (told script) None × (text ≡ absent_line script)) ⊎ ((bytes : List ℕ) × Agrees (told script) (Some bytes) × (length bytes ≤ script_limit) × PlaysScript image bytes text AbsentFile)
-        → ReadsAbsence told words old new
-    by_script image good (inl absent) = record {
-      command = Run source script;
-      words_are = is;
+    by_words : (bytes : List ℕ) → Agrees (told source) (Some bytes) → length bytes ≤ source_limit → RunsSource told script bytes text status → IsUnreadBy told (Run source script) text status
+    by_words bytes agrees short (inl bad) = absurd (not_source bad.status_is)
+    by_words bytes agrees short (inr runs) = record {
       name = script;
       limit = script_limit;
-      fetched = inr (good, refl, refl);
-      agrees = absent.0;
-      sent = sent ∙ ap (appended old) absent.1;
+      fetched = inr (record { bytes = bytes; agrees = agrees; short = short; defined = runs.defined; defines = runs.defines }, refl, refl);
+      unread = unread_file told script script_limit (PlaysScript runs.image) text status (λ others told_so within plays. no_script runs.image others text status not_text not_done plays) runs.answers;
     }
-    by_script image good (inr read) = absurd (no_script image read.0 text AbsentFile (λ other. absurd cc) (λ other. absurd cc) read.3)
 
-    by_bytes : (bytes : List ℕ) → Agrees (told source) (Some bytes) → length bytes ≤ source_limit → RunsSource told script bytes text AbsentFile → ReadsAbsence told words old new
-    by_bytes bytes agrees short (inl bad) = let other = bad.status_is in absurd cc
-    by_bytes bytes agrees short (inr runs) =
-        by_script runs.image (record { bytes = bytes; agrees = agrees; short = short; defined = runs.defined; defines = runs.defines })
-        (absent_file told script script_limit (PlaysScript runs.image) text AbsentFile refl runs.answers)
-
-    by_file : (Agrees (told source) None × (text ≡ absent_line source))
-        ⊎ ((bytes : List ℕ) × Agrees (told source) (Some bytes) × (length bytes ≤ source_limit) × RunsSource told script bytes text AbsentFile) → ReadsAbsence told words old new
-    by_file (inl absent) = record {
-      command = Run source script;
-      words_are = is;
+    by_file : IsUnread source source_limit so.file text status ⊎ AnswersRead source_limit (RunsSource told script) so.file text status → IsUnreadBy told (Run source script) text status
+    by_file (inl unread) = record {
       name = source;
       limit = source_limit;
       fetched = inl (refl, refl);
-      agrees = absent.0;
-      sent = sent ∙ ap (appended old) absent.1;
+      unread = record { file = so.file; agrees = so.agrees; unread = unread };
     }
-    by_file (inr read) = by_bytes read.0 read.1 read.2 read.3
+    by_file (inr read) =
+        let agrees : Agrees (told source) (Some read.bytes) = rw read.read.file_is at so.agrees in
+        by_words read.bytes agrees read.read.short read.answer
 
 -- what runs a source that the shelf tells of
 runs_told : (told : Told) (source script text : List ℕ) (status : Status) → TellsSource told source → AnswersCommand told (Run source script) text status → (bytes : List ℕ) × RunsWords told script bytes text status
 runs_told told source script text status good so =
     (good.bytes, runs_good told script good.bytes text status good.defined good.defines (read_answer told source source_limit (RunsSource told script) good.bytes text status good.told_is good.short so))
 
--- an absent file is answered so
-absent_refused : (told : Told) (command : Command) (name : List ℕ) (limit : ℕ) (text : List ℕ) (status : Status) → Fetches told command name limit → told name ≡ Some None → AnswersCommand told command text status
-    → status ≡ AbsentFile
-absent_refused told (Assemble source) name limit text status fetches is so = absent_answer told source source_limit ListsSource text status (rw fetches.0 at is) so
-absent_refused told (Run source script) name limit text status (inl fetches) is so = absent_answer told source source_limit (RunsSource told script) text status (rw fetches.0 at is) so
-absent_refused told (Run source script) name limit text status (inr fetches) is so =
+-- where each answer over a file that the command fetches has a status, the command's answer has it
+as_fetched : (told : Told) (command : Command) (name : List ℕ) (limit : ℕ) (text : List ℕ) (status wanted : Status) → Fetches told command name limit
+    → ((Answer : (bytes text : List ℕ) → Status → Type 0) → AnswersFile told name limit Answer text status → status ≡ wanted) → AnswersCommand told command text status → status ≡ wanted
+as_fetched told (Assemble source) name limit text status wanted fetches each so = each ListsSource (rw (fetches.0, fetches.1) so)
+as_fetched told (Run source script) name limit text status wanted (inl fetches) each so = each (RunsSource told script) (rw (fetches.0, fetches.1) so)
+as_fetched told (Run source script) name limit text status wanted (inr fetches) each so =
     let runs = runs_told told source script text status fetches.0 so in
-    absent_answer told script script_limit (PlaysScript runs.1.image) text status (rw fetches.1 at is) runs.1.answers
+    each (PlaysScript runs.1.image) (rw (fetches.1, fetches.2) runs.1.answers)
 
 pub absent_exactly : (told : Told) (words : List (List ℕ)) (old new : Option (List ℕ)) (result : Status) → Ends (IsAnswer told words) old new result → AbsentExactly told words old new result
 absent_exactly told words old new result ends = record {
   only = λ is. reads (answered_with (IsAnswer told words) old new result AbsentFile (λ so. so) ends is);
-  always = λ command name limit words_are fetches is.
-      command_ends told words old new result AbsentFile command words_are (λ text status so. absent_refused told command name limit text status fetches is so) ends;
+  always = λ command name limit words_are fetches is. command_ends told words old new result AbsentFile command words_are (λ text status so.
+      as_fetched told command name limit text status AbsentFile fetches (λ Answer file. absent_answer told name limit Answer text status is file) so) ends;
 }
   where
+    by_unread : (command : Command) (text : List ℕ) → words ≡ words_of command → new ≡ appended old text → (by : IsUnreadBy told command text AbsentFile)
+        → IsUnread by.name by.limit by.unread.file text AbsentFile → ReadsAbsence told words old new
+    by_unread command text is sent by (inl absent) = record {
+      command = command;
+      words_are = is;
+      name = by.name;
+      limit = by.limit;
+      fetched = by.fetched;
+      agrees = rw absent.file_is at by.unread.agrees;
+      sent = sent ∙ ap (appended old) absent.text_is;
+    }
+    by_unread command text is sent by (inr long) = let other = long.status_is in absurd cc
+
     by_answer : (text : List ℕ) → new ≡ appended old text → IsAnswer told words text AbsentFile → ReadsAbsence told words old new
     by_answer text sent (inl none) = let other = none.status_is in absurd cc
-    by_answer text sent (inr answer) = reads_absence told words old new answer.command text answer.words_are sent answer.answers
+    by_answer text sent (inr answer) =
+        let by = unread_by told answer.command text AbsentFile (λ other. absurd cc) (λ other. absurd cc) (λ other. absurd cc) answer.answers in
+        by_unread answer.command text answer.words_are sent by by.unread.unread
 
     reads : Answered (IsAnswer told words) old new AbsentFile → ReadsAbsence told words old new
     reads so = by_answer so.text so.sent so.answer
 
--- ---- LongFile
-
--- a command's answer with LongFile is the line of a file that it fetches
-reads_long : (told : Told) (words : List (List ℕ)) (old new : Option (List ℕ)) (command : Command) (text : List ℕ) → words ≡ words_of command → new ≡ appended old text
-    → AnswersCommand told command text LongFile → ReadsLong told words old new
-reads_long told words old new (Assemble source) text is sent so = by_file (long_file told source source_limit ListsSource text LongFile refl so)
-  where
-    by_file : ((bytes : List ℕ) × Agrees (told source) (Some bytes) × (source_limit < length bytes) × (text ≡ long_line source source_limit)) ⊎ ((bytes : List ℕ) × Agrees (told source) (Some bytes) × (length bytes ≤ source_limit) × ListsSource bytes text LongFile)
-        → ReadsLong told words old new
-    by_file (inl long) = record {
-      command = Assemble source;
-      words_are = is;
-      name = source;
-      limit = source_limit;
-      fetched = (refl, refl);
-      bytes = long.0;
-      agrees = long.1;
-      long = long.2;
-      sent = sent ∙ ap (appended old) long.3;
-    }
-    by_file (inr read) = absurd (no_source read.0 text LongFile (λ other. absurd cc) (λ other. absurd cc) read.3)
-reads_long told words old new (Run source script) text is sent so = by_file (long_file told source source_limit (RunsSource told script) text LongFile refl so)
-  where
-    by_script : (image : List (Option ℕ)) → AgreesWithSource told source
-        → ((bytes : List ℕ) × Agrees (told script) (Some bytes) × (script_limit < length bytes) × (text ≡ long_line script script_limit)) ⊎ ((bytes : List ℕ) × Agrees (told script) (Some bytes) × (length bytes ≤ script_limit) × PlaysScript image bytes text LongFile)
-        → ReadsLong told words old new
-    by_script image good (inl long) = record {
-      command = Run source script;
-      words_are = is;
-      name = script;
-      limit = script_limit;
-      fetched = inr (good, refl, refl);
-      bytes = long.0;
-      agrees = long.1;
-      long = long.2;
-      sent = sent ∙ ap (appended old) long.3;
-    }
-    by_script image good (inr read) = absurd (no_script image read.0 text LongFile (λ other. absurd cc) (λ other. absurd cc) read.3)
-
-    by_bytes : (bytes : List ℕ) → Agrees (told source) (Some bytes) → length bytes ≤ source_limit → RunsSource told script bytes text LongFile → ReadsLong told words old new
-    by_bytes bytes agrees short (inl bad) = let other = bad.status_is in absurd cc
-    by_bytes bytes agrees short (inr runs) =
-        by_script runs.image (record { bytes = bytes; agrees = agrees; short = short; defined = runs.defined; defines = runs.defines })
-        (long_file told script script_limit (PlaysScript runs.image) text LongFile refl runs.answers)
-
-    by_file : ((bytes : List ℕ) × Agrees (told source) (Some bytes) × (source_limit < length bytes) × (text ≡ long_line source source_limit))
-        ⊎ ((bytes : List ℕ) × Agrees (told source) (Some bytes) × (length bytes ≤ source_limit) × RunsSource told script bytes text LongFile) → ReadsLong told words old new
-    by_file (inl long) = record {
-      command = Run source script;
-      words_are = is;
-      name = source;
-      limit = source_limit;
-      fetched = inl (refl, refl);
-      bytes = long.0;
-      agrees = long.1;
-      long = long.2;
-      sent = sent ∙ ap (appended old) long.3;
-    }
-    by_file (inr read) = by_bytes read.0 read.1 read.2 read.3
-
--- a file that is too long is answered so
-long_refused : (told : Told) (command : Command) (name : List ℕ) (limit : ℕ) (bytes text : List ℕ) (status : Status) → Fetches told command name limit → told name ≡ Some (Some bytes) → limit < length bytes
-    → AnswersCommand told command text status → status ≡ LongFile
-long_refused told (Assemble source) name limit bytes text status fetches is long so =
-    long_answer told source source_limit ListsSource bytes text status (rw fetches.0 at is) (rw fetches.1 at long) so
-long_refused told (Run source script) name limit bytes text status (inl fetches) is long so =
-    long_answer told source source_limit (RunsSource told script) bytes text status (rw fetches.0 at is) (rw fetches.1 at long) so
-long_refused told (Run source script) name limit bytes text status (inr fetches) is long so =
-    let runs = runs_told told source script text status fetches.0 so in
-    long_answer told script script_limit (PlaysScript runs.1.image) bytes text status (rw fetches.1 at is) (rw fetches.2 at long) runs.1.answers
-
 pub long_exactly : (told : Told) (words : List (List ℕ)) (old new : Option (List ℕ)) (result : Status) → Ends (IsAnswer told words) old new result → LongExactly told words old new result
 long_exactly told words old new result ends = record {
   only = λ is. reads (answered_with (IsAnswer told words) old new result LongFile (λ so. so) ends is);
-  always = λ command name limit bytes words_are fetches is long.
-      command_ends told words old new result LongFile command words_are (λ text status so. long_refused told command name limit bytes text status fetches is long so) ends;
+  always = λ command name limit bytes words_are fetches is long. command_ends told words old new result LongFile command words_are (λ text status so.
+      as_fetched told command name limit text status LongFile fetches (λ Answer file. long_answer told name limit Answer bytes text status is long file) so) ends;
 }
   where
+    by_unread : (command : Command) (text : List ℕ) → words ≡ words_of command → new ≡ appended old text → (by : IsUnreadBy told command text LongFile)
+        → IsUnread by.name by.limit by.unread.file text LongFile → ReadsLong told words old new
+    by_unread command text is sent by (inl absent) = let other = absent.status_is in absurd cc
+    by_unread command text is sent by (inr long) = record {
+      command = command;
+      words_are = is;
+      name = by.name;
+      limit = by.limit;
+      fetched = by.fetched;
+      bytes = long.bytes;
+      agrees = rw long.file_is at by.unread.agrees;
+      long = long.long;
+      sent = sent ∙ ap (appended old) long.text_is;
+    }
+
     by_answer : (text : List ℕ) → new ≡ appended old text → IsAnswer told words text LongFile → ReadsLong told words old new
     by_answer text sent (inl none) = let other = none.status_is in absurd cc
-    by_answer text sent (inr answer) = reads_long told words old new answer.command text answer.words_are sent answer.answers
+    by_answer text sent (inr answer) =
+        let by = unread_by told answer.command text LongFile (λ other. absurd cc) (λ other. absurd cc) (λ other. absurd cc) answer.answers in
+        by_unread answer.command text answer.words_are sent by by.unread.unread
 
     reads : Answered (IsAnswer told words) old new LongFile → ReadsLong told words old new
     reads so = by_answer so.text so.sent so.answer
@@ -397,12 +344,7 @@ plays_what_is_defined told words old new result ends source script source_known 
         defines = rw source_same at runs.defines;
         image = runs.image;
         image_is = runs.image_is;
-        commands = played.commands;
-        is_script = rw same at played.script;
-        events = played.events;
-        moments = played.moments;
-        run = played.run;
-        plays = played.plays;
+        play = rw same at played.play;
       },
       sent ∙ rw old_is refl,
     )

@@ -50,15 +50,20 @@ pub record IsBadScript (bytes text : List ℕ) (status : Status) : Type 0 where
   pub text_is : text ≡ script_fault_line (At line kind)
   pub status_is : status ≡ BadText
 
--- The bytes are a script without a fault, and the text is what its play shows along one run of the standard machine, which
--- begins with the image in its cells and with its first order at 4000 octal.
-pub record IsPlayed (image : List (Option ℕ)) (bytes text : List ℕ) (status : Status) : Type 0 where
+-- The script is one without a fault, and the text is its play on the standard machine, which begins with the image in its
+-- cells and with its first order at 4000 octal: from that state the script's commands make one list of events, which is one
+-- run, and show that text along it.
+pub record IsPlayOn (image : List (Option ℕ)) (script text : List ℕ) : Type 0 where
   pub commands : List Plain
-  pub script : IsScript standard_machine bytes commands
+  pub is_script : IsScript standard_machine script commands
   pub events : List Event
   pub moments : List Moment
   pub run : Run standard_machine (start_state standard_machine image 0o4000) events moments
   pub plays : Plays standard_machine (start_state standard_machine image 0o4000) commands events text
+
+-- The bytes are a script without a fault, and the text is its play on the image.
+pub record IsPlayed (image : List (Option ℕ)) (bytes text : List ℕ) (status : Status) : Type 0 where
+  pub play : IsPlayOn image bytes text
   pub status_is : status ≡ Done
 
 -- the text and the status answer the play of a script of these bytes

@@ -4,18 +4,14 @@ use Rattle.ags_outside.specs.Sink.{appended, WroteFront}
 use Rattle.ags_asm.specs.declared.source_error.SourceError.{SourceError}
 use Rattle.ags_asm.specs.Source.{Defines, IsFaulty}
 use Rattle.ags_image.specs.Image.{IsImageOf}
-use Rattle.ags_ports.specs.declared.events.Event.{Event}
 use Rattle.ags_ports.specs.Machine.{standard_machine}
-use Rattle.ags_ports.specs.Run.{Moment, Run}
-use Rattle.ags_core.specs.Core.{start_state}
 use Rattle.ags_run.specs.declared.plain.Plain.{Plain}
 use Rattle.ags_run.specs.declared.script_error.ScriptKind.{ScriptKind}
 use Rattle.ags_run.specs.declared.script_error.ScriptError.TheVariants.{At}
 use Rattle.ags_run.specs.Script.{IsScript, IsFaultyScript}
-use Rattle.ags_run.specs.Played.{Plays}
 use Rattle.ags_top.specs.declared.status.Status.{Status}
 use Rattle.ags_top.specs.declared.status.Status.TheVariants.{Done, BadSource, BadWords, AbsentFile, ReadFault, WriteFault, BadText, LongFile, NoMemory}
-use Rattle.ags_top.specs.Answer.{TellsSource, Fetches, IsFetched}
+use Rattle.ags_top.specs.Answer.{TellsSource, Fetches, IsFetched, IsPlayOn}
 use Rattle.ags_top.specs.Command as command
 use Rattle.ags_top.specs.Command.{Command, Assemble, words_of, source_of, AreNoForm}
 use Rattle.ags_top.specs.File.{Told, Agrees}
@@ -167,19 +163,13 @@ abbrev pub ListsWhatIsDefined : (told : Told) (words : List (List ℕ)) (old new
 ListsWhatIsDefined told words old new result = (name bytes held : List ℕ) → result ≡ Done → words ≡ words_of (Assemble name) → told name ≡ Some (Some bytes)
     → old ≡ Some held → (defined : List (Option (ℕ × ℕ))) × Defines bytes defined × (new ≡ Some (held ++ listing bytes defined))
 
--- The source defines words and the script has commands. From the state in which the standard machine begins with the
--- image of these words, the commands make one list of events, which is one run of it, and show that text along it.
+-- The source defines words, and the text is the play of the script on the image of these words.
 pub record IsPlayOf (source script text : List ℕ) : Type 0 where
   pub defined : List (Option (ℕ × ℕ))
   pub defines : Defines source defined
   pub image : List (Option ℕ)
   pub image_is : IsImageOf defined image
-  pub commands : List Plain
-  pub is_script : IsScript standard_machine script commands
-  pub events : List Event
-  pub moments : List Moment
-  pub run : Run standard_machine (start_state standard_machine image 0o4000) events moments
-  pub plays : Plays standard_machine (start_state standard_machine image 0o4000) commands events text
+  pub play : IsPlayOn image script text
 
 -- Where the run is done, and the shelf and the sink tell, the sink took exactly what the script's play prints on the
 -- words that the source defines.
