@@ -1,7 +1,8 @@
 -- A word that is made of a code, an index bit and an address gives each of them back. The crates above cite:
 --     names-one        a word names one order, one index bit and one address
 --     word_of-below    the word of an order is below 2 ^ 18
-use Rattle.std.proofs.Common.{◌≡◌, ℕ, ◌+◌, ◌*◌, ◌/◌, ◌%◌, ◌^◌, ◌∙◌, sym, ◌<◌, Bool, true, false, List, if◌then◌else◌, refl, arith}
+use Rattle.std.proofs.Common.{◌≡◌, ℕ, ◌+◌, ◌*◌, ◌/◌, ◌%◌, ◌^◌, ◌∙◌, sym, ◌<◌, Bool, true, false, List, if◌then◌else◌, refl, ⊎_elim, arith}
+use Rattle.std.proofs.lemmas.Bool.{cases_lt}
 use Rattle.ags_isa.specs.declared.orders.Order.{Order}
 use Rattle.ags_isa.specs.Code.{AreCodes, code_of}
 use Rattle.ags_isa.specs.Naming.{index_bit, word_of, Names}
@@ -46,6 +47,22 @@ pub four_digits : (table : List ℕ) (word : ℕ) (order : Order) (indexed : Boo
 unfolding word_of
 four_digits table word order true address names = omega (arith, names.below, names.equals)
 four_digits table word order false address names = omega (arith, names.below, names.equals)
+
+-- a word over 2 ^ 13 is the code
+pub code_over : (table : List ℕ) (word : ℕ) (order : Order) (indexed : Bool) (address : ℕ) → Names table word order indexed address
+    → word / 2 ^ 13 ≡ code_of table order
+unfolding word_of
+code_over table word order true address names = omega (arith, names.below, names.equals)
+code_over table word order false address names = omega (arith, names.below, names.equals)
+
+-- and a word with the code of an order names it
+pub code_names : (table : List ℕ) (word : ℕ) (order : Order) → word / 2 ^ 13 ≡ code_of table order
+    → (indexed : Bool) × Names table word order indexed (word % 2 ^ 12)
+unfolding word_of
+code_names table word order code = ⊎_elim
+    (λ clear. (false, record { below = omega arith; equals = omega arith }))
+    (λ set. (true, record { below = omega arith; equals = omega arith }))
+    (cases_lt (word % 2 ^ 13) (2 ^ 12))
 
 -- equal words are words of one order, one index bit and one address
 pub words-one : (table : List ℕ) → AreCodes table → (order other : Order) (indexed other_indexed : Bool)

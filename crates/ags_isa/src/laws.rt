@@ -79,3 +79,12 @@ pub fn digits_are_code_index_and_address()
     ensures address { (table : List ℕ) (word : ℕ) (order : Order) (indexed : Bool) (address : ℕ)
         → Names table word order indexed address → word % 2 ^ 12 ≡ address }
 {}
+
+/// A word names an order exactly where the word over 2^13 is the order's code; so it names none only where no order has
+/// its code.
+pub fn code_of_a_word_names_its_order()
+    ensures code { (table : List ℕ) (word : ℕ) (order : Order) (indexed : Bool) (address : ℕ)
+        → Names table word order indexed address → word / 2 ^ 13 ≡ code_of table order }
+    ensures named { (table : List ℕ) (word : ℕ) (order : Order) → word / 2 ^ 13 ≡ code_of table order
+        → (indexed : Bool) × Names table word order indexed (word % 2 ^ 12) }
+{}

@@ -1,8 +1,8 @@
 -- What stands in a line is what is cut from it, and back.
 --
 -- The lemmas that the crates above may cite, each of them behind a clause of `field_laws.rt`: standing_cut and
--- standing_behind, cut_standing and cut_behind, blanks_none and none_blank, first_byte and no_blank_text, number_field
--- and writes_field.
+-- standing_behind, cut_standing and cut_behind, blanks_none, blanks_end and none_blank, first_byte and no_blank_text,
+-- number_field and writes_field.
 use Rattle.std.proofs.Common.{◌≡◌, ℕ, ◌<◌, ◌≤◌, Bool, true, false, eqb, not, List, [], ◌∷◌, ◌++◌, length, take, get_or, refl, sym, ap, inl, inr, ◌∙◌, one-add, arith}
 use Rattle.std.specs.Prelude.{nat_lt}
 use Rattle.std.specs.Char.{digit_value}
@@ -82,12 +82,16 @@ field_parts text =
     let word = word_parts (behind_blanks text) in
     (parts.0, parts.2, parts.1 ∙ ap (λ (rest : List ℕ). parts.0 ++ rest) word.0, word.1, word.2)
 
--- blanks have no field
-pub blanks_none : (text : List ℕ) → AreBlanks text → (next_field text ≡ []) × AreBlanks (behind_field text)
+-- blanks have no field, and nothing behind it
+pub blanks_end : (text : List ℕ) → AreBlanks text → (next_field text ≡ []) × (behind_field text ≡ [])
 unfolding next_field behind_field word_of behind_word
-blanks_none text are =
+blanks_end text are =
     let skip : behind_blanks text ≡ [] = sym (ap behind_blanks (append-nil text)) ∙ blanks_cut text [] are refl in
     (rw (skip) refl, rw (skip) refl)
+
+-- so that what stands behind it are blanks
+pub blanks_none : (text : List ℕ) → AreBlanks text → (next_field text ≡ []) × AreBlanks (behind_field text)
+blanks_none text are = let end = blanks_end text are in (end.0, rw (end.1) refl)
 
 -- a text that does not begin with a blank and has no word is empty
 empty_word : (text : List ℕ) → first_passes is_blank text ≡ false → word_of text ≡ [] → text ≡ []

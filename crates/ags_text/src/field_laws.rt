@@ -19,9 +19,9 @@ pub fn cut_fields_stand()
         → HasNoBlank (word_of line) × (line ≡ word_of line ++ behind_word line) × Behind fields (behind_word line) }
 {}
 
-/// Blanks are what has no field, and nothing but blanks stands behind it.
+/// Blanks are what has no field, and nothing stands behind it.
 pub fn blanks_have_no_field()
-    ensures none { (text : List ℕ) → AreBlanks text → (next_field text ≡ []) × AreBlanks (behind_field text) }
+    ensures none { (text : List ℕ) → AreBlanks text → (next_field text ≡ []) × (behind_field text ≡ []) }
     ensures blanks { (text : List ℕ) → next_field text ≡ [] → AreBlanks text }
 {}
 

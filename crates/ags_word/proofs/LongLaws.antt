@@ -10,20 +10,22 @@
 -- For a whole number n:
 --     pair_a_below, pair_q_below        the pair that it sets is two words
 --     long-pair                         a number in range is the number of the pair that it sets
---     shifted_right-floor               a right shift rounds down
+--     shifted_right-floor, floor_one    a right shift rounds down, and there is one number that is a quotient rounded down
 --     shifted_right-add                 a right shift by j and then by k is one by j + k
 --     fits_long-shifted_right           a right shift stays in range
 --     fits_long-wrap_long, wrap_long-fits, IsCongruent-wrap_long    the number left of n is in range, is n where n is, and is congruent to n modulo 2 ^ 35
+--     wrap_long_same                    congruent numbers leave one number
 --     fits_long_in, fits_long_least, fits_long_most, fits_long_not    what `fits_long` says, both ways
 use Rattle.std.proofs.Common.{◌≡◌, ◌≢◌, ℕ, zero, suc, ◌+◌, ◌-◌, ◌*◌, ◌/◌, ◌%◌, ◌<◌, ◌≤◌, ◌^◌, Bool, true, false, refl, sym, ap, subst, ◌∙◌, ⊎_elim, ◌⊎◌, arith, ℤ, pos, negsuc, ◌+ℤ◌, ◌-ℤ◌, ◌*ℤ◌, ◌≤ℤ◌, ◌<ℤ◌}
 use Rattle.std.specs.Prelude.{neg_ℤ, unsigned_abs, int_div, int_rem, Option, Some, None}
-use Rattle.std.specs.Int.{int_rem_euclid}
-use Rattle.std.proofs.lemmas.Int.{ints, unsigned_abs-mul, quot-rem, rem_below}
+use Rattle.std.specs.Int.{int_rem_euclid, int_div_euclid}
+use Rattle.std.proofs.lemmas.Int.{ints, int_rem_euclid_is, unsigned_abs-mul, quot-rem, rem_below}
 use Rattle.std.proofs.Math.Nat.{div-eq_of_lt-le, add-mul}
 use Rattle.std.proofs.Math.IntN.{pos-*ℤ-pos, pos-*ℤ-negsuc, negsuc-*ℤ-pos, negsuc-*ℤ-negsuc}
 use Rattle.std.proofs.lemmas.Nat.{shr-shr, shr_le, shr_split, mod_below, pow_pos, mul-le, div-add-mod'}
 use Rattle.std.proofs.lemmas.Bool.Decides.{nat_tests}
 use Rattle.std.proofs.lemmas.Bool.{cases_lt}
+use borrow.Author.Differences.{up, down}
 use Rattle.ags_word.specs.Word.{val, fits, wrap, word_of, IsCongruent}
 use Rattle.ags_word.specs.Long.{long, pair, fits_long, wrap_long, divided, shifted_right, top_bit, IsFloor, IsCutOff}
 use Rattle.ags_word.proofs.WordLaws.{val_least, val_most, val-low, val-high, within_in, within_least, within_most, within_not, fits_in, wrap_below, wrap-val, val-wrap}
@@ -155,6 +157,21 @@ IsCongruent-wrap_long n =
     (λ e. record { times = near.times +ℤ negsuc 0; differ = e ∙ omega (arith, ints) })
     (wrap_long_cases n)
 
+-- the rest of n modulo 2 ^ 35 is m's, where m is n and some times 2 ^ 35
+long_rest_is : (n : ℤ) (times m : ℕ) → n +ℤ pos (times * 2 ^ 35) ≡ pos m → int_rem_euclid n (pos (2 ^ 35)) ≡ pos (m % 2 ^ 35)
+long_rest_is n times m e = int_rem_euclid_is n (pos (2 ^ 35)) (2 ^ 35) times m (omega arith) refl e
+
+long_rest_same : (m n : ℤ) → IsCongruent (2 ^ 35) m n → int_rem_euclid m (pos (2 ^ 35)) ≡ int_rem_euclid n (pos (2 ^ 35))
+long_rest_same m n h =
+    let k = h.times in
+    let enough = down m + down n in
+    let all = up m + (down k + enough) * 2 ^ 35 - down m in
+    long_rest_is m (down k + enough) all (omega (arith, ints)) ∙ sym (long_rest_is n (up k + enough) all (omega (arith, ints)))
+
+pub wrap_long_same : (m n : ℤ) → IsCongruent (2 ^ 35) m n → wrap_long m ≡ wrap_long n
+unfolding wrap_long
+wrap_long_same m n h = rw (long_rest_same m n h) refl
+
 -- ---- products
 
 -- two sizes of at most 2 ^ 17 whose product is 2 ^ 34 are 2 ^ 17
@@ -247,6 +264,29 @@ IsCutOff-divided n m w e =
 -- a number that is a times d, where that isn't more, and less than d is left, has a as its quotient
 quotient_is : (n a d rest : ℕ) → a * d ≤ n → n ≤ a * d + rest → rest < d → n / d ≡ a
 quotient_is n a d rest least most below = div-eq_of_lt-le d least (omega (arith, add-mul a 1 d))
+
+-- a number and a rest make a whole one, and so the quotient of that is the number
+floor_of_pos : (n a d rest : ℕ) → rest < d → a * d + rest ≡ n → a ≡ n / d
+floor_of_pos n a d rest below whole = sym (quotient_is n a d rest (omega arith) (omega arith) below)
+
+-- and so below 0, where n stands for -(n + 1) and a for -(a + 1)
+floor_of_negative : (n a d rest : ℕ) → rest < d → (a + 1) * d ≡ n + 1 + rest → a ≡ n / d
+floor_of_negative n a d rest below whole =
+    let more = add-mul a 1 d in
+    sym (quotient_is n a d (d - 1 - rest) (omega arith) (omega arith) (omega arith))
+
+-- a quotient that is rounded down is the one that is computed
+floor_is : (n quotient : ℤ) (d : ℕ) → IsFloor n d quotient → quotient ≡ int_div_euclid n (pos d)
+floor_is (pos n) (pos a) d floor = let whole = floor.whole in ap pos (floor_of_pos n a d floor.rest floor.below (omega (arith, ints)))
+floor_is (pos n) (negsuc a) d floor =
+    let whole = floor.whole in
+    let below = floor.below in
+    absurd (omega (arith, ints, mul-le 1 d (suc a) d (omega arith) (omega arith)))
+floor_is (negsuc n) (pos a) d floor = let whole = floor.whole in absurd (omega (arith, ints))
+floor_is (negsuc n) (negsuc a) d floor = let whole = floor.whole in ap negsuc (floor_of_negative n a d floor.rest floor.below (omega (arith, ints)))
+
+pub floor_one : (n one other : ℤ) (d : ℕ) → IsFloor n d one → IsFloor n d other → one ≡ other
+floor_one n one other d first second = floor_is n one d first ∙ sym (floor_is n other d second)
 
 -- the size of a sum is at most the sum of the sizes
 size_sum : (m n : ℤ) → unsigned_abs (m +ℤ n) ≤ unsigned_abs m + unsigned_abs n

@@ -80,18 +80,22 @@ pub fn number_gives_pair_back()
     ensures { (a q : ℕ) → a < 2 ^ 18 → pair (long a q) ≡ (a, top_bit a + q % 2 ^ 17) }
 {}
 
-/// A right shift rounds down and stays in range, and two of them are one by the sum of their counts.
+/// A right shift rounds down, and no other number is the quotient rounded down; it stays in range, and two of them are
+/// one by the sum of their counts.
 pub fn right_shifts_add_up()
     ensures floor { (n : ℤ) (k : ℕ) → IsFloor n (2 ^ k) (shifted_right n k) }
+    ensures one { (n one other : ℤ) (divisor : ℕ) → IsFloor n divisor one → IsFloor n divisor other → one ≡ other }
     ensures range { (n : ℤ) (k : ℕ) → fits_long n ≡ true → fits_long (shifted_right n k) ≡ true }
     ensures add { (n : ℤ) (j k : ℕ) → shifted_right (shifted_right n j) k ≡ shifted_right n (j + k) }
 {}
 
-/// What is left of a number in a pair is in range, is the number where that is, and is congruent to it modulo 2^35.
+/// What is left of a number in a pair is in range, is the number where that is, and is congruent to it modulo 2^35; and of
+/// congruent numbers the same is left, so that no other number in range is congruent to it.
 pub fn long_wrapping_keeps_congruence()
     ensures range { (n : ℤ) → fits_long (wrap_long n) ≡ true }
     ensures kept { (n : ℤ) → fits_long n ≡ true → wrap_long n ≡ n }
     ensures congruent { (n : ℤ) → IsCongruent (2 ^ 35) (wrap_long n) n }
+    ensures one { (m n : ℤ) → IsCongruent (2 ^ 35) m n → wrap_long m ≡ wrap_long n }
 {}
 
 /// The negative and the absolute value of a word fit but for the least word, 2^17.
