@@ -4,7 +4,8 @@
 
 ghost use Rattle.std.specs.Prelude.{◌≡◌, ◌≢◌, ℕ, ◌/◌, ◌%◌, ◌^◌, ◌<◌, ◌≤◌, ◌⊎◌, ◌↔◌, Bool, true, false, All, List, ◌++◌, length, slice_index_or, Some, None};
 ghost use Rattle.ags_isa.specs.declared.orders.Order.{Order};
-ghost use Rattle.ags_isa.specs.declared.orders.Order.TheVariants.{Add, Adz, Cla, Clz, Dly, Mpr, Mpz, Sub, Suz, Tov};
+ghost use Rattle.ags_isa.specs.declared.orders.Order.TheVariants.{Add, Adz, Cla, Clz, Dly, Mpr, Mpz, Sub, Suz, Tov, Tra, Tsq};
+ghost use Rattle.ags_isa.specs.Naming.{Names};
 ghost use Rattle.ags_ports.specs.declared.events.Phase.TheVariants.{Running, Waiting, Halted};
 ghost use Rattle.ags_ports.specs.declared.events.Event.{Event};
 ghost use Rattle.ags_ports.specs.declared.events.Event.TheVariants.{Step, Pulse};
@@ -13,7 +14,7 @@ ghost use Rattle.ags_ports.specs.declared.registers.Port.{Port};
 ghost use Rattle.ags_ports.specs.Port.{AreRegisters, place_of};
 ghost use Rattle.ags_ports.specs.Time.{AreTimes, time_of, standard_time, standard_times};
 ghost use Rattle.ags_ports.specs.Machine.{IsMachine, standard_machine};
-ghost use Rattle.ags_ports.specs.State.{State, IsState, cell, word_here};
+ghost use Rattle.ags_ports.specs.State.{State, IsState, cell, next_location, word_here};
 ghost use Rattle.ags_ports.specs.Change.{stored_in, taken_from, given_to};
 ghost use Rattle.ags_ports.specs.Effect.{counts_index, effective, effect, then_clears};
 ghost use Rattle.ags_ports.specs.Step.{IsEvent, Steps, Reads, NamesNone, ChangesInputsAlone, idle};
@@ -148,6 +149,12 @@ pub fn clearing_order_is_plain_order_and_cleared_cell()
     ensures adz { (machine : Machine) (s : State) (e y : ℕ) → effect machine s Adz e y ≡ then_clears (effect machine s Add e y) e }
     ensures suz { (machine : Machine) (s : State) (e y : ℕ) → effect machine s Suz e y ≡ then_clears (effect machine s Sub e y) e }
     ensures mpz { (machine : Machine) (s : State) (e y : ℕ) → effect machine s Mpz e y ≡ then_clears (effect machine s Mpr e y) e }
+{}
+
+/// TSQ leaves in Q an order that goes back: TRA, with the index bit clear, to the location after it.
+pub fn tsq_leaves_an_order_that_goes_back()
+    ensures { (machine : Machine) (s : State) (e y : ℕ)
+        → Names machine.codes ((effect machine s Tsq e y).after.q) Tra false (next_location s) }
 {}
 
 /// From each state, each list of events has one run, and it keeps a state.
