@@ -2,7 +2,7 @@
 
 ghost use Rattle.std.specs.Prelude.{◌≡◌, ◌<◌, IfSome, length};
 ghost use Rattle.ags_isa.specs.declared.orders.Order.TheVariants.{Inp, Out};
-ghost use Rattle.ags_ports.specs.Port.{place_of, read_at, set_at, word_at};
+ghost use Rattle.ags_ports.specs.Port.{place_of, read_at, register_at, set_at};
 ghost use Rattle.ags_ports.specs.Effect.{effect};
 ghost use Rattle.ags_core.specs.Told.{Does};
 
@@ -18,7 +18,7 @@ impl Core {
         ensures { Does (effect machine.now self.old Inp y y) self.new result }
     {
         let place = machine.ports.find_input(y);
-        self.a = self.word_at(place);
+        self.a = self.register_at(place);
         self.read(machine, place);
         self.move_on();
         Told {
@@ -44,9 +44,9 @@ impl Core {
     }
 
     /// The word of the input register at a place, and 0 where there is none.
-    fn word_at(&self, place: Option<usize>) -> Word
+    fn register_at(&self, place: Option<usize>) -> Word
         requires { IfSome place (λ place. place < length self.now.inputs) }
-        ensures { result ≡ word_at self.now.inputs place }
+        ensures { result ≡ register_at self.now.inputs place }
     {
         match place {
             Some(place) => self.inputs[place],

@@ -1,7 +1,13 @@
 -- A table of codes tells its orders apart. The crates above cite:
 --     standard_are_codes    the standard codes are a table
-use Rattle.std.proofs.Common.{◌≡◌, ◌≢◌, ◌↔◌, ℕ, suc, take, drop, ◌≤◌, ◌-◌, ◌+◌, ◌*◌, ap, sym, ◌∙◌, ◌<◌, ◌==◌, ltb, Bool, true, not, ◌&&◌, List, [], ◌∷◌, length, All, AllPairs, get_or, refl, rules, arith}
-use Rattle.std.specs.List.{list_all}
+use Rattle.std.proofs.Common.{◌≡◌, ◌≢◌, ◌↔◌, ◌⊎◌, ⊎_elim, inl, inr, ℕ, zero, suc, zero-add, take, drop, set, subst, ◌≤◌, ◌-◌, ◌+◌, ◌*◌, ap, sym, ◌∙◌, ◌<◌, ◌==◌, ltb, Bool, true, false, not, ◌&&◌, List, [], ◌∷◌, length, All, AllPairs, get_or, refl, rules, arith}
+use Rattle.std.specs.List.{list_all, find}
+use Rattle.std.specs.Prelude.{Option, Some, None, IfSome}
+use Rattle.std.proofs.lemmas.Bool.{cases_lt}
+use Rattle.std.proofs.lemmas.Grind.{get_or-set_at}
+use Rattle.std.proofs.lemmas.List.{ext_get_or, get_or-set_other}
+use Rattle.std.proofs.lemmas.List.FromFn.{get_or-map-range_with_len, length-map-range_with_len}
+use mathlib.Core.Bool.{cond}
 use Rattle.std.proofs.lemmas.Grind.{common_steps}
 use Rattle.std.proofs.lemmas.Bool.{ltb-true}
 use Rattle.std.proofs.lemmas.Bool.Decides.{Decides-eqb}
@@ -9,7 +15,7 @@ use Rattle.std.proofs.lemmas.List.Sums.{AllPass-from_list_all}
 use Rattle.std.proofs.lemmas.List.Kept.{AllPairs-cons}
 use Rattle.ags_isa.specs.declared.orders.Order.{Order}
 use Rattle.ags_isa.specs.Order.{order_number, all_orders}
-use Rattle.ags_isa.specs.Code.{AreCodes, code_of, standard_codes, standard_digits, unused_digits}
+use Rattle.ags_isa.specs.Code.{AreCodes, code_of, order_of, orders_of, standard_codes, standard_digits, unused_digits}
 use Rattle.ags_isa.proofs.OrderLemmas.{order_at_number, order_number-below, order_number-injective, each_order}
 
 -- places with one code are one place
@@ -75,15 +81,89 @@ standard_are_codes = record {
   distinct = differ-distinct standard_codes refl;
 }
 
--- one order further in the search for a code
-pub others_after : (table : List ℕ) (code number : ℕ) (default : Order)
-    → ((order : Order) → order_number order < number → code_of table order ≢ code)
-    → code_of table (get_or all_orders number default) ≢ code
-    → (order : Order) → order_number order < number + 1 → code_of table order ≢ code
-others_after table code number default earlier this order before same =
-    let not_sooner : order_number order < number → ⊥ = λ sooner. earlier order sooner same in
-    let last : order_number order ≡ number = omega (arith, not_sooner, before) in
-    this (ap (code_of table) (ap (λ place. get_or all_orders place default) (sym last) ∙ order_at_number order default) ∙ same)
+-- ---- the orders by their codes
+
+-- what is found has what the test tells
+found_here : (p : Order → Bool) (P : Order → Type 0) (order : Order) (later : Option Order) (b : Bool) → p order ≡ b → (p order ≡ true → P order)
+    → IfSome later P → IfSome (cond b (Some order) later) P
+found_here p P order later true is tells others = tells is
+found_here p P order later false is tells others = others
+
+find_tells : (p : Order → Bool) (P : Order → Type 0) → ((order : Order) → p order ≡ true → P order) → (orders : List Order) → IfSome (find p orders) P
+find_tells p P tells [] = tt
+find_tells p P tells (order ∷ orders) = found_here p P order (find p orders) (p order) refl (tells order) (find_tells p P tells orders)
+
+true_false : true ≡ false → ⊥
+true_false h = cc
+
+found_none : (b : Bool) (order : Order) (later : Option Order) → cond b (Some order) later ≡ None → (b ≡ false) × (later ≡ None)
+found_none true order later none = absurd (let h : Some order ≡ None = none in cc)
+found_none false order later none = (refl, none)
+
+-- where nothing is found, the test fails at each place
+find_fails : (p : Order → Bool) (orders : List Order) (place : ℕ) (default : Order) → place < length orders → p (get_or orders place default) ≡ true
+    → find p orders ≡ None → ⊥
+find_fails p [] place default within passes none = omega (arith, within)
+find_fails p (order ∷ orders) zero default within passes none = true_false (sym passes ∙ (found_none (p order) order (find p orders) none).0)
+find_fails p (order ∷ orders) (suc place) default within passes none =
+    find_fails p orders place default (omega (arith, within)) passes (found_none (p order) order (find p orders) none).1
+
+some_or_none : (r : Option Order) → (r ≡ None) ⊎ ((order : Order) × (r ≡ Some order))
+some_or_none None = inl refl
+some_or_none (Some order) = inr (order, refl)
+
+code_found : (table : List ℕ) (code : ℕ) → IfSome (order_of table code) (λ order. code_of table order ≡ code)
+unfolding order_of
+code_found table code = find_tells (λ order. code_of table order == code) (λ order. code_of table order ≡ code) (λ order test. (Decides-eqb _ _).0 test) all_orders
+
+code_missed : (table : List ℕ) (code : ℕ) (order : Order) → code_of table order ≡ code → order_of table code ≡ None → ⊥
+unfolding order_of
+code_missed table code order same none =
+    let here : code_of table (get_or all_orders (order_number order) order) ≡ code = ap (code_of table) (order_at_number order order) ∙ same in
+    find_fails (λ some. code_of table some == code) all_orders (order_number order) order (order_number-below order) ((Decides-eqb _ _).1 here) none
+
+code_only : (table : List ℕ) (code : ℕ) → AreCodes table → (order : Order) → code_of table order ≡ code → order_of table code ≡ Some order
+code_only table code are order same = ⊎_elim
+    (λ none. absurd (code_missed table code order same none))
+    (λ some.
+    let its : code_of table some.0 ≡ code = subst (λ (r : Option Order). IfSome r (λ other. code_of table other ≡ code)) some.1 (code_found table code) in
+    some.1 ∙ ap Some (code_of-injective table are some.0 order (its ∙ sym same)))
+    (some_or_none (order_of table code))
+
+-- one code further in the table of orders
+pub one_more : (table : List ℕ) (orders : List (Option Order)) (code : ℕ) → length orders ≡ 32 → code < 32
+    → ((k : ℕ) → k < code → get_or orders k None ≡ order_of table k)
+    → (k : ℕ) → k < code + 1 → get_or (set orders code (order_of table code)) k None ≡ order_of table k
+one_more table orders code long below earlier k within = ⊎_elim
+    (λ sooner. get_or-set_other orders code k (order_of table code) None (λ same. omega (arith, sooner, same)) ∙ earlier k sooner)
+    (λ later.
+    let same : k ≡ code = omega (arith, later, within) in
+    get_or-set_at orders code k (order_of table code) None same (rw long below) ∙ ap (order_of table) (sym same))
+    (cases_lt k code)
+
+order_from : (table : List ℕ) (code : ℕ) → code < 32 → get_or (orders_of table) code None ≡ order_of table code
+unfolding orders_of
+order_from table code below = get_or-map-range_with_len (order_of table) 0 32 code code None below (zero-add code)
+
+orders_long : (table : List ℕ) → length (orders_of table) ≡ 32
+unfolding orders_of
+orders_long table = length-map-range_with_len (order_of table) 0 32
+
+pub orders_made : (table : List ℕ) (orders : List (Option Order)) → length orders ≡ 32 → ((k : ℕ) → k < 32 → get_or orders k None ≡ order_of table k)
+    → orders ≡ orders_of table
+orders_made table orders long each = ext_get_or None orders (orders_of table) (long ∙ sym (orders_long table))
+    (λ k within. let below : k < 32 = rw (sym long) within in each k below ∙ sym (order_from table k below))
+
+pub order_found : (table : List ℕ) (orders : List (Option Order)) (code : ℕ) → orders ≡ orders_of table → code < 32
+    → IfSome (get_or orders code None) (λ order. code_of table order ≡ code)
+order_found table orders code are below =
+    subst (λ (r : Option Order). IfSome r (λ order. code_of table order ≡ code)) (sym (ap (λ (all : List (Option Order)). get_or all code None) are ∙ order_from table code below))
+    (code_found table code)
+
+pub order_only : (table : List ℕ) (orders : List (Option Order)) (code : ℕ) → AreCodes table → orders ≡ orders_of table → code < 32
+    → (order : Order) → code_of table order ≡ code → get_or orders code None ≡ Some order
+order_only table orders code codes are below order same =
+    ap (λ (all : List (Option Order)). get_or all code None) are ∙ order_from table code below ∙ code_only table code codes order same
 
 pub standard_code-half : (order : Order) → 2 * code_of standard_codes order ≡ standard_digits order
 standard_code-half order =

@@ -1,8 +1,9 @@
 -- A table of codes: which number stands in a word for each of the 27 orders.
-use Rattle.std.specs.Prelude.{◌≡◌, ◌≢◌, ℕ, ◌+◌, ◌*◌, ◌<◌, List, [], ◌∷◌, length, All, AllPairs, slice_index}
+use Rattle.std.specs.Prelude.{◌≡◌, ◌≢◌, ℕ, ◌+◌, ◌*◌, ◌<◌, ◌==◌, List, [], ◌∷◌, length, All, AllPairs, Option, map, slice_index}
+use Rattle.std.specs.List.{find, range_with_len}
 use Rattle.ags_isa.specs.declared.orders.Order.{Order}
 use Rattle.ags_isa.specs.declared.orders.Order.TheVariants.{Abs, Add, Adz, Als, Axt, Cla, Clz, Com, Dly, Dvp, Inp, Ldq, Lls, Lrs, Mpr, Mpy, Mpz, Out, Sto, Stq, Sub, Suz, Tix, Tmi, Tov, Tra, Tsq}
-use Rattle.ags_isa.specs.Order.{order_number}
+use Rattle.ags_isa.specs.Order.{order_number, all_orders}
 
 -- a list is a table of codes, in the orders' alphabetical order: one code for each, each below 32, no two of them equal
 pub record AreCodes (table : List ℕ) : Type 0 where
@@ -13,6 +14,14 @@ pub record AreCodes (table : List ℕ) : Type 0 where
 -- the code that a table gives an order
 abbrev pub code_of : List ℕ → Order → ℕ
 code_of table order = slice_index table (order_number order)
+
+-- the order that has a code, and nothing where no order has it
+unfoldable pub order_of : List ℕ → ℕ → Option Order
+order_of table code = find (λ order. code_of table order == code) all_orders
+
+-- the orders by their codes: what each code from 0 to 31 stands for
+unfoldable pub orders_of : List ℕ → List (Option Order)
+orders_of table = map (order_of table) (range_with_len 0 32)
 
 -- the number that two octal digits write
 abbrev pub octal : ℕ → ℕ → ℕ

@@ -1,8 +1,9 @@
 //! Tables of codes.
 
-ghost use Rattle.std.specs.Prelude.{◌≡◌, ◌≢◌, ◌<◌, ◌↔◌, IsTrue, All, AllPairs, IfSome, Some, None};
+ghost use Rattle.std.specs.Prelude.{◌≡◌, ◌≢◌, ◌<◌, ◌==◌, ◌↔◌, IsTrue, All, AllPairs, IfSome, Some, None};
+ghost use Rattle.std.specs.List.{find};
 ghost use Rattle.ags_isa.specs.declared.orders.Order.{Order};
-ghost use Rattle.ags_isa.specs.Code.{AreCodes, code_of, standard_codes};
+ghost use Rattle.ags_isa.specs.Code.{AreCodes, code_of, order_of, orders_of, standard_codes};
 
 use crate::orders::Order;
 use std::marker::Model;
@@ -11,19 +12,21 @@ use std::marker::Model;
 #[derive(Clone, Copy, Debug, PartialEq, Eq)]
 pub struct Codes {
     table: [u8; 27],
+    /// The order of each code, so that a word is read without a search.
+    orders: [Option<Order>; 32],
 }
 
 impl Model for Codes {
-    ghost use Rattle.std.specs.Prelude.{ℕ, List};
-    ghost use Rattle.ags_isa.specs.Code.{AreCodes};
+    ghost use Rattle.std.specs.Prelude.{◌≡◌, ℕ, List};
+    ghost use Rattle.ags_isa.specs.Code.{AreCodes, orders_of};
 
     ghost Value = { List ℕ };
 
     ghost view = { λ codes. codes.table };
 
-    ghost invariant = { λ codes. AreCodes codes.table };
+    ghost invariant = { λ codes. AreCodes codes.table × (codes.orders ≡ orders_of codes.table) };
 
-    ghost inverse = { λ table. record { table = table } };
+    ghost inverse = { λ table. record { table = table; orders = orders_of table } };
 }
 
 impl Codes {
@@ -32,12 +35,10 @@ impl Codes {
         ensures codes { result ≡ standard_codes }
         ensures table { AreCodes result }
     {
-        Codes {
-            table: [
-                25, 9, 13, 23, 20, 8, 12, 24, 28, 1, 26, 6, 21, 22, 7, 11, 15, 27, 4, 5, 10, 14,
-                17, 19, 18, 16, 29,
-            ],
-        }
+        Codes::made_of(&[
+            25, 9, 13, 23, 20, 8, 12, 24, 28, 1, 26, 6, 21, 22, 7, 11, 15, 27, 4, 5, 10, 14, 17,
+            19, 18, 16, 29,
+        ])
     }
 
     /// The table of these codes, in the alphabetical order of their orders, and nothing where they aren't one: where
@@ -47,9 +48,20 @@ impl Codes {
         ensures none { ¬ AreCodes table.now → result ≡ None }
     {
         if all_below(table) && all_distinct(table) {
-            Some(Codes { table: *table })
+            Some(Codes::made_of(table))
         } else {
             None
+        }
+    }
+
+    /// The table of these codes, with their orders.
+    fn made_of(table: &[u8; 27]) -> Codes
+        requires { AreCodes table.now }
+        ensures { result ≡ table.now }
+    {
+        Codes {
+            table: *table,
+            orders: orders_of(table),
         }
     }
 
@@ -71,18 +83,40 @@ impl Codes {
 
     /// The order of a code, and nothing where no order has it.
     pub(crate) fn order_of(&self, code: u8) -> Option<Order>
+        requires { code < 32 }
         ensures found { IfSome result (λ order. code_of self.now order ≡ code) }
         ensures only { (order : Order) → code_of self.now order ≡ code → result ≡ Some order }
     {
-        // for the proof alone, which learns here that the table is one of codes
-        let _table = &self.table;
-        for order in Order::ALL {
-            if self.code_of(order) == code {
-                return Some(order);
-            }
-        }
-        None
+        self.orders[code as usize]
     }
+}
+
+/// The order of each code.
+fn orders_of(table: &[u8; 27]) -> [Option<Order>; 32]
+    ensures { result ≡ orders_of table.now }
+{
+    let mut orders = [None; 32];
+    for code in 0..32 {
+        orders[code as usize] = order_of(table, code);
+    }
+    orders
+}
+
+/// The order that has a code, and nothing where no order has it.
+fn order_of(table: &[u8; 27], code: u8) -> Option<Order>
+    ensures { result ≡ order_of table.now code }
+{
+    first_of(&Order::ALL, table, code)
+}
+
+/// The first of these orders that has a code.
+fn first_of(orders: &[Order], table: &[u8; 27], code: u8) -> Option<Order>
+    ensures { result ≡ find (λ order. code_of table.now order == code) orders.now }
+{
+    orders
+        .iter()
+        .find(|order| table[order.number()] == code)
+        .copied()
 }
 
 /// Each code is below 32.

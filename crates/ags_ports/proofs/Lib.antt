@@ -7,6 +7,8 @@ pub mod StateLemmas
 pub mod CellLemmas
 pub mod AddressLemmas
 pub mod PhaseLemmas
+pub mod HaltLemmas
+pub mod ChangeLemmas
 pub mod IndicatorLemmas
 pub mod RunLemmas
 pub mod Examples

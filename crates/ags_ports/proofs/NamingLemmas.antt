@@ -4,11 +4,14 @@ use Rattle.std.specs.Prelude.{Bool, Option, Some, None, nat_eq}
 use Rattle.std.proofs.lemmas.Bool.{cases_lt}
 use Rattle.std.proofs.lemmas.List.Elements.{All-cons, All-nil}
 use Rattle.ags_isa.specs.declared.orders.Order.{Order}
-use Rattle.ags_isa.specs.declared.orders.Order.TheVariants.{Abs}
+use Rattle.ags_isa.specs.declared.orders.Order.TheVariants.{Abs, Tra, Tsq}
 use Rattle.ags_isa.specs.declared.decoding.Decoded.{Decoded}
 use Rattle.ags_isa.specs.Order.{order_number, all_orders}
 use Rattle.ags_isa.specs.Code.{AreCodes, code_of}
 use Rattle.ags_isa.specs.Naming.{index_bit, word_of, Names, IsDecoding}
+use Rattle.ags_ports.specs.declared.machines.Machine.{Machine}
+use Rattle.ags_ports.specs.State.{State, next_location}
+use Rattle.ags_ports.specs.Effect.{effect}
 use Rattle.ags_isa.proofs.OrderLemmas.{order_at_number, order_number-below}
 use Rattle.ags_isa.proofs.WordLemmas.{names-one}
 
@@ -25,6 +28,11 @@ decoding_same table are word (Some c) None p r = absurd (r c.order c.indexed c.a
 decoding_same table are word (Some c) (Some d) p r =
     let parts = names-one table are word c.order d.order c.indexed d.indexed c.address d.address p r in
     ap (λ (named : Decoded). Some named) (decoded_same c.order d.order c.indexed d.indexed c.address d.address parts.0 parts.1 parts.2)
+
+-- ---- the word that TSQ leaves
+
+pub return_names : (machine : Machine) (s : State) (e y : ℕ) → Names machine.codes ((effect machine s Tsq e y).after.q) Tra false (next_location s)
+return_names machine s e y = record { below = omega arith; equals = refl }
 
 -- ---- and it is decided whether it names one
 

@@ -25,7 +25,7 @@ use Rattle.ags_ports.specs.declared.events.Event.TheVariants.{Step, Pulse, Put}
 use Rattle.ags_ports.specs.declared.events.Done.{Done}
 use Rattle.ags_ports.specs.declared.machines.Machine.{Machine}
 use Rattle.ags_ports.specs.Machine.{IsMachine}
-use Rattle.ags_ports.specs.Port.{place_of, word_at, set_at, read_at, is_once}
+use Rattle.ags_ports.specs.Port.{place_of, register_at, set_at, read_at, is_once}
 use Rattle.ags_ports.specs.State.{State, IsState, cell, word_here, next_location, written}
 use Rattle.ags_ports.specs.Effect.{Effect, effect, effective, counts_index, divides, then_stores, leaves, moved_on, loads, adds, subtracts, rounds_product}
 use Rattle.ags_ports.specs.Step.{IsEvent, Obeys, StepsIn, Steps, pulsed}
@@ -75,9 +75,9 @@ read_at_length : (ports : List Port) (words : List ℕ) (place : Option ℕ) →
 read_at_length ports words None = refl
 read_at_length ports words (Some place) = choose_length (is_once (slice_get ports place)) (set words place 0) words (length words) (length-set words place 0) refl
 
-word_at_below : (words : List ℕ) (place : Option ℕ) → AreWords words → word_at words place < 2 ^ 18
-word_at_below words None are = omega arith
-word_at_below words (Some place) are = get_below words are place
+register_at_below : (words : List ℕ) (place : Option ℕ) → AreWords words → register_at words place < 2 ^ 18
+register_at_below words None are = omega arith
+register_at_below words (Some place) are = get_below words are place
 
 -- ---- the parts of a state
 
@@ -157,7 +157,7 @@ effect_keeps machine s Axt e y h is e_below y_below = holds machine s is s.a s.q
 effect_keeps machine s Tsq e y h is e_below y_below = holds machine s is s.a _ s.index s.indicator e s.phase is.a (word_of-below machine.codes h.codes Tra false (next_location s) (omega arith)) is.index e_below
 effect_keeps machine s Inp e y h is e_below y_below =
     let place = place_of machine.ports.inputs y in
-    record { a = word_at_below s.inputs place is.inputs; q = is.q; index = is.index; location = omega arith; cells_count = is.cells_count; cells = is.cells; inputs_count = read_at_length machine.ports.inputs s.inputs place ∙ is.inputs_count; inputs = read_at_words machine.ports.inputs s.inputs place is.inputs; outputs_count = is.outputs_count; outputs = is.outputs }
+    record { a = register_at_below s.inputs place is.inputs; q = is.q; index = is.index; location = omega arith; cells_count = is.cells_count; cells = is.cells; inputs_count = read_at_length machine.ports.inputs s.inputs place ∙ is.inputs_count; inputs = read_at_words machine.ports.inputs s.inputs place is.inputs; outputs_count = is.outputs_count; outputs = is.outputs }
 effect_keeps machine s Out e y h is e_below y_below =
     let place = place_of machine.ports.outputs y in
     record { a = is.a; q = is.q; index = is.index; location = omega arith; cells_count = is.cells_count; cells = is.cells; inputs_count = is.inputs_count; inputs = is.inputs; outputs_count = set_at_length s.outputs place s.a ∙ is.outputs_count; outputs = set_at_words s.outputs place s.a is.outputs is.a }

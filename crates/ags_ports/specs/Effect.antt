@@ -8,7 +8,7 @@ use Rattle.ags_isa.specs.Naming.{word_of}
 use Rattle.ags_ports.specs.declared.events.Phase.TheVariants.{Waiting}
 use Rattle.ags_ports.specs.declared.events.Stored.{Stored}
 use Rattle.ags_ports.specs.declared.machines.Machine.{Machine}
-use Rattle.ags_ports.specs.Port.{place_of, word_at, set_at, read_at}
+use Rattle.ags_ports.specs.Port.{place_of, register_at, set_at, read_at}
 use Rattle.ags_ports.specs.State.{State, cell, next_location, written}
 
 -- What an order does: the state after it, whether it overflows, the store that it makes and the word of it, the address
@@ -171,7 +171,7 @@ effect machine s Tsq e y = leaves (record s { q = word_of machine.codes Tra fals
 -- A = the word of the input register at y, or 0 where there is none; a register that holds its word once then holds 0.
 effect machine s Inp e y = let place = place_of machine.ports.inputs y in record {
   after = record s {
-    a = word_at s.inputs place;
+    a = register_at s.inputs place;
     inputs = read_at machine.ports.inputs s.inputs place;
     location = next_location s;
   };

@@ -2,6 +2,7 @@ pub mod Port
 pub mod Time
 pub mod Machine
 pub mod State
+pub mod Change
 pub mod Effect
 pub mod Step
 pub mod Run

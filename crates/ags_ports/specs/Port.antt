@@ -18,9 +18,9 @@ abbrev pub place_of : List Port → ℕ → Option ℕ
 place_of ports address = position (λ port. port.address == address) ports
 
 -- the word that stands in the register at a place, and 0 where there is none
-abbrev pub word_at : List ℕ → Option ℕ → ℕ
-word_at words None = 0
-word_at words (Some place) = slice_index words place
+abbrev pub register_at : List ℕ → Option ℕ → ℕ
+register_at words None = 0
+register_at words (Some place) = slice_index words place
 
 -- the registers' words with the one at a place set, and as they are where there is none
 abbrev pub set_at : List ℕ → Option ℕ → ℕ → List ℕ

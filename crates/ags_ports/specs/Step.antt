@@ -26,6 +26,10 @@ pub record Reads (machine : Machine) (s : State) (order : Order) : Type 0 where
   pub address : ℕ
   pub names : Names machine.codes (word_here s) order indexed address
 
+-- the word at the location names no order
+abbrev pub NamesNone : Machine → State → Type 0
+NamesNone machine s = (order : Order) (indexed : Bool) (address : ℕ) → ¬ Names machine.codes (word_here s) order indexed address
+
 -- nothing changes but the input registers
 abbrev pub ChangesInputsAlone : State → State → Type 0
 ChangesInputsAlone s after = after ≡ record s { inputs = after.inputs }

@@ -4,7 +4,8 @@
 
 ghost use Rattle.std.specs.Prelude.{◌≡◌, ◌≢◌, ℕ, ◌/◌, ◌%◌, ◌^◌, ◌<◌, ◌≤◌, ◌⊎◌, ◌↔◌, Bool, true, false, All, List, ◌++◌, length, slice_index_or, Some, None};
 ghost use Rattle.ags_isa.specs.declared.orders.Order.{Order};
-ghost use Rattle.ags_isa.specs.declared.orders.Order.TheVariants.{Add, Adz, Cla, Clz, Mpr, Mpz, Sub, Suz, Tov};
+ghost use Rattle.ags_isa.specs.declared.orders.Order.TheVariants.{Add, Adz, Cla, Clz, Dly, Mpr, Mpz, Sub, Suz, Tov, Tra, Tsq};
+ghost use Rattle.ags_isa.specs.Naming.{Names};
 ghost use Rattle.ags_ports.specs.declared.events.Phase.TheVariants.{Running, Waiting, Halted};
 ghost use Rattle.ags_ports.specs.declared.events.Event.{Event};
 ghost use Rattle.ags_ports.specs.declared.events.Event.TheVariants.{Step, Pulse};
@@ -13,9 +14,10 @@ ghost use Rattle.ags_ports.specs.declared.registers.Port.{Port};
 ghost use Rattle.ags_ports.specs.Port.{AreRegisters, place_of};
 ghost use Rattle.ags_ports.specs.Time.{AreTimes, time_of, standard_time, standard_times};
 ghost use Rattle.ags_ports.specs.Machine.{IsMachine, standard_machine};
-ghost use Rattle.ags_ports.specs.State.{State, IsState, cell};
+ghost use Rattle.ags_ports.specs.State.{State, IsState, cell, next_location, word_here};
+ghost use Rattle.ags_ports.specs.Change.{stored_in, taken_from, given_to};
 ghost use Rattle.ags_ports.specs.Effect.{counts_index, effective, effect, then_clears};
-ghost use Rattle.ags_ports.specs.Step.{IsEvent, Steps, Reads, ChangesInputsAlone};
+ghost use Rattle.ags_ports.specs.Step.{IsEvent, Steps, Reads, NamesNone, ChangesInputsAlone, idle};
 ghost use Rattle.ags_ports.specs.Run.{Moment, Run, AtEach, AreEvents, last_state};
 
 use crate::machines::Machine;
@@ -94,6 +96,43 @@ pub fn nothing_leaves_a_halt()
         → AtEach (λ moment. ChangesInputsAlone s moment.after) moments }
 {}
 
+/// Waiting begins where a step runs DLY and nowhere else, and a halt where a step meets a word that is no order and
+/// nowhere else; there it is all that changes.
+pub fn only_dly_waits_and_only_no_order_halts()
+    ensures waits { (machine : Machine) (s : State) (event : Event) (done : Done) (after : State)
+        → Steps machine s event done after → s.phase ≢ Waiting → after.phase ≡ Waiting → (event ≡ Step) × Reads machine s Dly }
+    ensures halts { (machine : Machine) (s : State) (event : Event) (done : Done) (after : State)
+        → Steps machine s event done after → s.phase ≢ Halted → after.phase ≡ Halted
+        → (event ≡ Step) × (s.phase ≡ Running) × NamesNone machine s }
+    ensures alone { (machine : Machine) (s : State) (done : Done) (after : State)
+        → s.phase ≡ Running → NamesNone machine s → Steps machine s Step done after
+        → (done ≡ idle s) × (after ≡ record s { phase = Halted }) }
+{}
+
+/// What is told says what changed: of the cells the one of the store that is told, of the output registers the one that
+/// a word is told to be given to, and by a step, of the input registers the one that a word is told to be taken from.
+pub fn changes_are_told()
+    ensures cells { (machine : Machine) (s : State) (event : Event) (done : Done) (after : State)
+        → Steps machine s event done after → after.cells ≡ stored_in s.cells done.stored }
+    ensures inputs { (machine : Machine) (s : State) (done : Done) (after : State)
+        → Steps machine s Step done after → after.inputs ≡ taken_from machine.ports.inputs s.inputs done.took }
+    ensures outputs { (machine : Machine) (s : State) (event : Event) (done : Done) (after : State)
+        → Steps machine s event done after → after.outputs ≡ given_to machine.ports.outputs s.outputs done.gave }
+{}
+
+/// An order is told to have run exactly where a step reads one; where none ran, nothing is told but the location and
+/// its word, and these are told of every event, as they were before it.
+pub fn order_that_is_read_runs()
+    ensures only { (machine : Machine) (s : State) (event : Event) (done : Done) (after : State)
+        → Steps machine s event done after → done.ran ≡ true → (event ≡ Step) × (order : Order) × Reads machine s order }
+    ensures runs { (machine : Machine) (s : State) (order : Order) (done : Done) (after : State)
+        → Reads machine s order → Steps machine s Step done after → done.ran ≡ true }
+    ensures idle { (machine : Machine) (s : State) (event : Event) (done : Done) (after : State)
+        → Steps machine s event done after → done.ran ≡ false → done ≡ idle s }
+    ensures here { (machine : Machine) (s : State) (event : Event) (done : Done) (after : State)
+        → Steps machine s event done after → (done.location ≡ s.location) × (done.word ≡ word_here s) }
+{}
+
 /// An order that overflows sets the indicator, nothing else does, and only a step that runs TOV clears it.
 pub fn only_tov_clears_the_indicator()
     ensures sets { (machine : Machine) (s : State) (event : Event) (done : Done) (after : State)
@@ -110,6 +149,12 @@ pub fn clearing_order_is_plain_order_and_cleared_cell()
     ensures adz { (machine : Machine) (s : State) (e y : ℕ) → effect machine s Adz e y ≡ then_clears (effect machine s Add e y) e }
     ensures suz { (machine : Machine) (s : State) (e y : ℕ) → effect machine s Suz e y ≡ then_clears (effect machine s Sub e y) e }
     ensures mpz { (machine : Machine) (s : State) (e y : ℕ) → effect machine s Mpz e y ≡ then_clears (effect machine s Mpr e y) e }
+{}
+
+/// TSQ leaves in Q an order that goes back: TRA, with the index bit clear, to the location after it.
+pub fn tsq_leaves_an_order_that_goes_back()
+    ensures { (machine : Machine) (s : State) (e y : ℕ)
+        → Names machine.codes ((effect machine s Tsq e y).after.q) Tra false (next_location s) }
 {}
 
 /// From each state, each list of events has one run, and it keeps a state.

@@ -4,7 +4,7 @@ use Rattle.std.specs.Prelude.{◌≡◌, ℕ, Bool, true, false, List, [], ◌�
 use Rattle.ags_ports.specs.declared.events.Event.{Event}
 use Rattle.ags_ports.specs.declared.events.Event.TheVariants as event
 use Rattle.ags_ports.specs.declared.machines.Machine.{Machine}
-use Rattle.ags_ports.specs.Port.{place_of, word_at}
+use Rattle.ags_ports.specs.Port.{place_of, register_at}
 use Rattle.ags_ports.specs.State.{State, cell}
 use Rattle.ags_ports.specs.Run.{Moment, Run, last_state}
 use Rattle.ags_outside.specs.Sink.{appended, WroteFront}
@@ -31,7 +31,7 @@ shown machine Pulse s = []
 shown machine (Set address word) s = []
 shown machine ShowReg s = reg_text s ++ codes "\n"
 shown machine (ShowCell address) s = cell_text address (cell s address) ++ codes "\n"
-shown machine (ShowOut address) s = output_text address (word_at s.outputs (place_of machine.ports.outputs address)) ++ codes "\n"
+shown machine (ShowOut address) s = output_text address (register_at s.outputs (place_of machine.ports.outputs address)) ++ codes "\n"
 
 -- From this state, the commands make these events and print this text, one command after another: the first makes its
 -- events, they run, it prints by the state that they end in, and the others go on from there.

@@ -3,7 +3,7 @@
 ghost use Rattle.std.specs.Prelude.{◌≡◌, ◌+◌, ◌<◌, ◌≤◌, ◌^◌, List, [], ◌∷◌, ◌++◌, length, replicate, OnOk, OnErr, IfOk, IsErrOf, codes};
 ghost use Rattle.ags_ports.specs.declared.events.Event.{Event};
 ghost use Rattle.ags_ports.specs.declared.events.Event.TheVariants as event;
-ghost use Rattle.ags_ports.specs.Port.{place_of, word_at};
+ghost use Rattle.ags_ports.specs.Port.{place_of, register_at};
 ghost use Rattle.ags_ports.specs.Run.{Moment, Run, last_state};
 ghost use Rattle.ags_core.specs.Core.{start_state};
 ghost use Rattle.ags_outside.specs.Count.{Rose};
@@ -106,7 +106,7 @@ fn make_events(machine: &Machine, core: &mut Core, command: &Plain)
 /// The word of the output register at an address, and 0 where there is none.
 fn output_at(machine: &Machine, core: &Core, address: u16) -> Word
     requires { length core.now.outputs ≡ length machine.now.ports.outputs }
-    ensures { result ≡ word_at core.now.outputs (place_of machine.now.ports.outputs address) }
+    ensures { result ≡ register_at core.now.outputs (place_of machine.now.ports.outputs address) }
 {
     match machine.ports.find_output(address) {
         Some(place) => core.output(place),

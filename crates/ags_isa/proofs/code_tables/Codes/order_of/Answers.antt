@@ -1,16 +1,14 @@
-use Rattle.std.proofs.Common.{Some, ap, sym, subst, ◌∙◌, refl}
-use Rattle.ags_isa.specs.Code.{AreCodes}
-use Rattle.ags_isa.proofs.CodeLemmas.{code_of-injective, others_after}
+use Rattle.std.proofs.Common.{◌≡◌, ℕ, List, get_or, subst, None}
+use Rattle.std.specs.Prelude.{IfSome}
+use Rattle.ags_isa.specs.Code.{code_of}
+use Rattle.ags_isa.proofs.CodeLemmas.{order_found, order_only}
 use Rattle.ags_isa.proofs.code_tables.Codes.order_of.Goals as goal
 
-pub returns-then-code_of-code-clause-only : goal.returns-then-code_of-code-clause-only
-returns-then-code_of-code-clause-only c = λ order same.
-    ap Some (code_of-injective _ (subst AreCodes c.self.view_is c.self.invariant) _ order
-    (sym c.code_of.ensures.code ∙ c.if-code_of-code.true ∙ sym same))
+pub returns-clause-found : goal.returns-clause-found
+returns-clause-found c =
+    subst (λ (table : List ℕ). IfSome (get_or c.self.inside.orders c.args.code None) (λ order. code_of table order ≡ c.args.code)) c.self.view_is
+    (order_found c.self.inside.table c.self.inside.orders c.args.code c.self.invariant.1 c.requires)
 
-pub loop-order-preserved : goal.loop-order-preserved
-loop-order-preserved c = record {
-  orders = refl;
-  others = others_after _ _ _ _ c.loop-order.invariant.others
-      (λ same. c.if-code_of-code.false (c.code_of.ensures.code ∙ same));
-}
+pub returns-clause-only : goal.returns-clause-only
+returns-clause-only c = λ order same.
+    order_only c.self.inside.table c.self.inside.orders c.args.code c.self.invariant.0 c.self.invariant.1 c.requires order (rw c.self.view_is same)

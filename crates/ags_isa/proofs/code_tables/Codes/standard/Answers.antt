@@ -1,8 +1,8 @@
 use Rattle.ags_isa.proofs.CodeLemmas.{standard_are_codes}
 use Rattle.ags_isa.proofs.code_tables.Codes.standard.Goals as goal
 
-pub invariant_of-result : goal.invariant_of-result
-invariant_of-result c = standard_are_codes
+pub made_of-requires : goal.made_of-requires
+made_of-requires c = standard_are_codes
 
 pub returns-clause-table : goal.returns-clause-table
-returns-clause-table c = standard_are_codes
+returns-clause-table c = rw c.made_of.ensures standard_are_codes

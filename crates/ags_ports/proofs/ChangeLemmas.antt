@@ -1,0 +1,200 @@
+-- What a step tells says what it did to the cells and the registers, and when an order runs.
+use Rattle.std.proofs.Common.{◌≡◌, ℕ, true, false, refl, sym, ap, ◌∙◌}
+use Rattle.std.specs.Prelude.{Bool, Option, Some, None, nat_eq, int_lt, pos, if◌then◌else◌}
+use Rattle.ags_word.specs.Word.{val}
+use Rattle.ags_word.specs.Long.{divided, long}
+use Rattle.ags_isa.specs.declared.orders.Order.{Order}
+use Rattle.ags_isa.specs.declared.orders.Order.TheVariants.{Abs, Add, Adz, Als, Axt, Cla, Clz, Com, Dly, Dvp, Inp, Ldq, Lls, Lrs, Mpr, Mpy, Mpz, Out, Sto, Stq, Sub, Suz, Tix, Tmi, Tov, Tra, Tsq}
+use Rattle.ags_isa.specs.declared.decoding.Decoded.{Decoded}
+use Rattle.ags_isa.specs.Naming.{IsDecoding}
+use Rattle.ags_ports.specs.declared.events.Phase.{Phase}
+use Rattle.ags_ports.specs.declared.events.Phase.TheVariants.{Running, Waiting, Halted}
+use Rattle.ags_ports.specs.declared.events.Event.{Event}
+use Rattle.ags_ports.specs.declared.events.Event.TheVariants.{Step, Pulse, Put}
+use Rattle.ags_ports.specs.declared.events.Done.{Done}
+use Rattle.ags_ports.specs.declared.machines.Machine.{Machine}
+use Rattle.ags_ports.specs.State.{State, cell, word_here}
+use Rattle.ags_ports.specs.Effect.{Effect, effect, effective, divides, leaves}
+use Rattle.ags_ports.specs.Change.{stored_in, taken_from, given_to}
+use Rattle.ags_ports.specs.Step.{Obeys, StepsIn, Steps, Reads, idle}
+
+-- an effect changes the cells and the registers as it tells
+record IsTold (machine : Machine) (s : State) (does : Effect) : Type 0 where
+  cells : does.after.cells ≡ stored_in s.cells does.stored
+  inputs : does.after.inputs ≡ taken_from machine.ports.inputs s.inputs does.took
+  outputs : does.after.outputs ≡ given_to machine.ports.outputs s.outputs does.gave
+
+told_choice : (machine : Machine) (s : State) (b : Bool) (t u : State) → IsTold machine s (leaves t) → IsTold machine s (leaves u)
+    → IsTold machine s (leaves (if b then t else u))
+told_choice machine s true t u p r = p
+told_choice machine s false t u p r = r
+
+told_quotient : (machine : Machine) (s : State) (quotient : Option ℕ) → IsTold machine s (divides s quotient)
+told_quotient machine s None = record { cells = refl; inputs = refl; outputs = refl }
+told_quotient machine s (Some w) = record { cells = refl; inputs = refl; outputs = refl }
+
+effect_told : (machine : Machine) (s : State) (order : Order) (e y : ℕ) → IsTold machine s (effect machine s order e y)
+effect_told machine s Cla e y = record { cells = refl; inputs = refl; outputs = refl }
+effect_told machine s Ldq e y = record { cells = refl; inputs = refl; outputs = refl }
+effect_told machine s Sto e y = record { cells = refl; inputs = refl; outputs = refl }
+effect_told machine s Stq e y = record { cells = refl; inputs = refl; outputs = refl }
+effect_told machine s Add e y = record { cells = refl; inputs = refl; outputs = refl }
+effect_told machine s Sub e y = record { cells = refl; inputs = refl; outputs = refl }
+effect_told machine s Clz e y = record { cells = refl; inputs = refl; outputs = refl }
+effect_told machine s Adz e y = record { cells = refl; inputs = refl; outputs = refl }
+effect_told machine s Suz e y = record { cells = refl; inputs = refl; outputs = refl }
+effect_told machine s Com e y = record { cells = refl; inputs = refl; outputs = refl }
+effect_told machine s Abs e y = record { cells = refl; inputs = refl; outputs = refl }
+effect_told machine s Als e y = record { cells = refl; inputs = refl; outputs = refl }
+effect_told machine s Mpy e y = record { cells = refl; inputs = refl; outputs = refl }
+effect_told machine s Mpr e y = record { cells = refl; inputs = refl; outputs = refl }
+effect_told machine s Mpz e y = record { cells = refl; inputs = refl; outputs = refl }
+effect_told machine s Dvp e y = told_quotient machine s (divided (long s.a s.q) (cell s e))
+effect_told machine s Lrs e y = record { cells = refl; inputs = refl; outputs = refl }
+effect_told machine s Lls e y = record { cells = refl; inputs = refl; outputs = refl }
+effect_told machine s Tra e y = record { cells = refl; inputs = refl; outputs = refl }
+effect_told machine s Tmi e y = told_choice machine s (int_lt (val s.a) (pos 0)) _ _
+    (record { cells = refl; inputs = refl; outputs = refl }) (record { cells = refl; inputs = refl; outputs = refl })
+effect_told machine s Tov e y = told_choice machine s s.indicator _ _
+    (record { cells = refl; inputs = refl; outputs = refl }) (record { cells = refl; inputs = refl; outputs = refl })
+effect_told machine s Tix e y = told_choice machine s (nat_eq s.index 0) _ _
+    (record { cells = refl; inputs = refl; outputs = refl }) (record { cells = refl; inputs = refl; outputs = refl })
+effect_told machine s Axt e y = record { cells = refl; inputs = refl; outputs = refl }
+effect_told machine s Tsq e y = record { cells = refl; inputs = refl; outputs = refl }
+effect_told machine s Inp e y = record { cells = refl; inputs = refl; outputs = refl }
+effect_told machine s Out e y = record { cells = refl; inputs = refl; outputs = refl }
+effect_told machine s Dly e y = record { cells = refl; inputs = refl; outputs = refl }
+
+-- ---- and so does each step
+
+-- what is told and what is left are those of an effect that tells what it changes
+record Tells (machine : Machine) (s : State) (done : Done) (after : State) : Type 0 where
+  cells : after.cells ≡ stored_in s.cells done.stored
+  inputs : after.inputs ≡ taken_from machine.ports.inputs s.inputs done.took
+  outputs : after.outputs ≡ given_to machine.ports.outputs s.outputs done.gave
+
+unchanged_told : (machine : Machine) (s : State) (done : Done) (after : State) → done ≡ idle s → after.cells ≡ s.cells → after.inputs ≡ s.inputs
+    → after.outputs ≡ s.outputs → Tells machine s done after
+unchanged_told machine s done after told cells inputs outputs = record {
+  cells = cells ∙ sym (ap (λ (v : Done). stored_in s.cells v.stored) told);
+  inputs = inputs ∙ sym (ap (λ (v : Done). taken_from machine.ports.inputs s.inputs v.took) told);
+  outputs = outputs ∙ sym (ap (λ (v : Done). given_to machine.ports.outputs s.outputs v.gave) told);
+}
+
+obeys_told : (machine : Machine) (s : State) (named : Option Decoded) (done : Done) (after : State) → Obeys machine s named done after → Tells machine s done after
+obeys_told machine s (Some d) done after p =
+    let told = effect_told machine s d.order (effective s d.order d.indexed d.address) d.address in
+    record {
+      cells = ap (λ (v : State). v.cells) p.1 ∙ told.cells ∙ sym (ap (λ (v : Done). stored_in s.cells v.stored) p.0);
+      inputs = ap (λ (v : State). v.inputs) p.1 ∙ told.inputs ∙ sym (ap (λ (v : Done). taken_from machine.ports.inputs s.inputs v.took) p.0);
+      outputs = ap (λ (v : State). v.outputs) p.1 ∙ told.outputs ∙ sym (ap (λ (v : Done). given_to machine.ports.outputs s.outputs v.gave) p.0);
+    }
+obeys_told machine s None done after p = unchanged_told machine s done after p.0 (ap (λ (v : State). v.cells) p.1) (ap (λ (v : State). v.inputs) p.1) (ap (λ (v : State). v.outputs) p.1)
+
+step_in_told : (phase : Phase) (machine : Machine) (s : State) (done : Done) (after : State) → StepsIn phase machine s done after → Tells machine s done after
+step_in_told Running machine s done after p = obeys_told machine s p.0 done after p.2
+step_in_told Waiting machine s done after p = unchanged_told machine s done after p.0 (ap (λ (v : State). v.cells) p.1) (ap (λ (v : State). v.inputs) p.1) (ap (λ (v : State). v.outputs) p.1)
+step_in_told Halted machine s done after p = unchanged_told machine s done after p.0 (ap (λ (v : State). v.cells) p.1) (ap (λ (v : State). v.inputs) p.1) (ap (λ (v : State). v.outputs) p.1)
+
+pub cells_told : (machine : Machine) (s : State) (event : Event) (done : Done) (after : State) → Steps machine s event done after
+    → after.cells ≡ stored_in s.cells done.stored
+cells_told machine s Step done after p = (step_in_told s.phase machine s done after p).cells
+cells_told machine s Pulse done after p = ap (λ (v : State). v.cells) p.1 ∙ sym (ap (λ (v : Done). stored_in s.cells v.stored) p.0)
+cells_told machine s (Put address word) done after p = ap (λ (v : State). v.cells) p.1 ∙ sym (ap (λ (v : Done). stored_in s.cells v.stored) p.0)
+
+pub inputs_told : (machine : Machine) (s : State) (done : Done) (after : State) → Steps machine s Step done after
+    → after.inputs ≡ taken_from machine.ports.inputs s.inputs done.took
+inputs_told machine s done after p = (step_in_told s.phase machine s done after p).inputs
+
+pub outputs_told : (machine : Machine) (s : State) (event : Event) (done : Done) (after : State) → Steps machine s event done after
+    → after.outputs ≡ given_to machine.ports.outputs s.outputs done.gave
+outputs_told machine s Step done after p = (step_in_told s.phase machine s done after p).outputs
+outputs_told machine s Pulse done after p = ap (λ (v : State). v.outputs) p.1 ∙ sym (ap (λ (v : Done). given_to machine.ports.outputs s.outputs v.gave) p.0)
+outputs_told machine s (Put address word) done after p = ap (λ (v : State). v.outputs) p.1 ∙ sym (ap (λ (v : Done). given_to machine.ports.outputs s.outputs v.gave) p.0)
+
+-- ---- when an order runs
+
+differ : true ≡ false → ⊥
+differ h = cc
+
+told_ran : (done told : Done) (ran : Bool) → done ≡ told → told.ran ≡ ran → done.ran ≡ ran
+told_ran done told ran same is = ap (λ (v : Done). v.ran) same ∙ is
+
+-- where nothing else is told than where the machine stands, no order ran
+idle_ran : (s : State) (done : Done) → done ≡ idle s → done.ran ≡ true → ⊥
+idle_ran s done told ran = differ (sym ran ∙ ap (λ (v : Done). v.ran) told)
+
+obeys_reads : (machine : Machine) (s : State) (named : Option Decoded) (done : Done) (after : State) → s.phase ≡ Running → IsDecoding machine.codes (word_here s) named
+    → Obeys machine s named done after → done.ran ≡ true → (order : Order) × Reads machine s order
+obeys_reads machine s (Some d) done after running names p ran =
+    (d.order, record { running = running; indexed = d.indexed; address = d.address; names = names })
+obeys_reads machine s None done after running names p ran = absurd (idle_ran s done p.0 ran)
+
+step_in_reads : (phase : Phase) (machine : Machine) (s : State) (done : Done) (after : State) → s.phase ≡ phase → StepsIn phase machine s done after
+    → done.ran ≡ true → (order : Order) × Reads machine s order
+step_in_reads Running machine s done after is p ran = obeys_reads machine s p.0 done after is p.1 p.2 ran
+step_in_reads Waiting machine s done after is p ran = absurd (idle_ran s done p.0 ran)
+step_in_reads Halted machine s done after is p ran = absurd (idle_ran s done p.0 ran)
+
+pub ran_reads : (machine : Machine) (s : State) (event : Event) (done : Done) (after : State) → Steps machine s event done after
+    → done.ran ≡ true → (event ≡ Step) × (order : Order) × Reads machine s order
+ran_reads machine s Step done after p ran =
+    let read = step_in_reads s.phase machine s done after refl p ran in (refl, read.0, read.1)
+ran_reads machine s Pulse done after p ran = absurd (idle_ran s done p.0 ran)
+ran_reads machine s (Put address word) done after p ran = absurd (idle_ran s done p.0 ran)
+
+obeys_ran : (machine : Machine) (s : State) (named : Option Decoded) (done : Done) (after : State) (order : Order) → Reads machine s order
+    → IsDecoding machine.codes (word_here s) named → Obeys machine s named done after → done.ran ≡ true
+obeys_ran machine s (Some d) done after order reads names p = ap (λ (v : Done). v.ran) p.0
+obeys_ran machine s None done after order reads none p = absurd (none order reads.indexed reads.address reads.names)
+
+waits_not : Running ≡ Waiting → ⊥
+waits_not h = cc
+
+halts_not : Running ≡ Halted → ⊥
+halts_not h = cc
+
+step_in_ran : (phase : Phase) (machine : Machine) (s : State) (done : Done) (after : State) (order : Order) → s.phase ≡ phase → Reads machine s order
+    → StepsIn phase machine s done after → done.ran ≡ true
+step_in_ran Running machine s done after order is reads p = obeys_ran machine s p.0 done after order reads p.1 p.2
+step_in_ran Waiting machine s done after order is reads p = absurd (waits_not (sym reads.running ∙ is))
+step_in_ran Halted machine s done after order is reads p = absurd (halts_not (sym reads.running ∙ is))
+
+pub reads_ran : (machine : Machine) (s : State) (order : Order) (done : Done) (after : State) → Reads machine s order → Steps machine s Step done after
+    → done.ran ≡ true
+reads_ran machine s order done after reads p = step_in_ran s.phase machine s done after order refl reads p
+
+-- ---- what is told where none runs
+
+obeys_idle : (machine : Machine) (s : State) (named : Option Decoded) (done : Done) (after : State) → Obeys machine s named done after → done.ran ≡ false → done ≡ idle s
+obeys_idle machine s (Some d) done after p none = absurd (differ (sym (ap (λ (v : Done). v.ran) p.0) ∙ none))
+obeys_idle machine s None done after p none = p.0
+
+step_in_idle : (phase : Phase) (machine : Machine) (s : State) (done : Done) (after : State) → StepsIn phase machine s done after → done.ran ≡ false → done ≡ idle s
+step_in_idle Running machine s done after p none = obeys_idle machine s p.0 done after p.2 none
+step_in_idle Waiting machine s done after p none = p.0
+step_in_idle Halted machine s done after p none = p.0
+
+pub idle_told : (machine : Machine) (s : State) (event : Event) (done : Done) (after : State) → Steps machine s event done after → done.ran ≡ false → done ≡ idle s
+idle_told machine s Step done after p none = step_in_idle s.phase machine s done after p none
+idle_told machine s Pulse done after p none = p.0
+idle_told machine s (Put address word) done after p none = p.0
+
+-- the location and its word are told, as they were before the event
+abbrev TellsPlace : State → Done → Type 0
+TellsPlace s done = (done.location ≡ s.location) × (done.word ≡ word_here s)
+
+obeys_place : (machine : Machine) (s : State) (named : Option Decoded) (done : Done) (after : State) → Obeys machine s named done after → TellsPlace s done
+obeys_place machine s (Some d) done after p = (ap (λ (v : Done). v.location) p.0, ap (λ (v : Done). v.word) p.0)
+obeys_place machine s None done after p = (ap (λ (v : Done). v.location) p.0, ap (λ (v : Done). v.word) p.0)
+
+step_in_place : (phase : Phase) (machine : Machine) (s : State) (done : Done) (after : State) → StepsIn phase machine s done after → TellsPlace s done
+step_in_place Running machine s done after p = obeys_place machine s p.0 done after p.2
+step_in_place Waiting machine s done after p = (ap (λ (v : Done). v.location) p.0, ap (λ (v : Done). v.word) p.0)
+step_in_place Halted machine s done after p = (ap (λ (v : Done). v.location) p.0, ap (λ (v : Done). v.word) p.0)
+
+pub place_told : (machine : Machine) (s : State) (event : Event) (done : Done) (after : State) → Steps machine s event done after
+    → (done.location ≡ s.location) × (done.word ≡ word_here s)
+place_told machine s Step done after p = step_in_place s.phase machine s done after p
+place_told machine s Pulse done after p = (ap (λ (v : Done). v.location) p.0, ap (λ (v : Done). v.word) p.0)
+place_told machine s (Put address word) done after p = (ap (λ (v : Done). v.location) p.0, ap (λ (v : Done). v.word) p.0)

@@ -1,0 +1,137 @@
+-- DLY alone begins waiting, and a word that is no order alone halts.
+use Rattle.std.proofs.Common.{◌≡◌, ◌≢◌, ℕ, refl, sym, ap, subst, ◌∙◌, ◌⊎◌, ⊎_elim, inl, inr}
+use Rattle.std.specs.Prelude.{Bool, true, false, Option, Some, None, nat_eq, int_lt, pos, if◌then◌else◌}
+use Rattle.ags_word.specs.Word.{val}
+use Rattle.ags_word.specs.Long.{divided, long}
+use Rattle.ags_isa.specs.declared.orders.Order.{Order}
+use Rattle.ags_isa.specs.declared.orders.Order.TheVariants.{Abs, Add, Adz, Als, Axt, Cla, Clz, Com, Dly, Dvp, Inp, Ldq, Lls, Lrs, Mpr, Mpy, Mpz, Out, Sto, Stq, Sub, Suz, Tix, Tmi, Tov, Tra, Tsq}
+use Rattle.ags_isa.specs.declared.decoding.Decoded.{Decoded}
+use Rattle.ags_isa.specs.Naming.{Names, IsDecoding}
+use Rattle.ags_ports.specs.declared.events.Phase.{Phase}
+use Rattle.ags_ports.specs.declared.events.Phase.TheVariants.{Running, Waiting, Halted}
+use Rattle.ags_ports.specs.declared.events.Event.{Event}
+use Rattle.ags_ports.specs.declared.events.Event.TheVariants.{Step, Pulse, Put}
+use Rattle.ags_ports.specs.declared.events.Done.{Done}
+use Rattle.ags_ports.specs.declared.machines.Machine.{Machine}
+use Rattle.ags_ports.specs.State.{State, cell, word_here}
+use Rattle.ags_ports.specs.Effect.{effect, effective, divides}
+use Rattle.ags_ports.specs.Step.{Obeys, StepsIn, Steps, Reads, NamesNone, idle, pulsed}
+
+chosen_phase : (b : Bool) (t u : State) (phase : Phase) → t.phase ≡ phase → u.phase ≡ phase → (if b then t else u).phase ≡ phase
+chosen_phase true t u phase p r = p
+chosen_phase false t u phase p r = r
+
+divides_phase : (s : State) (quotient : Option ℕ) → (divides s quotient).after.phase ≡ s.phase
+divides_phase s None = refl
+divides_phase s (Some w) = refl
+
+-- an order lets the phase be, or it is DLY
+effect_phase : (machine : Machine) (s : State) (order : Order) (e y : ℕ)
+    → ((effect machine s order e y).after.phase ≡ s.phase) ⊎ ((order ≡ Dly) × ((effect machine s order e y).after.phase ≡ Waiting))
+effect_phase machine s Cla e y = inl refl
+effect_phase machine s Ldq e y = inl refl
+effect_phase machine s Sto e y = inl refl
+effect_phase machine s Stq e y = inl refl
+effect_phase machine s Add e y = inl refl
+effect_phase machine s Sub e y = inl refl
+effect_phase machine s Clz e y = inl refl
+effect_phase machine s Adz e y = inl refl
+effect_phase machine s Suz e y = inl refl
+effect_phase machine s Com e y = inl refl
+effect_phase machine s Abs e y = inl refl
+effect_phase machine s Als e y = inl refl
+effect_phase machine s Mpy e y = inl refl
+effect_phase machine s Mpr e y = inl refl
+effect_phase machine s Mpz e y = inl refl
+effect_phase machine s Dvp e y = inl (divides_phase s (divided (long s.a s.q) (cell s e)))
+effect_phase machine s Lrs e y = inl refl
+effect_phase machine s Lls e y = inl refl
+effect_phase machine s Tra e y = inl refl
+effect_phase machine s Tmi e y = inl (chosen_phase (int_lt (val s.a) (pos 0)) _ _ s.phase refl refl)
+effect_phase machine s Tov e y = inl (chosen_phase s.indicator _ _ s.phase refl refl)
+effect_phase machine s Tix e y = inl (chosen_phase (nat_eq s.index 0) _ _ s.phase refl refl)
+effect_phase machine s Axt e y = inl refl
+effect_phase machine s Tsq e y = inl refl
+effect_phase machine s Inp e y = inl refl
+effect_phase machine s Out e y = inl refl
+effect_phase machine s Dly e y = inr (refl, refl)
+
+running_waits : Running ≡ Waiting → ⊥
+running_waits h = cc
+
+running_halted : Running ≡ Halted → ⊥
+running_halted h = cc
+
+waiting_halted : Waiting ≡ Halted → ⊥
+waiting_halted h = cc
+
+halted_waits : Halted ≡ Waiting → ⊥
+halted_waits h = cc
+
+-- ---- DLY alone begins waiting
+
+obeys_waits : (machine : Machine) (s : State) (named : Option Decoded) (done : Done) (after : State) → s.phase ≡ Running → IsDecoding machine.codes (word_here s) named
+    → Obeys machine s named done after → after.phase ≡ Waiting → Reads machine s Dly
+obeys_waits machine s (Some d) done after running names p waits = ⊎_elim
+    (λ same. absurd (running_waits (sym running ∙ sym same ∙ sym (ap (λ (v : State). v.phase) p.1) ∙ waits)))
+    (λ dly. record { running = running; indexed = d.indexed; address = d.address; names = subst (λ (o : Order). Names machine.codes (word_here s) o d.indexed d.address) dly.0 names })
+    (effect_phase machine s d.order (effective s d.order d.indexed d.address) d.address)
+obeys_waits machine s None done after running names p waits = absurd (halted_waits (sym (ap (λ (v : State). v.phase) p.1) ∙ waits))
+
+step_in_waits : (phase : Phase) (machine : Machine) (s : State) (done : Done) (after : State) → s.phase ≡ phase → s.phase ≢ Waiting
+    → StepsIn phase machine s done after → after.phase ≡ Waiting → Reads machine s Dly
+step_in_waits Running machine s done after is before p waits = obeys_waits machine s p.0 done after is p.1 p.2 waits
+step_in_waits Waiting machine s done after is before p waits = absurd (before is)
+step_in_waits Halted machine s done after is before p waits = absurd (before (sym (ap (λ (v : State). v.phase) p.1) ∙ waits))
+
+pulsed_waits : (phase : Phase) → pulsed phase ≡ Waiting → ⊥
+pulsed_waits Running h = running_waits h
+pulsed_waits Waiting h = running_waits h
+pulsed_waits Halted h = halted_waits h
+
+pub dly_waits : (machine : Machine) (s : State) (event : Event) (done : Done) (after : State) → Steps machine s event done after
+    → s.phase ≢ Waiting → after.phase ≡ Waiting → (event ≡ Step) × Reads machine s Dly
+dly_waits machine s Step done after p before waits = (refl, step_in_waits s.phase machine s done after refl before p waits)
+dly_waits machine s Pulse done after p before waits = absurd (pulsed_waits s.phase (sym (ap (λ (v : State). v.phase) p.1) ∙ waits))
+dly_waits machine s (Put address word) done after p before waits = absurd (before (sym (ap (λ (v : State). v.phase) p.1) ∙ waits))
+
+-- ---- a word that is no order alone halts
+
+obeys_halts : (machine : Machine) (s : State) (named : Option Decoded) (done : Done) (after : State) → s.phase ≡ Running → IsDecoding machine.codes (word_here s) named
+    → Obeys machine s named done after → after.phase ≡ Halted → NamesNone machine s
+obeys_halts machine s (Some d) done after running names p halts = ⊎_elim
+    (λ same. absurd (running_halted (sym running ∙ sym same ∙ sym (ap (λ (v : State). v.phase) p.1) ∙ halts)))
+    (λ dly. absurd (waiting_halted (sym dly.1 ∙ sym (ap (λ (v : State). v.phase) p.1) ∙ halts)))
+    (effect_phase machine s d.order (effective s d.order d.indexed d.address) d.address)
+obeys_halts machine s None done after running none p halts = none
+
+step_in_halts : (phase : Phase) (machine : Machine) (s : State) (done : Done) (after : State) → s.phase ≡ phase → s.phase ≢ Halted
+    → StepsIn phase machine s done after → after.phase ≡ Halted → (s.phase ≡ Running) × NamesNone machine s
+step_in_halts Running machine s done after is before p halts = (is, obeys_halts machine s p.0 done after is p.1 p.2 halts)
+step_in_halts Waiting machine s done after is before p halts = absurd (before (sym (ap (λ (v : State). v.phase) p.1) ∙ halts))
+step_in_halts Halted machine s done after is before p halts = absurd (before is)
+
+pulsed_halts : (phase : Phase) → pulsed phase ≡ Halted → phase ≡ Halted
+pulsed_halts Running h = absurd (running_halted h)
+pulsed_halts Waiting h = absurd (running_halted h)
+pulsed_halts Halted h = refl
+
+pub no_order_halts : (machine : Machine) (s : State) (event : Event) (done : Done) (after : State) → Steps machine s event done after
+    → s.phase ≢ Halted → after.phase ≡ Halted → (event ≡ Step) × (s.phase ≡ Running) × NamesNone machine s
+no_order_halts machine s Step done after p before halts =
+    let there = step_in_halts s.phase machine s done after refl before p halts in (refl, there.0, there.1)
+no_order_halts machine s Pulse done after p before halts = absurd (before (pulsed_halts s.phase (sym (ap (λ (v : State). v.phase) p.1) ∙ halts)))
+no_order_halts machine s (Put address word) done after p before halts = absurd (before (sym (ap (λ (v : State). v.phase) p.1) ∙ halts))
+
+-- ---- and there nothing else changes
+
+obeys_none : (machine : Machine) (s : State) (named : Option Decoded) (done : Done) (after : State) → IsDecoding machine.codes (word_here s) named
+    → Obeys machine s named done after → NamesNone machine s → (done ≡ idle s) × (after ≡ record s { phase = Halted })
+obeys_none machine s (Some d) done after names p none = absurd (none d.order d.indexed d.address names)
+obeys_none machine s None done after names p none = p
+
+pub halted_at_no_order : (machine : Machine) (s : State) (done : Done) (after : State) → s.phase ≡ Running → NamesNone machine s
+    → Steps machine s Step done after → (done ≡ idle s) × (after ≡ record s { phase = Halted })
+halted_at_no_order machine s done after running none p =
+    let q = subst (λ (phase : Phase). StepsIn phase machine s done after) running p in
+    obeys_none machine s q.0 done after q.1 q.2 none
