@@ -1,11 +1,6 @@
--- What a steady shelf stands for.
+-- Files in a list, each with its name and its bytes.
 use Rattle.std.specs.Prelude.{◌≡◌, ◌≢◌, ℕ, List, [], ◌∷◌, Option, Some, None, if◌then◌else◌}
 use Rattle.std.specs.Str.{bytes_eq}
-
--- the files of a shelf, each with its name and its bytes, and how often a file was found absent
-pub record Files : Type 0 where
-  pub files : List (List ℕ × List ℕ)
-  pub absences : ℕ
 
 -- the bytes of the first file of that name, and nothing where there is none
 abbrev pub bytes_of : List (List ℕ × List ℕ) → List ℕ → Option (List ℕ)

@@ -5,4 +5,5 @@ pub mod Fetch
 pub mod Send
 pub mod Files
 pub mod StoredFile
-pub mod Taking
+pub mod ShelfState
+pub mod SinkState

@@ -30,10 +30,10 @@ pub struct SteadyShelf {
 
 impl Model for SteadyShelf {
     ghost use Rattle.std.specs.Prelude.{map};
-    ghost use Rattle.ags_outside.specs.Files.{Files};
+    ghost use Rattle.ags_outside.specs.ShelfState.{ShelfState};
     ghost use Rattle.ags_outside.specs.StoredFile.{file_of};
 
-    ghost Value = { Files };
+    ghost Value = { ShelfState };
 
     ghost view = { λ shelf. record { files = map file_of shelf.files.items; absences = shelf.absences } };
 }

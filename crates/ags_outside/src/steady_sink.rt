@@ -16,9 +16,9 @@ pub struct SteadySink {
 
 impl Model for SteadySink {
     ghost use Rattle.std.specs.Prelude.{◌≤◌};
-    ghost use Rattle.ags_outside.specs.Taking.{Taking};
+    ghost use Rattle.ags_outside.specs.SinkState.{SinkState};
 
-    ghost Value = { Taking };
+    ghost Value = { SinkState };
 
     ghost view = { λ sink. record { bytes = sink.taken.items; most = sink.most } };
 

@@ -10,7 +10,7 @@ use Rattle.ags_ports.specs.Run.{Moment, Run, last_state}
 use Rattle.ags_ports.proofs.RunLemmas.{some_run, one_run, run-append}
 use Rattle.ags_run.specs.declared.plain.Plain.{Plain}
 use Rattle.ags_run.specs.declared.plain.Plain.TheVariants.{Step, Pulse, Set, ShowReg, ShowCell, ShowOut}
-use Rattle.ags_run.specs.Played.{MakesEvents, Plays, shown}
+use Rattle.ags_run.specs.Played.{MakesEvents, Plays, shown_text}
 
 pub last_state-append : (s : State) (ms ns : List Moment) → last_state s (ms ++ ns) ≡ last_state (last_state s ms) ns
 last_state-append s [] ns = refl
@@ -38,7 +38,7 @@ some_play machine s (command ∷ commands) =
     let made = some_made machine s command in
     let run = some_run machine s made.0 in
     let rest = some_play machine (last_state s run.0) commands in
-    (made.0 ++ rest.0, shown machine command (last_state s run.0) ++ rest.1, (made.0, run.0, rest.0, rest.1, made.1, run.1, refl, refl, rest.2))
+    (made.0 ++ rest.0, shown_text machine command (last_state s run.0) ++ rest.1, (made.0, run.0, rest.0, rest.1, made.1, run.1, refl, refl, rest.2))
 
 joined : {A : Type 0} (xs ys zs ws : List A) → xs ≡ ys → zs ≡ ws → xs ++ zs ≡ ys ++ ws
 joined {A} xs ys zs ws p r = rw (p, r) refl
@@ -50,9 +50,9 @@ one_play machine s (command ∷ commands) events others text other h p r =
     let made : p.0 ≡ r.0 = one_made machine s command p.0 r.0 p.4 r.4 in
     let moments : p.1 ≡ r.1 = one_run machine s p.0 p.1 r.1 h p.5 (subst (λ (es : List Event). Run machine s es r.1) (sym made) r.5) in
     let rest = one_play machine (last_state s p.1) commands p.2 r.2 p.3 r.3 h p.8 (subst (λ (ms : List Moment). Plays machine (last_state s ms) commands r.2 r.3) (sym moments) r.8) in
-    let line = ap (λ (ms : List Moment). shown machine command (last_state s ms)) moments in (
+    let line = ap (λ (ms : List Moment). shown_text machine command (last_state s ms)) moments in (
       p.6 ∙ joined p.0 r.0 p.2 r.2 made rest.0 ∙ sym r.6,
-      p.7 ∙ joined (shown machine command (last_state s p.1)) (shown machine command (last_state s r.1)) p.3 r.3 line rest.1 ∙ sym r.7,
+      p.7 ∙ joined (shown_text machine command (last_state s p.1)) (shown_text machine command (last_state s r.1)) p.3 r.3 line rest.1 ∙ sym r.7,
     )
 
 pub play_runs : (machine : Machine) (s : State) (commands : List Plain) (events : List Event) (text : List ℕ) → Plays machine s commands events text → (moments : List Moment) × Run machine s events moments
@@ -70,7 +70,7 @@ pub play_split : (machine : Machine) (s : State) (first second : List Plain) (ev
 play_split machine s [] second events text p = ([], events, [], [], text, refl, refl, (refl, refl), tt, p)
 play_split machine s (command ∷ first) second events text p =
     let cut = play_split machine (last_state s p.1) first second p.2 p.3 p.8 in
-    let line = shown machine command (last_state s p.1) in (
+    let line = shown_text machine command (last_state s p.1) in (
       p.0 ++ cut.0,
       cut.1,
       p.1 ++ cut.2,

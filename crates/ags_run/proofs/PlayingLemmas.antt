@@ -15,20 +15,20 @@ use Rattle.ags_outside.specs.Sink.{appended, appended_nothing, appended_twice, W
 use Rattle.ags_run.specs.declared.plain.Plain.{Plain}
 use Rattle.ags_run.specs.declared.plain.Plain.TheVariants.{Step, Pulse, Set, ShowReg, ShowCell, ShowOut}
 use Rattle.ags_run.specs.declared.playing.Played.{Played}
-use Rattle.ags_run.specs.For.{IsFor, SuitsMachine, step_count}
-use Rattle.ags_run.specs.Played.{MakesEvents, Plays, shown, is_step, is_put, PlayedWhole, PlayedInPart}
-use Rattle.ags_run.specs.Made.{Runs, RunsCommand, put_count}
+use Rattle.ags_run.specs.Playable.{IsPlayable, IsPlayableCommand, step_count}
+use Rattle.ags_run.specs.Played.{MakesEvents, Plays, shown_text, is_step, is_put, PlayedWhole, PlayedInPart}
+use Rattle.ags_run.specs.Made.{RunsTo, CommandRunsTo, put_count}
 use Rattle.ags_run.proofs.PlayLemmas.{last_state-append, some_play, play_runs}
 
 -- ---- an event further
 
-pub runs_none : (machine : Machine) (s : State) → Runs machine s [] s
+pub runs_none : (machine : Machine) (s : State) → RunsTo machine s [] s
 runs_none machine s = record { moments = []; run = tt; ends = refl }
 
-pub runs_one : (machine : Machine) (s after : State) (e : Event) (done : Done) → Steps machine s e done after → Runs machine s (e ∷ []) after
+pub runs_one : (machine : Machine) (s after : State) (e : Event) (done : Done) → Steps machine s e done after → RunsTo machine s (e ∷ []) after
 runs_one machine s after e done step = record { moments = record { done = done; after = after } ∷ []; run = (step, tt); ends = refl }
 
-pub runs_more : (machine : Machine) (s mid after : State) (events : List Event) (e : Event) (done : Done) → Runs machine s events mid → Steps machine mid e done after → Runs machine s (events ++ e ∷ []) after
+pub runs_more : (machine : Machine) (s mid after : State) (events : List Event) (e : Event) (done : Done) → RunsTo machine s events mid → Steps machine mid e done after → RunsTo machine s (events ++ e ∷ []) after
 runs_more machine s mid after events e done so step =
     let last : List Moment = record { done = done; after = after } ∷ [] in
     let here = subst (λ (t : State). Steps machine t e done after) so.ends step in
@@ -39,9 +39,9 @@ runs_more machine s mid after events e done so step =
     }
 
 -- one step more
-pub runs_step : (machine : Machine) (s mid after : State) (count : ℕ) (done : Done) → Runs machine s (replicate count event.Step) mid → Steps machine mid event.Step done after → Runs machine s (replicate (count + 1) event.Step) after
+pub runs_step : (machine : Machine) (s mid after : State) (count : ℕ) (done : Done) → RunsTo machine s (replicate count event.Step) mid → Steps machine mid event.Step done after → RunsTo machine s (replicate (count + 1) event.Step) after
 runs_step machine s mid after count done so step =
-    subst (λ (es : List Event). Runs machine s es after) (replicate_more count event.Step) (runs_more machine s mid after (replicate count event.Step) event.Step done so step)
+    subst (λ (es : List Event). RunsTo machine s es after) (replicate_more count event.Step) (runs_more machine s mid after (replicate count event.Step) event.Step done so step)
 
 -- ---- how many events of a kind
 
@@ -88,10 +88,10 @@ count_by-append {X} p xs ys = sum_by-append (λ (x : X). cond (p x) 1 0) xs ys
 rest-more : (script : List Plain) (i : ℕ) (command : Plain) → i < length script → command ≡ get_or script i command → drop i script ≡ command ∷ drop (i + 1) script
 rest-more script i command within is = drop_more script i command within ∙ ap (λ (x : Plain). x ∷ drop (i + 1) script) (sym is)
 
-plays_first : (machine : Machine) (s after : State) (command : Plain) (commands : List Plain) (later : List Event) (rest : List ℕ) (so : RunsCommand machine s command after)
-    → Plays machine after commands later rest → Plays machine s (command ∷ commands) (so.made ++ later) (shown machine command after ++ rest)
+plays_first : (machine : Machine) (s after : State) (command : Plain) (commands : List Plain) (later : List Event) (rest : List ℕ) (so : CommandRunsTo machine s command after)
+    → Plays machine after commands later rest → Plays machine s (command ∷ commands) (so.made ++ later) (shown_text machine command after ++ rest)
 plays_first machine s after command commands later rest so p =
-    let line = ap (λ (t : State). shown machine command t ++ rest) so.runs.ends in
+    let line = ap (λ (t : State). shown_text machine command t ++ rest) so.runs.ends in
     (so.made, so.runs.moments, later, rest, so.makes, so.runs.run, refl, line, subst (λ (t : State). Plays machine t commands later rest) so.runs.ends p)
 
 -- The first i commands were played, and what is left is played from here.
@@ -105,7 +105,7 @@ pub record Playing (machine : Machine) (start : State) (script : List Plain) (ol
   pub few_steps : steps + sum_by step_count (drop i script) ≤ 100000000
   pub few_puts : puts ≤ i
 
-pub Playing-none : (machine : Machine) (start : State) (script : List Plain) (old : Option (List ℕ)) → IsFor machine script → Playing machine start script old old start 0 0 0
+pub Playing-none : (machine : Machine) (start : State) (script : List Plain) (old : Option (List ℕ)) → IsPlayable machine script → Playing machine start script old old start 0 0 0
 Playing-none machine start script old is = record {
   events = [];
   text = [];
@@ -117,29 +117,29 @@ Playing-none machine start script old is = record {
   few_puts = omega arith;
 }
 
--- the next command suits the machine, and its steps and puts can be counted
-pub Playing-next : (machine : Machine) (start : State) (script : List Plain) (old now : Option (List ℕ)) (here : State) (steps puts i : ℕ) (command : Plain) → IsFor machine script → Playing machine start script old now here steps puts i
-    → i < length script → command ≡ get_or script i command → SuitsMachine machine command × (steps + step_count command ≤ 100000000) × (puts + put_count command ≤ i + 1)
+-- the next command is playable, and its steps and puts can be counted
+pub Playing-next : (machine : Machine) (start : State) (script : List Plain) (old now : Option (List ℕ)) (here : State) (steps puts i : ℕ) (command : Plain) → IsPlayable machine script → Playing machine start script old now here steps puts i
+    → i < length script → command ≡ get_or script i command → IsPlayableCommand machine command × (steps + step_count command ≤ 100000000) × (puts + put_count command ≤ i + 1)
 Playing-next machine start script old now here steps puts i command kept so within is =
     let cut = rest-more script i command within is in
     let few = rw cut at so.few_steps in
-    (subst (SuitsMachine machine) (sym is) (kept.each i command within), omega (arith, few, sum_by-cons step_count command (drop (i + 1) script)), omega (arith, so.few_puts, few_puts command))
+    (subst (IsPlayableCommand machine) (sym is) (kept.each i command within), omega (arith, few, sum_by-cons step_count command (drop (i + 1) script)), omega (arith, so.few_puts, few_puts command))
 
 -- its play, before the play of what is left behind it
 goes_further : (machine : Machine) (start : State) (script : List Plain) (old now : Option (List ℕ)) (here after : State) (steps puts i : ℕ) (command : Plain) (so : Playing machine start script old now here steps puts i)
-    → i < length script → command ≡ get_or script i command → (does : RunsCommand machine here command after) (later : List Event) (rest : List ℕ) → Plays machine after (drop (i + 1) script) later rest
-    → Plays machine start script (so.events ++ (does.made ++ later)) (so.text ++ (shown machine command after ++ rest))
+    → i < length script → command ≡ get_or script i command → (does : CommandRunsTo machine here command after) (later : List Event) (rest : List ℕ) → Plays machine after (drop (i + 1) script) later rest
+    → Plays machine start script (so.events ++ (does.made ++ later)) (so.text ++ (shown_text machine command after ++ rest))
 goes_further machine start script old now here after steps puts i command so within is does later rest p =
     let first = plays_first machine here after command (drop (i + 1) script) later rest does p in
-    so.goes_on (does.made ++ later) (shown machine command after ++ rest)
-    (subst (λ (cs : List Plain). Plays machine here cs (does.made ++ later) (shown machine command after ++ rest)) (sym (rest-more script i command within is)) first)
+    so.goes_on (does.made ++ later) (shown_text machine command after ++ rest)
+    (subst (λ (cs : List Plain). Plays machine here cs (does.made ++ later) (shown_text machine command after ++ rest)) (sym (rest-more script i command within is)) first)
 
 -- the next command was played
 pub Playing-more : (machine : Machine) (start : State) (script : List Plain) (old now new : Option (List ℕ)) (here after : State) (steps puts more_steps more_puts i : ℕ) (command : Plain) → Playing machine start script old now here steps puts i
-    → i < length script → command ≡ get_or script i command → RunsCommand machine here command after → new ≡ appended now (shown machine command after)
+    → i < length script → command ≡ get_or script i command → CommandRunsTo machine here command after → new ≡ appended now (shown_text machine command after)
     → more_steps ≡ steps + step_count command → more_puts ≡ puts + put_count command → Playing machine start script old new after more_steps more_puts (i + 1)
 Playing-more machine start script old now new here after steps puts more_steps more_puts i command so within is does sent counts_steps counts_puts =
-    let line = shown machine command after in
+    let line = shown_text machine command after in
     let cut = rest-more script i command within is in
     let few = rw cut at so.few_steps in
     record {
@@ -157,10 +157,10 @@ Playing-more machine start script old now new here after steps puts more_steps m
 
 -- its line failed
 pub Playing-front : (machine : Machine) (start : State) (script : List Plain) (old now new : Option (List ℕ)) (here after : State) (steps puts i : ℕ) (command : Plain) → Playing machine start script old now here steps puts i
-    → i < length script → command ≡ get_or script i command → RunsCommand machine here command after → WroteFront now new (shown machine command after) → PlayedInPart machine start script old new
+    → i < length script → command ≡ get_or script i command → CommandRunsTo machine here command after → WroteFront now new (shown_text machine command after) → PlayedInPart machine start script old new
 Playing-front machine start script old now new here after steps puts i command so within is does front =
     let left = some_play machine after (drop (i + 1) script) in
-    let line = shown machine command after in
+    let line = shown_text machine command after in
     let plays = goes_further machine start script old now here after steps puts i command so within is does left.0 left.1 left.2 in
     let run = play_runs machine start script (so.events ++ (does.made ++ left.0)) (so.text ++ (line ++ left.1)) plays in
     record {

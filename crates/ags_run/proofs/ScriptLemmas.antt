@@ -22,7 +22,7 @@ use Rattle.ags_run.specs.declared.reading.LineReading.TheVariants.{Command, Skip
 use Rattle.ags_run.specs.declared.script_error.ScriptKind.{ScriptKind}
 use Rattle.ags_run.specs.declared.script_error.ScriptError.{ScriptError}
 use Rattle.ags_run.specs.declared.script_error.ScriptError.TheVariants.{At, NoMemory}
-use Rattle.ags_run.specs.For.{SuitsMachine, step_count, IsFor}
+use Rattle.ags_run.specs.Playable.{IsPlayableCommand, step_count, IsPlayable}
 use Rattle.ags_run.specs.Spelling.{Spells}
 use Rattle.ags_run.specs.Reading.{IsReading, AreReadings, command_of, reading_steps}
 use Rattle.ags_run.specs.Script.{port_fault, command_fault, fault_after, line_fault, IsScript, IsFaultyScript, IsRefused}
@@ -36,14 +36,14 @@ port_found : (found : Option ℕ) → port_fault found ≡ None → (place : ℕ
 port_found None fault = absurd cc
 port_found (Some place) fault = (place, refl)
 
--- it suits the machine
-command_suits : (machine : Machine) (line : List ℕ) (steps : ℕ) (command : Plain) → Spells line command → command_fault machine steps command ≡ None → SuitsMachine machine command
-command_suits machine line steps (Step count) spells fault = tt
-command_suits machine line steps Pulse spells fault = tt
-command_suits machine line steps (Set address word) spells fault = port_found _ fault
-command_suits machine line steps ShowReg spells fault = tt
-command_suits machine line steps (ShowCell address) spells fault = small_address spells.states.0 address spells.states.1
-command_suits machine line steps (ShowOut address) spells fault = (small_address spells.states.0 address spells.states.1, port_found _ fault)
+-- it is playable
+playable_command : (machine : Machine) (line : List ℕ) (steps : ℕ) (command : Plain) → Spells line command → command_fault machine steps command ≡ None → IsPlayableCommand machine command
+playable_command machine line steps (Step count) spells fault = tt
+playable_command machine line steps Pulse spells fault = tt
+playable_command machine line steps (Set address word) spells fault = port_found _ fault
+playable_command machine line steps ShowReg spells fault = tt
+playable_command machine line steps (ShowCell address) spells fault = small_address spells.states.0 address spells.states.1
+playable_command machine line steps (ShowOut address) spells fault = (small_address spells.states.0 address spells.states.1, port_found _ fault)
 
 -- and with it the steps are not too many
 command_steps : (machine : Machine) (steps : ℕ) (command : Plain) → steps ≤ 100000000 → command_fault machine steps command ≡ None → steps + step_count command ≤ 100000000
@@ -69,13 +69,13 @@ abbrev pub kept : Option Plain → List Plain
 kept None = []
 kept (Some command) = command ∷ []
 
-no_commands : (machine : Machine) → All (SuitsMachine machine) []
+no_commands : (machine : Machine) → All (IsPlayableCommand machine) []
 no_commands machine k d lt = absurd (omega arith)
 
-kept_suits : (machine : Machine) (line : List ℕ) (steps : ℕ) (reading : LineReading) → IsReading line reading → fault_after machine steps reading ≡ None → All (SuitsMachine machine) (kept (command_of reading))
-kept_suits machine line steps (Command command) is fault = All-push (SuitsMachine machine) [] command (no_commands machine) (command_suits machine line steps command is fault)
-kept_suits machine line steps Skipped is fault = no_commands machine
-kept_suits machine line steps Malformed is fault = no_commands machine
+kept_playable : (machine : Machine) (line : List ℕ) (steps : ℕ) (reading : LineReading) → IsReading line reading → fault_after machine steps reading ≡ None → All (IsPlayableCommand machine) (kept (command_of reading))
+kept_playable machine line steps (Command command) is fault = All-push (IsPlayableCommand machine) [] command (no_commands machine) (playable_command machine line steps command is fault)
+kept_playable machine line steps Skipped is fault = no_commands machine
+kept_playable machine line steps Malformed is fault = no_commands machine
 
 kept_steps : (reading : LineReading) → sum_by step_count (kept (command_of reading)) ≡ reading_steps reading
 kept_steps (Command command) = sum_by-cons step_count command [] ∙ omega arith
@@ -98,7 +98,7 @@ pub record SoFar (machine : Machine) (text : List ℕ) (left : List LineAt) (com
   pub steps_are : steps ≡ sum_by reading_steps read.before
   pub most : steps ≤ 100000000
   pub commands_are : commands ≡ filter_map command_of read.readings
-  pub suits : All (SuitsMachine machine) commands
+  pub playable : All (IsPlayableCommand machine) commands
   pub commands_steps : sum_by step_count commands ≡ steps
   pub so_many : number ≡ length read.before
 
@@ -108,7 +108,7 @@ SoFar-none machine text follow = record {
   steps_are = refl;
   most = omega arith;
   commands_are = refl;
-  suits = no_commands machine;
+  playable = no_commands machine;
   commands_steps = refl;
   so_many = refl;
 }
@@ -124,7 +124,7 @@ SoFar-more machine text left commands number steps now line reading so is fault 
       steps_are = omega (arith, now_is, so.steps_are, sum_by-cons reading_steps reading so.read.before);
       most = rw (now_is) (reading_most machine steps reading so.most fault);
       commands_are = rw (commands-push, so.commands_are) refl;
-      suits = All-append (SuitsMachine machine) commands (kept (command_of reading)) so.suits (kept_suits machine line.bytes steps reading is fault);
+      playable = All-append (IsPlayableCommand machine) commands (kept (command_of reading)) so.playable (kept_playable machine line.bytes steps reading is fault);
       commands_steps = omega (arith, now_is, so.commands_steps, sum_by-append step_count commands (kept (command_of reading)), kept_steps reading);
       so_many = omega (arith, so.so_many);
     }
@@ -159,10 +159,10 @@ SoFar-all machine text commands number steps so =
     let all = read-all IsReading (line_fault machine) text (lines_of text) so.read in
     record { readings = so.read.readings; are_readings = all.1; faultless = all.2; commands_are = so.commands_are }
 
-pub SoFar-suits : (machine : Machine) (text : List ℕ) (left : List LineAt) (commands : List Plain) (number steps : ℕ) → SoFar machine text left commands number steps → IsFor machine commands
-SoFar-suits machine text left commands number steps so = record { each = so.suits; steps = omega (arith, so.commands_steps, so.most) }
+pub SoFar-playable : (machine : Machine) (text : List ℕ) (left : List LineAt) (commands : List Plain) (number steps : ℕ) → SoFar machine text left commands number steps → IsPlayable machine commands
+SoFar-playable machine text left commands number steps so = record { each = so.playable; steps = omega (arith, so.commands_steps, so.most) }
 
--- ---- a script's commands are for its machine
+-- ---- a script's commands are playable on its machine
 
 -- the first of faultless readings has no fault, and those behind it have none
 faultless_first : (machine : Machine) (before : List LineReading) (reading : LineReading) (rest : List LineReading) → first_fault (line_fault machine) before (reading ∷ rest) ≡ None
@@ -178,26 +178,26 @@ commands-cons (Command command) readings = refl
 commands-cons Skipped readings = refl
 commands-cons Malformed readings = refl
 
--- what faultless lines spell suits the machine, and with the lines before them their steps are not too many
-commands_suit : (machine : Machine) (lines : List LineAt) (readings before : List LineReading) → AreReadings lines readings → sum_by reading_steps before ≤ 100000000 → first_fault (line_fault machine) before readings ≡ None
-    → All (SuitsMachine machine) (filter_map command_of readings) × (sum_by reading_steps before + sum_by step_count (filter_map command_of readings) ≤ 100000000)
-commands_suit machine [] [] before are most none = (no_commands machine, omega arith)
-commands_suit machine [] (reading ∷ readings) before are most none = absurd are
-commands_suit machine (line ∷ lines) [] before are most none = absurd are
-commands_suit machine (line ∷ lines) (reading ∷ readings) before are most none =
+-- what faultless lines spell is playable, and with the lines before them their steps are not too many
+playable_commands : (machine : Machine) (lines : List LineAt) (readings before : List LineReading) → AreReadings lines readings → sum_by reading_steps before ≤ 100000000 → first_fault (line_fault machine) before readings ≡ None
+    → All (IsPlayableCommand machine) (filter_map command_of readings) × (sum_by reading_steps before + sum_by step_count (filter_map command_of readings) ≤ 100000000)
+playable_commands machine [] [] before are most none = (no_commands machine, omega arith)
+playable_commands machine [] (reading ∷ readings) before are most none = absurd are
+playable_commands machine (line ∷ lines) [] before are most none = absurd are
+playable_commands machine (line ∷ lines) (reading ∷ readings) before are most none =
     let split = faultless_first machine before reading readings none in
     let more : sum_by reading_steps (reading ∷ before) ≤ 100000000 = omega (arith, reading_most machine (sum_by reading_steps before) reading most split.0, sum_by-cons reading_steps reading before) in
-    let rest = commands_suit machine lines readings (reading ∷ before) are.1 more split.1 in
-    let first = kept_suits machine line.bytes (sum_by reading_steps before) reading are.0 split.0 in
+    let rest = playable_commands machine lines readings (reading ∷ before) are.1 more split.1 in
+    let first = kept_playable machine line.bytes (sum_by reading_steps before) reading are.0 split.0 in
     rw (commands-cons reading readings) (
-      All-append (SuitsMachine machine) (kept (command_of reading)) (filter_map command_of readings) first rest.0,
+      All-append (IsPlayableCommand machine) (kept (command_of reading)) (filter_map command_of readings) first rest.0,
       omega (arith, rest.1, kept_steps reading, sum_by-cons reading_steps reading before, sum_by-append step_count (kept (command_of reading)) (filter_map command_of readings)),
     )
 
-pub script_for : (machine : Machine) (text : List ℕ) (commands : List Plain) → IsScript machine text commands → IsFor machine commands
-script_for machine text commands script =
-    let suit = commands_suit machine (lines_of text) script.readings [] script.are_readings (omega arith) script.faultless in
-    rw (script.commands_are) (record { each = suit.0; steps = omega (arith, suit.1) })
+pub playable_script : (machine : Machine) (text : List ℕ) (commands : List Plain) → IsScript machine text commands → IsPlayable machine commands
+playable_script machine text commands script =
+    let playable = playable_commands machine (lines_of text) script.readings [] script.are_readings (omega arith) script.faultless in
+    rw (script.commands_are) (record { each = playable.0; steps = omega (arith, playable.1) })
 
 -- ---- a text is read one way
 

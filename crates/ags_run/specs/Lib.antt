@@ -1,6 +1,6 @@
 pub mod FaultText
 pub mod Field
-pub mod For
+pub mod Playable
 pub mod Reading
 pub mod Script
 pub mod Spelling

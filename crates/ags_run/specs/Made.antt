@@ -9,16 +9,16 @@ use Rattle.ags_run.specs.declared.plain.Plain.TheVariants.{Step, Pulse, Set, Sho
 use Rattle.ags_run.specs.Played.{MakesEvents}
 
 -- the events run from one state to another
-pub record Runs (machine : Machine) (s : State) (events : List Event) (after : State) : Type 0 where
+pub record RunsTo (machine : Machine) (s : State) (events : List Event) (after : State) : Type 0 where
   pub moments : List Moment
   pub run : Run machine s events moments
   pub ends : after ≡ last_state s moments
 
 -- a command's events run from one state to another
-pub record RunsCommand (machine : Machine) (s : State) (command : Plain) (after : State) : Type 0 where
+pub record CommandRunsTo (machine : Machine) (s : State) (command : Plain) (after : State) : Type 0 where
   pub made : List Event
   pub makes : MakesEvents machine s command made
-  pub runs : Runs machine s made after
+  pub runs : RunsTo machine s made after
 
 -- how many words a command puts
 abbrev pub put_count : Plain → ℕ

@@ -25,13 +25,13 @@ MakesEvents machine s (ShowCell address) events = events ≡ []
 MakesEvents machine s (ShowOut address) events = events ≡ []
 
 -- the text that a command prints, by the state after its events: a line where it shows something
-abbrev pub shown : Machine → Plain → State → List ℕ
-shown machine (Step count) s = []
-shown machine Pulse s = []
-shown machine (Set address word) s = []
-shown machine ShowReg s = reg_text s ++ codes "\n"
-shown machine (ShowCell address) s = cell_text address (cell s address) ++ codes "\n"
-shown machine (ShowOut address) s = output_text address (register_at s.outputs (place_of machine.ports.outputs address)) ++ codes "\n"
+abbrev pub shown_text : Machine → Plain → State → List ℕ
+shown_text machine (Step count) s = []
+shown_text machine Pulse s = []
+shown_text machine (Set address word) s = []
+shown_text machine ShowReg s = reg_text s ++ codes "\n"
+shown_text machine (ShowCell address) s = cell_text address (cell s address) ++ codes "\n"
+shown_text machine (ShowOut address) s = output_text address (register_at s.outputs (place_of machine.ports.outputs address)) ++ codes "\n"
 
 -- From this state, the commands make these events and print this text, one command after another: the first makes its
 -- events, they run, it prints by the state that they end in, and the others go on from there.
@@ -40,7 +40,7 @@ Plays machine s [] events text = (events ≡ []) × (text ≡ [])
 Plays machine s (command ∷ commands) events text =
     (made : List Event) × (moments : List Moment) × (later : List Event) × (rest : List ℕ)
     × MakesEvents machine s command made × Run machine s made moments × (events ≡ made ++ later)
-    × (text ≡ shown machine command (last_state s moments) ++ rest) × Plays machine (last_state s moments) commands later rest
+    × (text ≡ shown_text machine command (last_state s moments) ++ rest) × Plays machine (last_state s moments) commands later rest
 
 -- whether an event is a step
 abbrev pub is_step : Event → Bool

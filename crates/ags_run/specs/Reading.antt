@@ -5,7 +5,7 @@ use Rattle.ags_text.specs.Reading.{AreReadingsBy}
 use Rattle.ags_run.specs.declared.plain.Plain.{Plain}
 use Rattle.ags_run.specs.declared.reading.LineReading.{LineReading}
 use Rattle.ags_run.specs.declared.reading.LineReading.TheVariants.{Command, Skipped, Malformed}
-use Rattle.ags_run.specs.For.{step_count}
+use Rattle.ags_run.specs.Playable.{step_count}
 use Rattle.ags_run.specs.Spelling.{Spells, IsSkipped}
 
 -- The reading of a line: it spells a command, or it is skipped, or it does neither.

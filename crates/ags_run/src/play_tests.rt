@@ -2,7 +2,7 @@
 
 ghost use Rattle.std.specs.Prelude.{None};
 ghost use Rattle.ags_ports.specs.Machine.{standard_machine};
-ghost use Rattle.ags_run.specs.For.{IsFor};
+ghost use Rattle.ags_run.specs.Playable.{IsPlayable};
 
 use crate::{Plain, PlayError, Played, play_plain};
 use ags_image::Image;
@@ -27,7 +27,7 @@ fn check(
     steps: u64,
     puts: u64,
 )
-    requires { IsFor standard_machine script.now }
+    requires { IsPlayable standard_machine script.now }
 {
     let machine = Machine::standard();
     let mut image = Image::new(alloc).expect(rt, "memory for an image");

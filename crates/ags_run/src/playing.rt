@@ -9,9 +9,9 @@ ghost use Rattle.ags_core.specs.Core.{start_state};
 ghost use Rattle.ags_outside.specs.Count.{Rose};
 ghost use Rattle.ags_outside.specs.Send.{IsCleanSend};
 ghost use Rattle.ags_outside.specs.Sink.{appended, WroteFront};
-ghost use Rattle.ags_run.specs.For.{IsFor, SuitsMachine, step_count};
-ghost use Rattle.ags_run.specs.Played.{shown, PlayedWhole, PlayedInPart, IsCleanPlay};
-ghost use Rattle.ags_run.specs.Made.{put_count, Runs, RunsCommand};
+ghost use Rattle.ags_run.specs.Playable.{IsPlayable, IsPlayableCommand, step_count};
+ghost use Rattle.ags_run.specs.Played.{shown_text, PlayedWhole, PlayedInPart, IsCleanPlay};
+ghost use Rattle.ags_run.specs.Made.{put_count, RunsTo, CommandRunsTo};
 
 use crate::plain::Plain;
 use crate::shown_lines::{cell_line, output_line, reg_line};
@@ -67,7 +67,7 @@ impl Played {
 fn make_steps(machine: &Machine, core: &mut Core, count: u32)
     requires inputs { length core.old.inputs ≡ length machine.now.ports.inputs }
     requires outputs { length core.old.outputs ≡ length machine.now.ports.outputs }
-    ensures run { Runs machine.now core.old (replicate count event.Step) core.new }
+    ensures run { RunsTo machine.now core.old (replicate count event.Step) core.new }
     ensures inputs { length core.new.inputs ≡ length core.old.inputs }
     ensures outputs { length core.new.outputs ≡ length core.old.outputs }
 {
@@ -80,7 +80,7 @@ fn make_steps(machine: &Machine, core: &mut Core, count: u32)
 fn make_one(machine: &Machine, core: &mut Core, event: Event)
     requires inputs { length core.old.inputs ≡ length machine.now.ports.inputs }
     requires outputs { length core.old.outputs ≡ length machine.now.ports.outputs }
-    ensures run { Runs machine.now core.old (event ∷ []) core.new }
+    ensures run { RunsTo machine.now core.old (event ∷ []) core.new }
     ensures inputs { length core.new.inputs ≡ length core.old.inputs }
     ensures outputs { length core.new.outputs ≡ length core.old.outputs }
 {
@@ -91,7 +91,7 @@ fn make_one(machine: &Machine, core: &mut Core, event: Event)
 fn make_events(machine: &Machine, core: &mut Core, command: &Plain)
     requires inputs { length core.old.inputs ≡ length machine.now.ports.inputs }
     requires outputs { length core.old.outputs ≡ length machine.now.ports.outputs }
-    ensures run { RunsCommand machine.now core.old command.now core.new }
+    ensures run { CommandRunsTo machine.now core.old command.now core.new }
     ensures inputs { length core.new.inputs ≡ length core.old.inputs }
     ensures outputs { length core.new.outputs ≡ length core.old.outputs }
 {
@@ -136,10 +136,10 @@ fn show<K: Sink>(
     command: &Plain,
     out: &mut K,
 ) -> Result<(), SendError>
-    requires suits { SuitsMachine machine.now command.now }
+    requires playable { IsPlayableCommand machine.now command.now }
     requires outputs { length core.now.outputs ≡ length machine.now.ports.outputs }
-    ensures sent { OnOk result (K.told out.new ≡ appended (K.told out.old) (shown machine.now command.now core.now)) }
-    ensures front { OnErr result (WroteFront (K.told out.old) (K.told out.new) (shown machine.now command.now core.now)) }
+    ensures sent { OnOk result (K.told out.new ≡ appended (K.told out.old) (shown_text machine.now command.now core.now)) }
+    ensures front { OnErr result (WroteFront (K.told out.old) (K.told out.new) (shown_text machine.now command.now core.now)) }
     ensures faults_stay { K.faults out.old ≤ K.faults out.new }
     ensures write_fault { IsErrOf result SendError.WriteFault → Rose (K.faults out.old) (K.faults out.new) }
     ensures clean { IsCleanSend result (K.faults out.new ≡ K.faults out.old) }
@@ -164,12 +164,12 @@ fn play_command<K: Sink>(
 ) -> Result<(), SendError>
     requires inputs { length core.old.inputs ≡ length machine.now.ports.inputs }
     requires outputs { length core.old.outputs ≡ length machine.now.ports.outputs }
-    requires suits { SuitsMachine machine.now command.now }
-    ensures run { RunsCommand machine.now core.old command.now core.new }
+    requires playable { IsPlayableCommand machine.now command.now }
+    ensures run { CommandRunsTo machine.now core.old command.now core.new }
     ensures inputs { length core.new.inputs ≡ length core.old.inputs }
     ensures outputs { length core.new.outputs ≡ length core.old.outputs }
-    ensures sent { OnOk result (K.told out.new ≡ appended (K.told out.old) (shown machine.now command.now core.new)) }
-    ensures front { OnErr result (WroteFront (K.told out.old) (K.told out.new) (shown machine.now command.now core.new)) }
+    ensures sent { OnOk result (K.told out.new ≡ appended (K.told out.old) (shown_text machine.now command.now core.new)) }
+    ensures front { OnErr result (WroteFront (K.told out.old) (K.told out.new) (shown_text machine.now command.now core.new)) }
     ensures faults_stay { K.faults out.old ≤ K.faults out.new }
     ensures write_fault { IsErrOf result SendError.WriteFault → Rose (K.faults out.old) (K.faults out.new) }
     ensures clean { IsCleanSend result (K.faults out.new ≡ K.faults out.old) }
@@ -187,7 +187,7 @@ fn play_from<K: Sink>(
 ) -> Result<Played, SendError>
     requires inputs { length core.old.inputs ≡ length machine.now.ports.inputs }
     requires outputs { length core.old.outputs ≡ length machine.now.ports.outputs }
-    requires is_for { IsFor machine.now script.now }
+    requires playable { IsPlayable machine.now script.now }
     ensures played { IfOk result (PlayedWhole machine.now core.old script.now (K.told out.old) (K.told out.new)) }
     ensures front { OnErr result (PlayedInPart machine.now core.old script.now (K.told out.old) (K.told out.new)) }
     ensures faults_stay { K.faults out.old ≤ K.faults out.new }
@@ -212,7 +212,7 @@ pub fn play_plain<K: Sink>(
     script: &[Plain],
     out: &mut K,
 ) -> Result<Played, PlayError>
-    requires { IsFor machine.now script.now }
+    requires { IsPlayable machine.now script.now }
     ensures played { IfOk result (PlayedWhole machine.now (start_state machine.now image.now 2048) script.now (K.told out.old) (K.told out.new)) }
     ensures front { OnErr result (PlayedInPart machine.now (start_state machine.now image.now 2048) script.now (K.told out.old) (K.told out.new)) }
     ensures faults_stay { K.faults out.old ≤ K.faults out.new }

@@ -2,7 +2,7 @@
 
 ghost use Rattle.std.specs.Prelude.{◌≡◌, ◌≤◌, ◌+◌, ◌⊎◌, ℕ, List, Option, Some, None, length, IfOk, IfErr, IsOkAnd, IsErrOf};
 ghost use Rattle.ags_run.specs.declared.script_error.ScriptKind.{ScriptKind};
-ghost use Rattle.ags_run.specs.For.{IsFor, step_count};
+ghost use Rattle.ags_run.specs.Playable.{IsPlayable, step_count};
 ghost use Rattle.ags_run.specs.Reading.{IsReading, command_of, reading_steps};
 ghost use Rattle.ags_run.specs.Script.{port_fault, command_fault, fault_after, IsScript, IsFaultyScript, IsRefused};
 
@@ -82,7 +82,7 @@ fn read_lines(alloc: Global, bytes: &[u8], machine: &Machine) -> Result<Vec<Plai
     requires { length bytes.now ≤ 4194304 }
     ensures read { IfOk result (λ commands. IsScript machine.now bytes.now commands.items) }
     ensures refused { IfErr result (IsRefused machine.now bytes.now) }
-    ensures suits { IfOk result (λ commands. IsFor machine.now commands.items) }
+    ensures suits { IfOk result (λ commands. IsPlayable machine.now commands.items) }
 {
     let mut commands = Vec::new(alloc);
     let mut steps = 0u32;
@@ -120,7 +120,7 @@ pub fn read_plain(alloc: Global, bytes: &[u8], machine: &Machine) -> Result<Vec<
         → IsErrOf result (ScriptError.At line kind) ⊎ IsErrOf result ScriptError.NoMemory }
 
     // Its addresses and its number of steps suit the machine.
-    ensures suits { IfOk result (λ commands. IsFor machine.now commands.items) }
+    ensures suits { IfOk result (λ commands. IsPlayable machine.now commands.items) }
 {
     read_lines(alloc, bytes, machine)
 }

@@ -5,7 +5,7 @@ ghost use Rattle.std.specs.Prelude.{◌≡◌, ◌⊎◌, ℕ, List};
 ghost use Rattle.ags_ports.specs.declared.machines.Machine.{Machine};
 ghost use Rattle.ags_run.specs.declared.plain.Plain.{Plain};
 ghost use Rattle.ags_run.specs.declared.script_error.ScriptKind.{ScriptKind};
-ghost use Rattle.ags_run.specs.For.{IsFor};
+ghost use Rattle.ags_run.specs.Playable.{IsPlayable};
 ghost use Rattle.ags_run.specs.Script.{IsScript, IsFaultyScript};
 
 /// A text means one thing for a machine: it is a script with one list of commands, or it has one first fault, and never
@@ -26,5 +26,5 @@ pub fn script_means_one_thing()
 /// A script's commands have addresses of the machine that it is read for, and no more steps than a script may have.
 pub fn read_script_is_for_its_machine()
     ensures { (machine : Machine) (text : List ℕ) (commands : List Plain) → IsScript machine text commands
-        → IsFor machine commands }
+        → IsPlayable machine commands }
 {}

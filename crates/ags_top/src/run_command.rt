@@ -6,7 +6,7 @@ ghost use Rattle.ags_asm.specs.Phase.{IsInMemory, defined};
 ghost use Rattle.ags_asm.specs.Source.{Defines, EachPlaceOnce};
 ghost use Rattle.ags_outside.specs.Count.{Rose};
 ghost use Rattle.ags_outside.specs.Send.{IsCleanSend};
-ghost use Rattle.ags_run.specs.For.{IsFor};
+ghost use Rattle.ags_run.specs.Playable.{IsPlayable};
 ghost use Rattle.ags_run.specs.Script.{IsScript, IsRefused};
 ghost use Rattle.ags_top.specs.Answer.{IsBadScript, PlaysScript, RunsSource, AnswersCommand};
 ghost use Rattle.ags_top.specs.Command.{Command};
@@ -38,7 +38,7 @@ fn play<K: Sink>(
     out: &mut K,
 ) -> Result<Status, SendError>
     requires standard { machine.now ≡ standard_machine }
-    requires is_for { IsFor machine.now commands.now }
+    requires playable { IsPlayable machine.now commands.now }
     ensures ends { (bytes : List ℕ) → IsScript standard_machine bytes commands.now
         → EndsInPart (PlaysScript image.now bytes) (K.told out.old) (K.told out.new) result }
     ensures rests { IfOk result RestsOnContent }

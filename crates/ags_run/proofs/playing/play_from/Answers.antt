@@ -5,7 +5,7 @@ use Rattle.ags_run.proofs.playing.play_from.Goals as goal
 
 pub loop-command-init : goal.loop-command-init
 loop-command-init g c = record {
-  playing = Playing-none c.args.machine.now c.args.core.now c.args.script.now (g.K.Sink.told c.args.out.now) c.requires.is_for;
+  playing = Playing-none c.args.machine.now c.args.core.now c.args.script.now (g.K.Sink.told c.args.out.now) c.requires.playable;
   inputs = refl;
   outputs = refl;
   faults = refl;
