@@ -83,11 +83,14 @@ impl Codes {
 
     /// The order of a code, and nothing where no order has it.
     pub(crate) fn order_of(&self, code: u8) -> Option<Order>
-        requires { code < 32 }
         ensures found { IfSome result (λ order. code_of self.now order ≡ code) }
         ensures only { (order : Order) → code_of self.now order ≡ code → result ≡ Some order }
     {
-        self.orders[code as usize]
+        if code < 32 {
+            self.orders[code as usize]
+        } else {
+            None
+        }
     }
 }
 
