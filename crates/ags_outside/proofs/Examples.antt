@@ -1,9 +1,11 @@
 -- Worked values of the definitions that the contracts cite.
 use Rattle.std.proofs.Common.{◌≡◌, ◌-◌, ◌^◌, [], ◌∷◌, Some, None, refl, inl, inr, arith}
+use Rattle.ags_outside.specs.declared.shelves.Pull.TheVariants as pull
 use Rattle.ags_outside.specs.declared.sinks.PutDone.TheVariants.{Took, Failed}
 use Rattle.ags_outside.specs.Count.{Rose}
 use Rattle.ags_outside.specs.Files.{bytes_of}
-use Rattle.ags_outside.specs.Sink.{taken_after}
+use Rattle.ags_outside.specs.Shelf.{absences_after}
+use Rattle.ags_outside.specs.Sink.{taken_after, WroteFront}
 
 -- a count of four rose where it is five or more, and not where it is four still or fell
 rose_by_one : Rose 4 5
@@ -47,3 +49,23 @@ took_none = refl
 
 untold : taken_after None (2 ∷ 3 ∷ []) (Took 1) ≡ None
 untold = refl
+
+-- of 1 and 2, a sink that holds 7 took the first, none, or both
+first_written : WroteFront (Some (7 ∷ [])) (Some (7 ∷ 1 ∷ [])) (1 ∷ 2 ∷ [])
+first_written = record { rest = 2 ∷ []; wrote = record { done = 1 ∷ []; told = refl; whole = refl } }
+
+none_written : WroteFront (Some (7 ∷ [])) (Some (7 ∷ [])) (1 ∷ 2 ∷ [])
+none_written = record { rest = 1 ∷ 2 ∷ []; wrote = record { done = []; told = refl; whole = refl } }
+
+both_written : WroteFront (Some (7 ∷ [])) (Some (7 ∷ 1 ∷ 2 ∷ [])) (1 ∷ 2 ∷ [])
+both_written = record { rest = []; wrote = record { done = 1 ∷ 2 ∷ []; told = refl; whole = refl } }
+
+-- a count of absent files is one more after an absence, but for its last value, and no more after an end
+one_absent : absences_after 4 pull.Absent ≡ 5
+one_absent = refl
+
+absent_at_the_last : absences_after (2 ^ 64 - 1) pull.Absent ≡ 2 ^ 64 - 1
+absent_at_the_last = refl
+
+ended : absences_after 4 pull.End ≡ 4
+ended = refl

@@ -1,19 +1,19 @@
 -- Worked values of the definitions that the contracts cite.
 use Rattle.std.proofs.Common.{◌≡◌, [], ◌∷◌, refl, Some, None}
-use Rattle.std.specs.Prelude.{true, false, codes, count_by}
+use Rattle.std.specs.Prelude.{true, false, codes, count_by, ◌++◌}
 use Rattle.ags_text.specs.Numeral.{numeral}
 use Rattle.ags_ports.specs.declared.events.Event.TheVariants as event
 use Rattle.ags_ports.specs.declared.events.Phase.TheVariants.{Running, Halted}
 use Rattle.ags_ports.specs.declared.machines.Machine.{Machine}
 use Rattle.ags_ports.specs.Machine.{standard_machine}
-use Rattle.ags_ports.specs.State.{State}
-use Rattle.ags_run.specs.declared.plain.Plain.TheVariants.{Step, Set, ShowReg, ShowOut}
+use Rattle.ags_ports.specs.State.{State, cell}
+use Rattle.ags_run.specs.declared.plain.Plain.TheVariants.{Step, Set, ShowReg, ShowCell, ShowOut}
 use Rattle.ags_run.specs.declared.script_error.ScriptKind.TheVariants.{NoPort, TooManySteps}
 use Rattle.ags_run.specs.declared.script_error.ScriptError.TheVariants.{NoMemory}
 use Rattle.ags_run.specs.FaultText.{error_text}
 use Rattle.ags_run.specs.Script.{command_fault}
 use Rattle.ags_run.specs.Shown.{reg_text, cell_text, output_text}
-use Rattle.ags_run.specs.Played.{MakesEvents, is_step, is_put}
+use Rattle.ags_run.specs.Played.{MakesEvents, Plays, is_step, is_put}
 
 -- the registers after a sum that overflowed, and in a halt
 overflowed : reg_text (record { a = 0o400000; q = 0; index = 0; indicator = true; location = 0o4002; phase = Running; cells = []; inputs = []; outputs = [] })
@@ -75,3 +75,18 @@ output = refl
 -- want of memory prints nothing
 nothing_printed : error_text NoMemory ≡ []
 nothing_printed = refl
+
+-- what shows makes no event, and each line has its feed
+two_shown : (machine : Machine) (s : State) → Plays machine s (ShowReg ∷ ShowCell 0 ∷ []) []
+    ((reg_text s ++ codes "\n") ++ ((cell_text 0 (cell s 0) ++ codes "\n") ++ []))
+two_shown machine s = (
+  [],
+  [],
+  [],
+  (cell_text 0 (cell s 0) ++ codes "\n") ++ [],
+  refl,
+  tt,
+  refl,
+  refl,
+  ([], [], [], [], refl, tt, refl, refl, (refl, refl)),
+)
