@@ -28,6 +28,9 @@ impl Model for Word {
     ghost inverse = { λ n. record { number = n } };
 }
 
+// No clause can name the constant, so what it is stands here.
+const _: () = prove!(Word::ZERO.number == 0);
+
 impl Word {
     /// The word with no bit set.
     pub const ZERO: Word = Word { number: 0 };
