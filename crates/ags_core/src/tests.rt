@@ -65,60 +65,42 @@ fn number_at(rt: &impl Abort, core: &Core, address: u16) -> u32 {
     core.cell(address).number()
 }
 
+/// A, Q and the cell `0200` before an order, the order's word, the three after it, and whether it overflows.
+type Worked = ([u32; 3], u32, [u32; 3], bool);
+
+/// The worked orders whose address or count is their own.
+const WORKED: [Worked; 12] = [
+    ([0o377777, 3, 1], 0o220200, [0o400000, 3, 1], true),
+    ([0o777777, 3, 1], 0o220200, [0, 3, 1], false),
+    ([5, 3, 7], 0o240200, [0o777776, 3, 7], false),
+    ([0o377777, 3, 1], 0o320200, [0o400000, 3, 0], true),
+    ([0o777776, 3, 1], 0o620000, [2, 3, 1], false),
+    ([0o240000, 3, 1], 0o560002, [0o200000, 3, 1], true),
+    ([0o777777, 0, 1], 0o540001, [0o777777, 0o600000, 1], false),
+    ([0, 1, 1], 0o520021, [1, 0, 1], false),
+    (
+        [0o400000, 3, 0o400000],
+        0o260200,
+        [0o400000, 0o400000, 0o400000],
+        true,
+    ),
+    ([0o200000, 3, 1], 0o160200, [1, 0o200000, 1], false),
+    ([1, 0, 2], 0o020200, [0o200000, 0, 2], false),
+    ([5, 0, 0], 0o020200, [5, 0, 0], true),
+];
+
 #[test]
 fn worked_orders(rt: HostRuntime) {
     let machine = Machine::standard();
-    // A, Q and the cell 0200, the order, then A, Q and the cell, and whether it overflows
-    for (a, q, m, order, a_after, q_after, m_after, over) in [
-        (
-            0o377777, 0o000003, 0o000001, 0o220200, 0o400000, 0o000003, 0o000001, true,
-        ),
-        (
-            0o777777, 0o000003, 0o000001, 0o220200, 0o000000, 0o000003, 0o000001, false,
-        ),
-        (
-            0o000005, 0o000003, 0o000007, 0o240200, 0o777776, 0o000003, 0o000007, false,
-        ),
-        (
-            0o377777, 0o000003, 0o000001, 0o320200, 0o400000, 0o000003, 0o000000, true,
-        ),
-        (
-            0o777776, 0o000003, 0o000001, 0o620000, 0o000002, 0o000003, 0o000001, false,
-        ),
-        (
-            0o240000, 0o000003, 0o000001, 0o560002, 0o200000, 0o000003, 0o000001, true,
-        ),
-        (
-            0o777777, 0o000000, 0o000001, 0o540001, 0o777777, 0o600000, 0o000001, false,
-        ),
-        (
-            0o000000, 0o000001, 0o000001, 0o520021, 0o000001, 0o000000, 0o000001, false,
-        ),
-        (
-            0o400000, 0o000003, 0o400000, 0o260200, 0o400000, 0o400000, 0o400000, true,
-        ),
-        (
-            0o200000, 0o000003, 0o000001, 0o160200, 0o000001, 0o200000, 0o000001, false,
-        ),
-        (
-            0o000001, 0o000000, 0o000002, 0o020200, 0o200000, 0o000000, 0o000002, false,
-        ),
-        (
-            0o000005, 0o000000, 0o000000, 0o020200, 0o000005, 0o000000, 0o000000, true,
-        ),
-    ] {
-        let mut core = loaded(
-            &rt,
-            rt.alloc(),
-            &machine,
-            &[(0o0200, m), (0o4003, order)],
-            0o4003,
-        );
+    for ([a, q, m], order, after, over) in WORKED {
+        let cells = [(0o0200, m), (0o4003, order)];
+        let mut core = loaded(&rt, rt.alloc(), &machine, &cells, 0o4003);
         let done = run_order(&machine, &mut core, word(&rt, a), word(&rt, q), 5);
         assert_eq!(rt; done.ran, true);
         assert_eq!(rt; (done.location, done.word.number()), (0o4003, order));
         assert_eq!(rt; done.overflow, over);
         assert_eq!(rt; core.indicator(), over);
+        let [a_after, q_after, m_after] = after;
         assert_eq!(rt; core.a().number(), a_after);
         assert_eq!(rt; core.q().number(), q_after);
         assert_eq!(rt; number_at(&rt, &core, 0o0200), m_after);

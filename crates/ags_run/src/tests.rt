@@ -71,63 +71,71 @@ fn scripts_are_read(rt: HostRuntime) -> Result<(), Fail> {
     Ok(())
 }
 
+/// Lines that are none of the forms.
+const OTHER_LINES: [&[u8]; 39] = [
+    b" # STEP 1",
+    b"step 1",
+    b"STEP",
+    b"STEP 1 2",
+    b"STEP1",
+    b"STEP 1234567890",
+    b"STEP 0000000001",
+    b"STEP -1",
+    b"STEP +1",
+    b"STEP 1.",
+    b"STEP A",
+    b"STEP 1\r\r\n",
+    b"pulse",
+    b"PULSE 1",
+    b"PULSE #",
+    b"PULSES",
+    b"PULSE\x0b",
+    b"SET",
+    b"SET 2001",
+    b"SET 2001 000017 1",
+    b"SET 201 000017",
+    b"SET 02001 000017",
+    b"SET 2008 000017",
+    b"SET 2001 00017",
+    b"SET 2001 0000017",
+    b"SET 2001 000018",
+    b"SET 2001 -00017",
+    b"SHOW",
+    b"SHOW REG 1",
+    b"SHOW reg",
+    b"SHOW CELL",
+    b"SHOW CELL 000",
+    b"SHOW CELL 00000",
+    b"SHOW CELL 0008",
+    b"SHOW CELL 0000 1",
+    b"SHOW OUT",
+    b"SHOW OUT 62000",
+    b"SHOW DEDA",
+    b"START 4000",
+];
+
+/// Compares the first fault of a line alone with BadLine.
+fn expect_bad_line(rt: &impl Abort, alloc: Global, line: &[u8], row: usize) {
+    assert!(rt; line.len() <= 4_194_304, "row {row}");
+    let answer = read_plain(alloc, line, &Machine::standard()).map(|commands| commands.len());
+    let fault = ScriptError::At {
+        line: 1,
+        kind: ScriptKind::BadLine,
+    };
+    assert!(rt; answer == Err(fault), "row {row}");
+}
+
 #[test]
 fn other_lines_are_refused(rt: HostRuntime) {
-    let long_blanks = [b' '; 513];
-    let long_skipped = [b'#'; 513];
-    let rows: [&[u8]; 41] = [
-        long_blanks.as_slice(),
-        long_skipped.as_slice(),
-        b" # STEP 1",
-        b"step 1",
-        b"STEP",
-        b"STEP 1 2",
-        b"STEP1",
-        b"STEP 1234567890",
-        b"STEP 0000000001",
-        b"STEP -1",
-        b"STEP +1",
-        b"STEP 1.",
-        b"STEP A",
-        b"STEP 1\r\r\n",
-        b"pulse",
-        b"PULSE 1",
-        b"PULSE #",
-        b"PULSES",
-        b"PULSE\x0b",
-        b"SET",
-        b"SET 2001",
-        b"SET 2001 000017 1",
-        b"SET 201 000017",
-        b"SET 02001 000017",
-        b"SET 2008 000017",
-        b"SET 2001 00017",
-        b"SET 2001 0000017",
-        b"SET 2001 000018",
-        b"SET 2001 -00017",
-        b"SHOW",
-        b"SHOW REG 1",
-        b"SHOW reg",
-        b"SHOW CELL",
-        b"SHOW CELL 000",
-        b"SHOW CELL 00000",
-        b"SHOW CELL 0008",
-        b"SHOW CELL 0000 1",
-        b"SHOW OUT",
-        b"SHOW OUT 62000",
-        b"SHOW DEDA",
-        b"START 4000",
-    ];
-    let machine = Machine::standard();
-    for (row, text) in rows.into_iter().enumerate() {
-        assert!(rt; text.len() <= 4_194_304, "row {row}");
-        let answer = read_plain(rt.alloc(), text, &machine).map(|commands| commands.len());
-        let fault = ScriptError::At {
-            line: 1,
-            kind: ScriptKind::BadLine,
-        };
-        assert!(rt; answer == Err(fault), "row {row}");
+    for (row, line) in OTHER_LINES.into_iter().enumerate() {
+        expect_bad_line(&rt, rt.alloc(), line, row);
     }
+}
+
+#[test]
+fn overlong_lines_are_refused(rt: HostRuntime) {
+    expect_bad_line(&rt, rt.alloc(), &[b' '; 513], 0);
+    expect_bad_line(&rt, rt.alloc(), &[b'#'; 513], 1);
 }
 
 /// Compares the line of a script's first fault with the one that is wanted.
