@@ -148,7 +148,7 @@ one_of_command told (Assemble source) text other status ended tells first second
 one_of_command told (Run source name) text other status ended tells first second =
     one_of_file told source source_limit (RunsSource told name)
     (λ bytes text other status ended is short one two. one_run_of told name bytes text other status ended
-    (λ defined defines. tells name script_limit (inr (record { bytes = bytes; told_is = is; short = short; defined = defined; defines = defines }, refl, refl))) one two)
+    (λ defined defines. tells name script_limit (inr (record { bytes = bytes; told_is = is; good = record { short = short; defined = defined; defines = defines } }, refl, refl))) one two)
     (tells source source_limit (inl (refl, refl))) text other status ended first second
 
 pub one_answer : (told : Told) (words : List (List ℕ)) (text other : List ℕ) (status ended : Status) → TellsFiles told words → IsAnswer told words text status → IsAnswer told words other ended

@@ -1,12 +1,12 @@
 -- Status by status: what each says of the words and of the files, and when it comes.
-use Rattle.std.proofs.Common.{◌≡◌, ℕ, ◌<◌, ◌≤◌, List, ◌++◌, length, Option, Some, None, refl, ap, subst, ◌∙◌, inl, inr}
+use Rattle.std.proofs.Common.{◌≡◌, ℕ, ◌≤◌, List, ◌++◌, length, Option, Some, refl, ap, subst, ◌∙◌, inl, inr}
 use Rattle.std.specs.Prelude.{◌⊎◌}
 use Rattle.ags_outside.specs.Sink.{appended}
 use Rattle.ags_asm.specs.declared.source_error.SourceError.{SourceError}
 use Rattle.ags_asm.specs.Source.{Defines, IsFaulty}
 use Rattle.ags_top.specs.declared.status.Status.{Status}
 use Rattle.ags_top.specs.declared.status.Status.TheVariants.{Done, BadSource, BadWords, AbsentFile, BadText, LongFile}
-use Rattle.ags_top.specs.Answer.{ListsSource, PlaysScript, RunsWords, RunsSource, AnswersCommand, IsAnswer, TellsSource, Fetches, IsFetched}
+use Rattle.ags_top.specs.Answer.{ListsSource, PlaysScript, RunsWords, RunsSource, AnswersCommand, IsAnswer, TellsSource, AgreesWithSource, Fetches, IsFetched}
 use Rattle.ags_top.specs.Command.{Command, Assemble, Run, words_of, source_of, AreNoForm}
 use Rattle.ags_top.specs.File.{Told, Agrees, IsUnread, IsUnreadAsTold, AnswersRead, AnswersFile}
 use Rattle.ags_top.specs.Listing.{listing}
@@ -158,7 +158,7 @@ unread_by told (Run source script) text status not_source not_text not_done so =
     by_words bytes agrees short (inr runs) = record {
       name = script;
       limit = script_limit;
-      fetched = inr (record { bytes = bytes; agrees = agrees; short = short; defined = runs.defined; defines = runs.defines }, refl, refl);
+      fetched = inr (record { bytes = bytes; agrees = agrees; good = record { short = short; defined = runs.defined; defines = runs.defines } }, refl, refl);
       unread = unread_file told script script_limit (PlaysScript runs.image) text status (λ others told_so within plays. no_script runs.image others text status not_text not_done plays) runs.answers;
     }
 
@@ -175,8 +175,8 @@ unread_by told (Run source script) text status not_source not_text not_done so =
 
 -- what runs a source that the shelf tells of
 runs_told : (told : Told) (source script text : List ℕ) (status : Status) → TellsSource told source → AnswersCommand told (Run source script) text status → (bytes : List ℕ) × RunsWords told script bytes text status
-runs_told told source script text status good so =
-    (good.bytes, runs_good told script good.bytes text status good.defined good.defines (read_answer told source source_limit (RunsSource told script) good.bytes text status good.told_is good.short so))
+runs_told told source script text status tells so =
+    (tells.bytes, runs_good told script tells.bytes text status tells.good.defined tells.good.defines (read_answer told source source_limit (RunsSource told script) tells.bytes text status tells.told_is tells.good.short so))
 
 -- where each answer over a file that the command fetches has a status, the command's answer has it
 as_fetched : (told : Told) (command : Command) (name : List ℕ) (limit : ℕ) (text : List ℕ) (status wanted : Status) → Fetches told command name limit
@@ -259,18 +259,13 @@ script_fault told words old new (Run source script) text is sent so =
     let read = bytes_answer told source source_limit (RunsSource told script) text BadText (λ other. absurd cc) (λ other. absurd cc) so in
     by_bytes read.0 read.1 read.2 read.3
   where
-    by_script : (source_bytes : List ℕ) → Agrees (told source) (Some source_bytes) → length source_bytes ≤ source_limit → (defined : List (Option (ℕ × ℕ))) → Defines source_bytes defined → (image : List (Option ℕ)) (bytes : List ℕ)
-        → Agrees (told script) (Some bytes) → length bytes ≤ script_limit → PlaysScript image bytes text BadText → ReadsScriptFault told words old new
-    by_script source_bytes source_agrees source_short defined defines image bytes agrees short (inr played) = let other = played.status_is in absurd cc
-    by_script source_bytes source_agrees source_short defined defines image bytes agrees short (inl bad) = record {
+    by_script : AgreesWithSource told source → (image : List (Option ℕ)) (bytes : List ℕ) → Agrees (told script) (Some bytes) → length bytes ≤ script_limit → PlaysScript image bytes text BadText → ReadsScriptFault told words old new
+    by_script source_is image bytes agrees short (inr played) = let other = played.status_is in absurd cc
+    by_script source_is image bytes agrees short (inl bad) = record {
       source = source;
       script = script;
       words_are = is;
-      source_bytes = source_bytes;
-      source_agrees = source_agrees;
-      source_short = source_short;
-      defined = defined;
-      defines = defines;
+      source_is = source_is;
       bytes = bytes;
       agrees = agrees;
       short = short;
@@ -284,7 +279,7 @@ script_fault told words old new (Run source script) text is sent so =
     by_bytes bytes agrees short (inl bad) = let other = bad.status_is in absurd cc
     by_bytes bytes agrees short (inr runs) =
         let read = bytes_answer told script script_limit (PlaysScript runs.image) text BadText (λ other. absurd cc) (λ other. absurd cc) runs.answers in
-        by_script bytes agrees short runs.defined runs.defines runs.image read.0 read.1 read.2 read.3
+        by_script (record { bytes = bytes; agrees = agrees; good = record { short = short; defined = runs.defined; defines = runs.defines } }) runs.image read.0 read.1 read.2 read.3
 
 pub bad_text_exactly : (told : Told) (words : List (List ℕ)) (old new : Option (List ℕ)) (result : Status) → Ends (IsAnswer told words) old new result → BadTextExactly told words old new result
 bad_text_exactly told words old new result ends = record {
@@ -305,8 +300,8 @@ bad_text_exactly told words old new result ends = record {
 
 pub done_always : (told : Told) (words : List (List ℕ)) (old new : Option (List ℕ)) (result : Status) → Ends (IsAnswer told words) old new result → DoneAlways told words result
 done_always told words old new result ends = record {
-  assembled = λ source words_are good. command_ends told words old new result Done (Assemble source) words_are (λ text status so.
-      (lists_good good.bytes text status good.defined good.defines (read_answer told source source_limit ListsSource good.bytes text status good.told_is good.short so)).status_is) ends;
+  assembled = λ source words_are tells. command_ends told words old new result Done (Assemble source) words_are (λ text status so.
+      (lists_good tells.bytes text status tells.good.defined tells.good.defines (read_answer told source source_limit ListsSource tells.bytes text status tells.told_is tells.good.short so)).status_is) ends;
   played = λ source script bytes commands words_are good is short script_is. command_ends told words old new result Done (Run source script) words_are (λ text status so.
       let runs = runs_told told source script text status good so in
       (plays_good runs.1.image bytes text status commands script_is (read_answer told script script_limit (PlaysScript runs.1.image) bytes text status is short runs.1.answers)).status_is) ends;

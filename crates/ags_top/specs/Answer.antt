@@ -107,13 +107,17 @@ IsAnswer told words text status = IsNoCommand words text status ⊎ IsCommandAns
 
 -- ---- what the shelf tells of a command's files
 
--- The shelf tells of a source of that name, without a fault and within its limit.
-pub record TellsSource (told : Told) (name : List ℕ) : Type 0 where
-  pub bytes : List ℕ
-  pub told_is : told name ≡ Some (Some bytes)
+-- The bytes are a source within its limit and without a fault.
+pub record IsGoodSource (bytes : List ℕ) : Type 0 where
   pub short : length bytes ≤ source_limit
   pub defined : List (Option (ℕ × ℕ))
   pub defines : Defines bytes defined
+
+-- The shelf tells of such a source of that name.
+pub record TellsSource (told : Told) (name : List ℕ) : Type 0 where
+  pub bytes : List ℕ
+  pub told_is : told name ≡ Some (Some bytes)
+  pub good : IsGoodSource bytes
 
 -- The command fetches the file of that name, with that limit: its source always, and its script where the shelf tells
 -- of a source without a fault.
@@ -122,13 +126,11 @@ Fetches told (Assemble source) name limit = (name ≡ source) × (limit ≡ sour
 Fetches told (command.Run source script) name limit =
     ((name ≡ source) × (limit ≡ source_limit)) ⊎ (TellsSource told source × (name ≡ script) × (limit ≡ script_limit))
 
--- A source of that name agrees with what the shelf tells, without a fault and within its limit.
+-- Such a source of that name agrees with what the shelf tells.
 pub record AgreesWithSource (told : Told) (name : List ℕ) : Type 0 where
   pub bytes : List ℕ
   pub agrees : Agrees (told name) (Some bytes)
-  pub short : length bytes ≤ source_limit
-  pub defined : List (Option (ℕ × ℕ))
-  pub defines : Defines bytes defined
+  pub good : IsGoodSource bytes
 
 -- Over files that agree with what the shelf tells, the command fetches the file of that name, with that limit.
 abbrev pub IsFetched : Told → Command → (name : List ℕ) (limit : ℕ) → Type 0

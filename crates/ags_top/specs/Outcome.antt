@@ -11,7 +11,7 @@ use Rattle.ags_run.specs.declared.script_error.ScriptError.TheVariants.{At}
 use Rattle.ags_run.specs.Script.{IsScript, IsFaultyScript}
 use Rattle.ags_top.specs.declared.status.Status.{Status}
 use Rattle.ags_top.specs.declared.status.Status.TheVariants.{Done, BadSource, BadWords, AbsentFile, ReadFault, WriteFault, BadText, LongFile, NoMemory}
-use Rattle.ags_top.specs.Answer.{TellsSource, Fetches, IsFetched, IsPlayOn}
+use Rattle.ags_top.specs.Answer.{TellsSource, AgreesWithSource, Fetches, IsFetched, IsPlayOn}
 use Rattle.ags_top.specs.Command as command
 use Rattle.ags_top.specs.Command.{Command, Assemble, words_of, source_of, AreNoForm}
 use Rattle.ags_top.specs.File.{Told, Agrees}
@@ -130,11 +130,7 @@ pub record ReadsScriptFault (told : Told) (words : List (List ℕ)) (old new : O
   pub source : List ℕ
   pub script : List ℕ
   pub words_are : words ≡ words_of (command.Run source script)
-  pub source_bytes : List ℕ
-  pub source_agrees : Agrees (told source) (Some source_bytes)
-  pub source_short : length source_bytes ≤ source_limit
-  pub defined : List (Option (ℕ × ℕ))
-  pub defines : Defines source_bytes defined
+  pub source_is : AgreesWithSource told source
   pub bytes : List ℕ
   pub agrees : Agrees (told script) (Some bytes)
   pub short : length bytes ≤ script_limit
