@@ -4,8 +4,11 @@
 
 mod file_shelf;
 mod out_sink;
+#[cfg(test)]
+mod tests;
 
-ghost use Rattle.std.specs.Prelude.{◌≡◌, true, false, IfOk, drop, map};
+ghost use Rattle.std.specs.Prelude.{◌≡◌, true, false, IfOk, IfErr, drop, map};
+ghost use Rattle.std.specs.IoError.{error_kind};
 ghost use Rattle.std.specs.String.{string_bytes};
 ghost use Rattle.std.specs.Vec.Iter.{into_iter_items};
 ghost use Rattle.ags.specs.Ended.{EndsFor};
@@ -16,7 +19,7 @@ use out_sink::OutSink;
 use std::alloc::{AllocError, Global};
 use std::env::{Args, args};
 use std::fs::Files;
-use std::io;
+use std::io::{self, ErrorKind};
 use std::process::ExitCode;
 
 /// The words behind the program's name.
@@ -40,9 +43,10 @@ fn ended(status: Status, written: bool) -> Status
     if written { status } else { Status::WriteFault }
 }
 
-/// Runs the program over its words, and answers its status.
+/// Runs the program over its words, and answers its status. It has none only where there was no memory to begin.
 fn run<R: Files + Print + AllocGlobal>(rt: &R, all: Args) -> io::Result<Status>
-    ensures { IfOk result (EndsFor (map string_bytes (drop 1 (into_iter_items all)))) }
+    ensures ends { IfOk result (EndsFor (map string_bytes (drop 1 (into_iter_items all)))) }
+    ensures memory { IfErr result (λ error. error_kind error ≡ ErrorKind.OutOfMemory) }
 {
     let words = words_of(rt.alloc(), all)?;
     let mut shelf = FileShelf::new(rt, rt.alloc());
@@ -54,7 +58,7 @@ fn run<R: Files + Print + AllocGlobal>(rt: &R, all: Args) -> io::Result<Status>
 fn main(rt: HostRuntime) -> ExitCode {
     let status = match args(&rt) {
         Ok(all) => run(&rt, all).unwrap_or(Status::NoMemory),
-        Err(error) if error.kind() == io::ErrorKind::OutOfMemory => Status::NoMemory,
+        Err(error) if error.kind() == ErrorKind::OutOfMemory => Status::NoMemory,
         // a word isn't UTF-8
         Err(_) => Status::BadWords,
     };
