@@ -173,6 +173,18 @@ unread_by told (Run source script) text status not_source not_text not_done so =
         let agrees : Agrees (told source) (Some read.bytes) = rw read.read.file_is at so.agrees in
         by_words read.bytes agrees read.read.short read.answer
 
+-- so what such a status was answered with follows from the file that isn't read
+by_unread_file : (told : Told) (words : List (List ℕ)) (old new : Option (List ℕ)) (status : Status) (P : Type 0) → (status ≡ BadWords → ⊥) → (status ≡ BadSource → ⊥) → (status ≡ BadText → ⊥) → (status ≡ Done → ⊥)
+    → ((command : Command) (text : List ℕ) → words ≡ words_of command → new ≡ appended old text → (by : IsUnreadBy told command text status) → IsUnread by.name by.limit by.unread.file text status → P)
+    → Answered (IsAnswer told words) old new status → P
+by_unread_file told words old new status P not_words not_source not_text not_done each so = by_answer so.text so.sent so.answer
+  where
+    by_answer : (text : List ℕ) → new ≡ appended old text → IsAnswer told words text status → P
+    by_answer text sent (inl none) = absurd (not_words none.status_is)
+    by_answer text sent (inr answer) =
+        let by = unread_by told answer.command text status not_source not_text not_done answer.answers in
+        each answer.command text answer.words_are sent by by.unread.unread
+
 -- what runs a source that the shelf tells of
 runs_told : (told : Told) (source script text : List ℕ) (status : Status) → TellsSource told source → AnswersCommand told (Run source script) text status → (bytes : List ℕ) × RunsWords told script bytes text status
 runs_told told source script text status tells so =
@@ -189,7 +201,8 @@ as_fetched told (Run source script) name limit text status wanted (inr fetches) 
 
 pub absent_exactly : (told : Told) (words : List (List ℕ)) (old new : Option (List ℕ)) (result : Status) → Ends (IsAnswer told words) old new result → AbsentExactly told words old new result
 absent_exactly told words old new result ends = record {
-  only = λ is. reads (answered_with (IsAnswer told words) old new result AbsentFile (λ so. so) ends is);
+  only = λ is. by_unread_file told words old new AbsentFile (ReadsAbsence told words old new) (λ other. absurd cc) (λ other. absurd cc) (λ other. absurd cc) (λ other. absurd cc)
+      by_unread (answered_with (IsAnswer told words) old new result AbsentFile (λ so. so) ends is);
   always = λ command name limit words_are fetches is. command_ends told words old new result AbsentFile command words_are (λ text status so.
       as_fetched told command name limit text status AbsentFile fetches (λ Answer file. absent_answer told name limit Answer text status is file) so) ends;
 }
@@ -207,18 +220,10 @@ absent_exactly told words old new result ends = record {
     }
     by_unread command text is sent by (inr long) = let other = long.status_is in absurd cc
 
-    by_answer : (text : List ℕ) → new ≡ appended old text → IsAnswer told words text AbsentFile → ReadsAbsence told words old new
-    by_answer text sent (inl none) = let other = none.status_is in absurd cc
-    by_answer text sent (inr answer) =
-        let by = unread_by told answer.command text AbsentFile (λ other. absurd cc) (λ other. absurd cc) (λ other. absurd cc) answer.answers in
-        by_unread answer.command text answer.words_are sent by by.unread.unread
-
-    reads : Answered (IsAnswer told words) old new AbsentFile → ReadsAbsence told words old new
-    reads so = by_answer so.text so.sent so.answer
-
 pub long_exactly : (told : Told) (words : List (List ℕ)) (old new : Option (List ℕ)) (result : Status) → Ends (IsAnswer told words) old new result → LongExactly told words old new result
 long_exactly told words old new result ends = record {
-  only = λ is. reads (answered_with (IsAnswer told words) old new result LongFile (λ so. so) ends is);
+  only = λ is. by_unread_file told words old new LongFile (ReadsLong told words old new) (λ other. absurd cc) (λ other. absurd cc) (λ other. absurd cc) (λ other. absurd cc)
+      by_unread (answered_with (IsAnswer told words) old new result LongFile (λ so. so) ends is);
   always = λ command name limit bytes words_are fetches is long. command_ends told words old new result LongFile command words_are (λ text status so.
       as_fetched told command name limit text status LongFile fetches (λ Answer file. long_answer told name limit Answer bytes text status is long file) so) ends;
 }
@@ -237,15 +242,6 @@ long_exactly told words old new result ends = record {
       long = long.long;
       sent = sent ∙ ap (appended old) long.text_is;
     }
-
-    by_answer : (text : List ℕ) → new ≡ appended old text → IsAnswer told words text LongFile → ReadsLong told words old new
-    by_answer text sent (inl none) = let other = none.status_is in absurd cc
-    by_answer text sent (inr answer) =
-        let by = unread_by told answer.command text LongFile (λ other. absurd cc) (λ other. absurd cc) (λ other. absurd cc) answer.answers in
-        by_unread answer.command text answer.words_are sent by by.unread.unread
-
-    reads : Answered (IsAnswer told words) old new LongFile → ReadsLong told words old new
-    reads so = by_answer so.text so.sent so.answer
 
 -- ---- BadText
 
