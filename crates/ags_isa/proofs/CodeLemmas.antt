@@ -34,7 +34,7 @@ pub code_of-below : (table : List ℕ) → AreCodes table → (order : Order) �
 code_of-below table are order = are.below (order_number order) 0 (rw are.each (order_number-below order))
 
 -- a test that computes: no number is equal to one after it
-differ : List ℕ → Bool
+unfoldable pub differ : List ℕ → Bool
 differ [] = true
 differ (code ∷ codes) = list_all (λ other. not (code == other)) codes && differ codes
 
@@ -73,13 +73,17 @@ pairs_of_first [] some = absurd (omega (arith, some))
 pairs_of_first (code ∷ codes) some =
     let whole : take (suc (length codes) - 1) codes ≡ codes = grind (arith, common_steps) in rw whole (pairs_of_cons code codes)
 
+-- a list that passes the tests is a table of codes
+pub tested_are_codes : (table : List ℕ) → length table ≡ 27 → list_all (λ code. ltb code 32) table ≡ true → differ table ≡ true → AreCodes table
+tested_are_codes table each below distinct = record {
+  each = each;
+  below = λ k d within. ltb-true _ 32 (AllPass-from_list_all (λ code. ltb code 32) table below k d within);
+  distinct = differ-distinct table distinct;
+}
+
 pub standard_are_codes : AreCodes standard_codes
 unfolding differ
-standard_are_codes = record {
-  each = refl;
-  below = λ k d within. ltb-true _ 32 (AllPass-from_list_all (λ code. ltb code 32) standard_codes refl k d within);
-  distinct = differ-distinct standard_codes refl;
-}
+standard_are_codes = tested_are_codes standard_codes refl refl refl
 
 -- ---- the orders by their codes
 
