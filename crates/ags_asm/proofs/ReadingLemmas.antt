@@ -3,7 +3,7 @@ use Rattle.std.proofs.Common.{◌≡◌, ℕ, ◌<◌, Bool, true, false, List, 
 use Rattle.std.specs.List.{list_all}
 use Rattle.std.proofs.lemmas.Bool.{and_parts, true≢false}
 use Rattle.std.proofs.lemmas.List.Folds.{list_all-append}
-use Rattle.ags_text.specs.Field.{is_blank, AreBlanks, HasNoBlank, IsField, behind_word}
+use Rattle.ags_text.specs.Field.{is_blank, AreBlanks, HasNoBlank, IsField, behind_leading_field}
 use Rattle.ags_text.specs.Numeral.{IsOctal}
 use Rattle.ags_text.proofs.FieldLaws.{standing_behind, cut_behind, number_field, no_blank_text}
 use Rattle.ags_asm.specs.declared.card.Body.{Body}
@@ -44,7 +44,7 @@ named_fields : (line symbol operation operand : List ℕ) → symbol_field line 
     → 0 < length operation → 0 < length operand → AreBlanks (remark_field line) → HasCardFields line symbol operation operand
 named_fields line symbol operation operand symbol_is operation_is operand_is operation_some operand_some behind =
     let cut = cut_behind line (operation ∷ operand ∷ []) (operation_some, (operand_some, tt)) (operation_is, (operand_is, behind)) in
-    record { behind = behind_word line; whole = cut.1 ∙ ap (λ (front : List ℕ). front ++ behind_word line) symbol_is; further = cut.2 }
+    record { behind = behind_leading_field line; whole = cut.1 ∙ ap (λ (front : List ℕ). front ++ behind_leading_field line) symbol_is; further = cut.2 }
 
 -- A line with an operation is no comment.
 

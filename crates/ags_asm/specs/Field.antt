@@ -1,6 +1,6 @@
 -- The fields of a card, and what they state together.
 use Rattle.std.specs.Prelude.{◌≡◌, ℕ, ◌⊎◌, List, [], ◌∷◌, Option, Some, None, unwrap_or, codes}
-use Rattle.ags_text.specs.Field.{AreBlanks, word_of, behind_word, next_field, behind_field}
+use Rattle.ags_text.specs.Field.{AreBlanks, leading_field, behind_leading_field, next_field, behind_field}
 use Rattle.ags_text.specs.Numeral.{IsOctal}
 use Rattle.ags_asm.specs.declared.card.Body.{Body}
 use Rattle.ags_asm.specs.declared.card.Body.TheVariants.{Comment, Org, Oct}
@@ -8,19 +8,19 @@ use Rattle.ags_asm.specs.Spelling.{IsSymbolField}
 
 -- the symbol field of a line: what stands in column 1 and behind it, before the first blank
 abbrev pub symbol_field : List ℕ → List ℕ
-symbol_field line = word_of line
+symbol_field line = leading_field line
 
 -- its operation: the next field
 abbrev pub operation_field : List ℕ → List ℕ
-operation_field line = next_field (behind_word line)
+operation_field line = next_field (behind_leading_field line)
 
 -- its operand: the field behind that
 abbrev pub operand_field : List ℕ → List ℕ
-operand_field line = next_field (behind_field (behind_word line))
+operand_field line = next_field (behind_field (behind_leading_field line))
 
 -- what is left of it
 abbrev pub remark_field : List ℕ → List ℕ
-remark_field line = behind_field (behind_field (behind_word line))
+remark_field line = behind_field (behind_field (behind_leading_field line))
 
 -- the operand of ORG: a slash and octal digits that write the place
 pub record IsPlaceOperand (operand : List ℕ) (place : ℕ) : Type 0 where

@@ -3,7 +3,7 @@
 ghost use Rattle.std.specs.Prelude.{◌≡◌};
 ghost use Rattle.ags_asm.specs.Field.{symbol_field, operation_field, operand_field, remark_field};
 
-use ags_text::{split_field, split_word};
+use ags_text::{split_field, split_leading_field};
 
 /// The fields of a line.
 #[derive(Clone, Copy)]
@@ -25,7 +25,7 @@ pub(crate) fn split_fields(line: &[u8]) -> Fields<'_>
     ensures operand { result.operand.now ≡ operand_field line.now }
     ensures remark { result.remark.now ≡ remark_field line.now }
 {
-    let (symbol, behind_symbol) = split_word(line);
+    let (symbol, behind_symbol) = split_leading_field(line);
     let (operation, behind_operation) = split_field(behind_symbol);
     let (operand, remark) = split_field(behind_operation);
     Fields {

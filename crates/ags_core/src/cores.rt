@@ -6,9 +6,9 @@ ghost use Rattle.ags_ports.specs.State.{IsState, cell, next_location, written};
 ghost use Rattle.ags_ports.specs.Effect.{moved_on, overflowing};
 ghost use Rattle.ags_image.specs.Image.{IsImage};
 ghost use Rattle.ags_core.specs.Core.{IsCore, cells_of, start_state};
-ghost use Rattle.ags_core.specs.Told.{Does};
+ghost use Rattle.ags_core.specs.OrderReport.{Does};
 
-use crate::told::Told;
+use crate::order_reports::OrderReport;
 use ags_image::Image;
 use ags_ports::{Machine, Phase};
 use ags_word::Word;
@@ -212,11 +212,11 @@ impl Core {
     }
 
     /// Sets the indicator where an order overflowed, and tells so.
-    pub(crate) fn overflow(&mut self, over: bool) -> Told
+    pub(crate) fn overflow(&mut self, over: bool) -> OrderReport
         ensures { Does (overflowing over self.old) self.new result }
     {
         self.indicator = self.indicator || over;
-        Told::of(over)
+        OrderReport::of(over)
     }
 }
 

@@ -4,16 +4,16 @@ ghost use Rattle.std.specs.Prelude.{◌≡◌, ◌<◌, IfSome, length};
 ghost use Rattle.ags_isa.specs.declared.orders.Order.TheVariants.{Inp, Out};
 ghost use Rattle.ags_ports.specs.Port.{place_of, read_at, register_at, set_at};
 ghost use Rattle.ags_ports.specs.Effect.{effect};
-ghost use Rattle.ags_core.specs.Told.{Does};
+ghost use Rattle.ags_core.specs.OrderReport.{Does};
 
 use crate::cores::Core;
-use crate::told::Told;
+use crate::order_reports::OrderReport;
 use ags_ports::{Machine, Stored};
 use ags_word::Word;
 
 impl Core {
     /// INP: A becomes the word of the input register at an address.
-    pub(crate) fn inp(&mut self, machine: &Machine, y: u16) -> Told
+    pub(crate) fn inp(&mut self, machine: &Machine, y: u16) -> OrderReport
         requires { length self.old.inputs ≡ length machine.now.ports.inputs }
         ensures { Does (effect machine.now self.old Inp y y) self.new result }
     {
@@ -21,14 +21,14 @@ impl Core {
         self.a = self.register_at(place);
         self.read(machine, place);
         self.move_on();
-        Told {
+        OrderReport {
             took: Some(y),
-            ..Told::of(false)
+            ..OrderReport::of(false)
         }
     }
 
     /// OUT: the output register at an address becomes A.
-    pub(crate) fn out(&mut self, machine: &Machine, y: u16) -> Told
+    pub(crate) fn out(&mut self, machine: &Machine, y: u16) -> OrderReport
         requires { length self.old.outputs ≡ length machine.now.ports.outputs }
         ensures { Does (effect machine.now self.old Out y y) self.new result }
     {
@@ -37,9 +37,9 @@ impl Core {
             self.outputs[place] = word;
         }
         self.move_on();
-        Told {
+        OrderReport {
             gave: Some(Stored { address: y, word }),
-            ..Told::of(false)
+            ..OrderReport::of(false)
         }
     }
 

@@ -12,7 +12,7 @@ mod loads;
 mod obeying;
 mod pairs;
 mod sums;
-mod told;
+mod order_reports;
 mod transfers;
 
 pub use cores::Core;

@@ -2,16 +2,16 @@
 
 ghost use Rattle.std.specs.Prelude.{◌≡◌, ◌<◌, length};
 ghost use Rattle.ags_ports.specs.Effect.{counts_index, effect, effective};
-ghost use Rattle.ags_core.specs.Told.{Does};
+ghost use Rattle.ags_core.specs.OrderReport.{Does};
 
 use crate::cores::Core;
-use crate::told::Told;
+use crate::order_reports::OrderReport;
 use ags_isa::{Decoded, Order};
 use ags_ports::Machine;
 
 impl Core {
     /// Does what an order does.
-    pub(crate) fn obey(&mut self, machine: &Machine, decoded: Decoded) -> Told
+    pub(crate) fn obey(&mut self, machine: &Machine, decoded: Decoded) -> OrderReport
         requires address { decoded.address < 4096 }
         requires inputs { length self.old.inputs ≡ length machine.now.ports.inputs }
         requires outputs { length self.old.outputs ≡ length machine.now.ports.outputs }
@@ -23,7 +23,7 @@ impl Core {
     }
 
     /// Does what an order does at an address y, where it acts on an address e.
-    fn do_order(&mut self, machine: &Machine, order: Order, e: u16, y: u16) -> Told
+    fn do_order(&mut self, machine: &Machine, order: Order, e: u16, y: u16) -> OrderReport
         requires acts_on { e < 4096 }
         requires address { y < 4096 }
         requires inputs { length self.old.inputs ≡ length machine.now.ports.inputs }

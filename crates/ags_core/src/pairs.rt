@@ -5,15 +5,15 @@ ghost use Rattle.ags_word.specs.Word.{val};
 ghost use Rattle.ags_word.specs.Long.{long, shifted_right, fits_long, wrap_long, divided};
 ghost use Rattle.ags_ports.specs.State.{cell, next_location};
 ghost use Rattle.ags_ports.specs.Effect.{divides, overflowing, rounds_product, sets_pair, then_clears};
-ghost use Rattle.ags_core.specs.Told.{Does};
+ghost use Rattle.ags_core.specs.OrderReport.{Does};
 
 use crate::cores::Core;
-use crate::told::Told;
+use crate::order_reports::OrderReport;
 use ags_word::{Long, Word};
 
 impl Core {
     /// MPY: the pair becomes the product with the cell.
-    pub(crate) fn mpy(&mut self, e: u16) -> Told
+    pub(crate) fn mpy(&mut self, e: u16) -> OrderReport
         requires { e < 4096 }
         ensures { let product = val self.old.a *ℤ val (cell self.old e) in
             Does (sets_pair self.old product (not (fits_long product))) self.new result }
@@ -23,7 +23,7 @@ impl Core {
     }
 
     /// MPR: A becomes the rounded product with the cell, and Q that of the whole product.
-    pub(crate) fn mpr(&mut self, e: u16) -> Told
+    pub(crate) fn mpr(&mut self, e: u16) -> OrderReport
         requires { e < 4096 }
         ensures { Does (rounds_product self.old (cell self.old e)) self.new result }
     {
@@ -32,17 +32,17 @@ impl Core {
     }
 
     /// MPZ: as MPR, and then the cell is cleared.
-    pub(crate) fn mpz(&mut self, e: u16) -> Told
+    pub(crate) fn mpz(&mut self, e: u16) -> OrderReport
         requires { e < 4096 }
         ensures { Does (then_clears (rounds_product self.old (cell self.old e)) e) self.new result }
     {
-        let told = self.mpr(e);
+        let reported = self.mpr(e);
         self.store(e, Word::ZERO);
-        Told::of_store(told.overflow, e, Word::ZERO)
+        OrderReport::of_store(reported.overflow, e, Word::ZERO)
     }
 
     /// DVP: A becomes the quotient by the cell, if there is one.
-    pub(crate) fn dvp(&mut self, e: u16) -> Told
+    pub(crate) fn dvp(&mut self, e: u16) -> OrderReport
         requires { e < 4096 }
         ensures { Does (divides self.old (divided (long self.old.a self.old.q) (cell self.old e))) self.new result }
     {
@@ -51,7 +51,7 @@ impl Core {
     }
 
     /// LRS: the pair is shifted right.
-    pub(crate) fn lrs(&mut self, y: u16) -> Told
+    pub(crate) fn lrs(&mut self, y: u16) -> OrderReport
         ensures { Does (sets_pair self.old (shifted_right (long self.old.a self.old.q) (y % 64)) false) self.new result }
     {
         let (a, q) = self.pair().lrs(u32::from(y % 64)).split();
@@ -59,7 +59,7 @@ impl Core {
     }
 
     /// LLS: the pair is shifted left.
-    pub(crate) fn lls(&mut self, y: u16) -> Told
+    pub(crate) fn lls(&mut self, y: u16) -> OrderReport
         ensures { let shifted = long self.old.a self.old.q *ℤ pos (2 ^ (y % 64)) in
             Does (sets_pair self.old (wrap_long shifted) (not (fits_long shifted))) self.new result }
     {
@@ -76,7 +76,7 @@ impl Core {
     }
 
     /// Sets A and Q, and the indicator where the order overflowed.
-    fn set_pair(&mut self, a: Word, q: Word, over: bool) -> Told
+    fn set_pair(&mut self, a: Word, q: Word, over: bool) -> OrderReport
         ensures { Does (overflowing over (record self.old { a = a; q = q; location = next_location self.old })) self.new result }
     {
         self.a = a;
@@ -86,14 +86,14 @@ impl Core {
     }
 
     /// Sets A to a quotient; where there is none, the order overflows.
-    fn set_quotient(&mut self, quotient: Option<Word>) -> Told
+    fn set_quotient(&mut self, quotient: Option<Word>) -> OrderReport
         ensures { Does (divides self.old quotient) self.new result }
     {
         self.move_on();
         match quotient {
             Some(word) => {
                 self.a = word;
-                Told::of(false)
+                OrderReport::of(false)
             }
             None => self.overflow(true),
         }

@@ -4,15 +4,15 @@ ghost use Rattle.std.specs.Prelude.{◌<◌, ◌%◌, ◌^◌, pos, ◌*ℤ◌, 
 ghost use Rattle.ags_word.specs.Word.{val};
 ghost use Rattle.ags_ports.specs.State.{cell, next_location};
 ghost use Rattle.ags_ports.specs.Effect.{adds, computes, overflowing, subtracts, then_clears};
-ghost use Rattle.ags_core.specs.Told.{Does};
+ghost use Rattle.ags_core.specs.OrderReport.{Does};
 
 use crate::cores::Core;
-use crate::told::Told;
+use crate::order_reports::OrderReport;
 use ags_word::Word;
 
 impl Core {
     /// ADD: the sum with the cell.
-    pub(crate) fn add(&mut self, e: u16) -> Told
+    pub(crate) fn add(&mut self, e: u16) -> OrderReport
         requires { e < 4096 }
         ensures { Does (adds self.old (cell self.old e)) self.new result }
     {
@@ -21,7 +21,7 @@ impl Core {
     }
 
     /// SUB: A less the cell.
-    pub(crate) fn sub(&mut self, e: u16) -> Told
+    pub(crate) fn sub(&mut self, e: u16) -> OrderReport
         requires { e < 4096 }
         ensures { Does (subtracts self.old (cell self.old e)) self.new result }
     {
@@ -30,27 +30,27 @@ impl Core {
     }
 
     /// ADZ: as ADD, and then the cell is cleared.
-    pub(crate) fn adz(&mut self, e: u16) -> Told
+    pub(crate) fn adz(&mut self, e: u16) -> OrderReport
         requires { e < 4096 }
         ensures { Does (then_clears (adds self.old (cell self.old e)) e) self.new result }
     {
-        let told = self.add(e);
+        let reported = self.add(e);
         self.store(e, Word::ZERO);
-        Told::of_store(told.overflow, e, Word::ZERO)
+        OrderReport::of_store(reported.overflow, e, Word::ZERO)
     }
 
     /// SUZ: as SUB, and then the cell is cleared.
-    pub(crate) fn suz(&mut self, e: u16) -> Told
+    pub(crate) fn suz(&mut self, e: u16) -> OrderReport
         requires { e < 4096 }
         ensures { Does (then_clears (subtracts self.old (cell self.old e)) e) self.new result }
     {
-        let told = self.sub(e);
+        let reported = self.sub(e);
         self.store(e, Word::ZERO);
-        Told::of_store(told.overflow, e, Word::ZERO)
+        OrderReport::of_store(reported.overflow, e, Word::ZERO)
     }
 
     /// COM: the negative.
-    pub(crate) fn com(&mut self) -> Told
+    pub(crate) fn com(&mut self) -> OrderReport
         ensures { Does (computes self.old (neg_ℤ (val self.old.a))) self.new result }
     {
         let (word, over) = self.a().com();
@@ -58,7 +58,7 @@ impl Core {
     }
 
     /// ABS: the absolute value.
-    pub(crate) fn abs(&mut self) -> Told
+    pub(crate) fn abs(&mut self) -> OrderReport
         ensures { Does (computes self.old (pos (unsigned_abs (val self.old.a)))) self.new result }
     {
         let (word, over) = self.a().abs();
@@ -66,7 +66,7 @@ impl Core {
     }
 
     /// ALS: the left shift.
-    pub(crate) fn als(&mut self, y: u16) -> Told
+    pub(crate) fn als(&mut self, y: u16) -> OrderReport
         ensures { Does (computes self.old (val self.old.a *ℤ pos (2 ^ (y % 64)))) self.new result }
     {
         let (word, over) = self.a().als(u32::from(y % 64));
@@ -74,7 +74,7 @@ impl Core {
     }
 
     /// Sets A, and the indicator where the order overflowed.
-    fn set_a(&mut self, word: Word, over: bool) -> Told
+    fn set_a(&mut self, word: Word, over: bool) -> OrderReport
         ensures { Does (overflowing over (record self.old { a = word; location = next_location self.old })) self.new result }
     {
         self.a = word;

@@ -5,7 +5,7 @@ ghost use Rattle.ags_ports.specs.State.{IsState};
 
 use crate::cores::Core;
 use ags_image::Image;
-use ags_ports::{Done, Event, Machine, Phase, Stored};
+use ags_ports::{Report, Event, Machine, Phase, Stored};
 use ags_word::Word;
 use std::alloc::Global;
 use std::process::Abort;
@@ -35,7 +35,7 @@ fn loaded(
 }
 
 /// One step, with A, Q and the index register set before it.
-fn run_order(machine: &Machine, core: &mut Core, a: Word, q: Word, index: u8) -> Done
+fn run_order(machine: &Machine, core: &mut Core, a: Word, q: Word, index: u8) -> Report
     requires inputs { length core.old.inputs ≡ length machine.now.ports.inputs }
     requires outputs { length core.old.outputs ≡ length machine.now.ports.outputs }
     requires index { index < 8 }
@@ -95,10 +95,10 @@ fn worked_orders(rt: HostRuntime) {
     for ([a, q, m], order, after, over) in WORKED {
         let cells = [(0o0200, m), (0o4003, order)];
         let mut core = loaded(&rt, rt.alloc(), &machine, &cells, 0o4003);
-        let done = run_order(&machine, &mut core, word(&rt, a), word(&rt, q), 5);
-        assert_eq!(rt; done.ran, true);
-        assert_eq!(rt; (done.location, done.word.number()), (0o4003, order));
-        assert_eq!(rt; done.overflow, over);
+        let report = run_order(&machine, &mut core, word(&rt, a), word(&rt, q), 5);
+        assert_eq!(rt; report.ran, true);
+        assert_eq!(rt; (report.location, report.word.number()), (0o4003, order));
+        assert_eq!(rt; report.overflow, over);
         assert_eq!(rt; core.indicator(), over);
         let [a_after, q_after, m_after] = after;
         assert_eq!(rt; core.a().number(), a_after);
@@ -120,21 +120,21 @@ fn index_register(rt: HostRuntime) {
     let mut core = loaded(&rt, rt.alloc(), &machine, &orders, 0o4000);
     let a = word(&rt, 0o123456);
     // STO 0010 with the index bit, the index register 5
-    let done = run_order(&machine, &mut core, a, Word::ZERO, 5);
+    let report = run_order(&machine, &mut core, a, Word::ZERO, 5);
     let stored = Stored {
         address: 0o0015,
         word: a,
     };
-    assert_eq!(rt; done.stored, Some(stored));
+    assert_eq!(rt; report.stored, Some(stored));
     assert_eq!(rt; number_at(&rt, &core, 0o0015), 0o123456);
     assert_eq!(rt; number_at(&rt, &core, 0o0010), 0);
     // STO 4010: the store is told, and the fixed cell stays
-    let done = run_order(&machine, &mut core, a, Word::ZERO, 5);
+    let report = run_order(&machine, &mut core, a, Word::ZERO, 5);
     let stored = Stored {
         address: 0o4010,
         word: a,
     };
-    assert_eq!(rt; done.stored, Some(stored));
+    assert_eq!(rt; report.stored, Some(stored));
     assert_eq!(rt; number_at(&rt, &core, 0o4010), 0);
     // TIX 4001, which goes where the index register isn't 0
     run_order(&machine, &mut core, a, Word::ZERO, 0);
@@ -169,33 +169,33 @@ fn registers(rt: HostRuntime) {
         address: 0o2200,
         word: seven,
     };
-    let done = core.act(&machine, put);
-    assert_eq!(rt; (done.ran, done.took), (false, None));
+    let report = core.act(&machine, put);
+    assert_eq!(rt; (report.ran, report.took), (false, None));
     assert_eq!(rt; core.input(6), seven);
-    let done = core.act(&machine, Event::Step);
-    assert_eq!(rt; done.took, Some(0o2200));
+    let report = core.act(&machine, Event::Step);
+    assert_eq!(rt; report.took, Some(0o2200));
     assert_eq!(rt; (core.a(), core.input(6)), (seven, Word::ZERO));
     core.set_input(6, seven);
     core.set_input(0, seven);
     core.act(&machine, Event::Step);
     assert_eq!(rt; (core.a(), core.input(6)), (seven, Word::ZERO));
     assert_eq!(rt; core.input(0), seven);
-    let done = core.act(&machine, Event::Step);
-    assert_eq!(rt; done.took, Some(0o2003));
+    let report = core.act(&machine, Event::Step);
+    assert_eq!(rt; report.took, Some(0o2003));
     assert_eq!(rt; core.a(), Word::ZERO);
-    let done = run_order(&machine, &mut core, seven, Word::ZERO, 0);
+    let report = run_order(&machine, &mut core, seven, Word::ZERO, 0);
     let gave = Stored {
         address: 0o6200,
         word: seven,
     };
-    assert_eq!(rt; done.gave, Some(gave));
+    assert_eq!(rt; report.gave, Some(gave));
     assert_eq!(rt; (core.output(0), core.output(6)), (Word::ZERO, seven));
-    let done = run_order(&machine, &mut core, Word::ZERO, Word::ZERO, 0);
+    let report = run_order(&machine, &mut core, Word::ZERO, Word::ZERO, 0);
     let gave = Stored {
         address: 0o6003,
         word: Word::ZERO,
     };
-    assert_eq!(rt; done.gave, Some(gave));
+    assert_eq!(rt; report.gave, Some(gave));
     assert_eq!(rt; core.output(6), seven);
 }
 
@@ -212,14 +212,14 @@ fn sum_that_overflows(rt: HostRuntime) {
     core.set_cell(0o0004, word(&rt, 1));
     core.act(&machine, Event::Step);
     assert_eq!(rt; core.a().number(), 0o377777);
-    let done = core.act(&machine, Event::Step);
-    assert_eq!(rt; (done.overflow, core.indicator()), (true, true));
+    let report = core.act(&machine, Event::Step);
+    assert_eq!(rt; (report.overflow, core.indicator()), (true, true));
     assert_eq!(rt; core.a().number(), 0o400000);
     core.act(&machine, Event::Step);
     assert_eq!(rt; (core.indicator(), core.location()), (false, 0o0005));
-    let done = core.act(&machine, Event::Step);
+    let report = core.act(&machine, Event::Step);
     assert_eq!(rt;
-        (done.ran, done.location, done.word.number()),
+        (report.ran, report.location, report.word.number()),
         (false, 0o0005, 0)
     );
     assert_eq!(rt; (core.phase(), core.location()), (Phase::Halted, 0o0005));

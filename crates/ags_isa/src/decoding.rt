@@ -2,7 +2,7 @@
 
 ghost use Rattle.std.specs.Prelude.{◌≡◌, ℕ, ◌<◌, Bool, IfSome, Some};
 ghost use Rattle.ags_isa.specs.declared.orders.Order.{Order};
-ghost use Rattle.ags_isa.specs.Naming.{word_of, Names, IsDecoding};
+ghost use Rattle.ags_isa.specs.Naming.{order_word, Names, IsDecoding};
 
 use crate::code_tables::Codes;
 use crate::orders::Order;
@@ -28,7 +28,7 @@ pub struct Decoded {
 /// The word of an order with an index bit and an address.
 pub fn encode(codes: &Codes, order: Order, indexed: bool, address: u16) -> Word
     requires { address < 4096 }
-    ensures { result ≡ word_of codes.now order indexed address }
+    ensures { result ≡ order_word codes.now order indexed address }
 {
     let code = u32::from(codes.code_of(order));
     let index = if indexed { INDEX } else { 0 };

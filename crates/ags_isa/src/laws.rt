@@ -6,7 +6,7 @@ ghost use Rattle.std.specs.Prelude.{◌≡◌, ◌≢◌, ℕ, ◌+◌, ◌*◌,
 ghost use Rattle.ags_isa.specs.declared.orders.Order.{Order};
 ghost use Rattle.ags_isa.specs.Order.{order_number, all_orders, order_name, ComesBefore};
 ghost use Rattle.ags_isa.specs.Code.{AreCodes, code_of, standard_codes, standard_digits, unused_digits};
-ghost use Rattle.ags_isa.specs.Naming.{word_of, Names};
+ghost use Rattle.ags_isa.specs.Naming.{order_word, Names};
 
 /// Orders with one number, or with one name, are one order, and the numbers run from 0 to 26.
 pub fn orders_differ()
@@ -59,15 +59,15 @@ pub fn word_names_one_order()
 pub fn orders_make_different_words()
     ensures order { (table : List ℕ) (order other : Order) (indexed bit : Bool) (address place : ℕ)
         → AreCodes table → address < 4096 → place < 4096
-        → word_of table order indexed address ≡ word_of table other bit place → order ≡ other }
+        → order_word table order indexed address ≡ order_word table other bit place → order ≡ other }
     ensures index { (table : List ℕ) (order other : Order) (indexed bit : Bool) (address place : ℕ)
         → AreCodes table → address < 4096 → place < 4096
-        → word_of table order indexed address ≡ word_of table other bit place → indexed ≡ bit }
+        → order_word table order indexed address ≡ order_word table other bit place → indexed ≡ bit }
     ensures address { (table : List ℕ) (order other : Order) (indexed bit : Bool) (address place : ℕ)
         → AreCodes table → address < 4096 → place < 4096
-        → word_of table order indexed address ≡ word_of table other bit place → address ≡ place }
+        → order_word table order indexed address ≡ order_word table other bit place → address ≡ place }
     ensures below { (table : List ℕ) (order : Order) (indexed : Bool) (address : ℕ)
-        → AreCodes table → address < 4096 → word_of table order indexed address < 2 ^ 18 }
+        → AreCodes table → address < 4096 → order_word table order indexed address < 2 ^ 18 }
 {}
 
 /// A word's first two octal digits are twice the code of the order that it names, and one more where the index bit is

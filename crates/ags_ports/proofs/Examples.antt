@@ -2,22 +2,22 @@
 -- that stand beside it. The words are octal. A short list of cells stands for the first cells of the memory.
 use Rattle.std.proofs.Common.{◌≡◌, ℕ, true, false, refl, arith, List, [], ◌∷◌}
 use Rattle.std.specs.Prelude.{Bool, Some, None}
-use Rattle.ags_word.specs.Word.{val, fits, wrap, word_of as word_of_value}
+use Rattle.ags_word.specs.Word.{val, fits, wrap, word_of_value}
 use Rattle.ags_word.specs.Long.{long, pair, fits_long, wrap_long, divided}
 use Rattle.ags_isa.specs.declared.orders.Order.TheVariants.{Abs, Add, Adz, Als, Axt, Cla, Clz, Com, Dly, Dvp, Inp, Ldq, Lls, Lrs, Mpr, Mpy, Mpz, Out, Sto, Stq, Sub, Suz, Tix, Tmi, Tov, Tra, Tsq}
 use Rattle.ags_isa.specs.declared.orders.Order.{Order}
 use Rattle.ags_isa.specs.Order.{order_number}
 use Rattle.ags_isa.specs.Code.{standard_codes}
-use Rattle.ags_isa.specs.Naming.{word_of, Names}
+use Rattle.ags_isa.specs.Naming.{order_word, Names}
 use Rattle.ags_isa.proofs.OrderLemmas.{order_number-below}
 use Rattle.ags_ports.specs.declared.events.Phase.TheVariants.{Running, Waiting, Halted}
 use Rattle.ags_ports.specs.declared.events.Event.TheVariants.{Step, Pulse, Put}
-use Rattle.ags_ports.specs.declared.events.Done.{Done}
+use Rattle.ags_ports.specs.declared.events.Report.{Report}
 use Rattle.ags_ports.specs.declared.machines.Machine.{Machine}
 use Rattle.ags_ports.specs.Machine.{standard_machine}
 use Rattle.ags_ports.specs.State.{State}
 use Rattle.ags_ports.specs.Effect.{Effect, effect, effective}
-use Rattle.ags_ports.specs.Step.{Steps, idle}
+use Rattle.ags_ports.specs.Step.{Steps, idle_report}
 use Rattle.ags_ports.specs.Run.{Run}
 use Rattle.ags_ports.proofs.TimeLemmas.{least_from}
 
@@ -208,7 +208,7 @@ tix_not m cells = refl
 
 -- TRA's code is 20 of its two digits 40, and so TRA to 4001 is 404001.
 tsq : (cells : List ℕ) → effect standard_machine (at 0o4000 5 6 0 false cells) Tsq 0o4002 0o4002 ≡ left (at 0o4002 5 0o404001 0 false cells)
-unfolding at left word_of
+unfolding at left order_word
 tsq cells = refl
 
 -- ---- registers and the phase
@@ -249,29 +249,29 @@ dly m cells = refl
 -- A word is set into the second input register, at 2002, also where the machine is halted.
 put : (cells outputs : List ℕ) →
     let s = record (with_registers 0o4000 9 cells (1 ∷ 2 ∷ 3 ∷ 4 ∷ 5 ∷ 6 ∷ 7 ∷ []) outputs) { phase = Halted } in
-    Steps standard_machine s (Put 0o2002 0o1750) (idle s) (record s { inputs = 1 ∷ 0o1750 ∷ 3 ∷ 4 ∷ 5 ∷ 6 ∷ 7 ∷ [] })
+    Steps standard_machine s (Put 0o2002 0o1750) (idle_report s) (record s { inputs = 1 ∷ 0o1750 ∷ 3 ∷ 4 ∷ 5 ∷ 6 ∷ 7 ∷ [] })
 unfolding with_registers
 put cells outputs = (refl, refl)
 
 -- There is no input register at 6001: nothing changes.
 put_absent : (cells inputs outputs : List ℕ) →
     let s = with_registers 0o4000 9 cells inputs outputs in
-    Steps standard_machine s (Put 0o6001 0o1750) (idle s) s
+    Steps standard_machine s (Put 0o6001 0o1750) (idle_report s) s
 unfolding with_registers
 put_absent cells inputs outputs = (refl, refl)
 
 -- ---- runs
 
 -- An order ran at a location, was read from a word, and overflowed or not; or no order ran.
-ran_at : ℕ → ℕ → Bool → Done
+ran_at : ℕ → ℕ → Bool → Report
 ran_at location word overflow = record { ran = true; location = location; word = word; overflow = overflow; stored = None; took = None; gave = None }
 
-idle_at : ℕ → ℕ → Done
+idle_at : ℕ → ℕ → Report
 idle_at location word = record { ran = false; location = location; word = word; overflow = false; stored = None; took = None; gave = None }
 
 -- The word 000000 is no order of the standard machine, since no order has the code 0.
 no_order : (order : Order) (indexed : Bool) (address : ℕ) → Names standard_codes 0 order indexed address → ⊥
-unfolding word_of
+unfolding order_word
 no_order order true address names = omega (arith, names.equals)
 no_order order false address names =
     let some = least_from standard_codes refl (order_number order) 0 (order_number-below order) in
@@ -283,13 +283,13 @@ sum_and_test = 0o200003 ∷ 0o220004 ∷ 0o440005 ∷ 0o377777 ∷ 1 ∷ 0 ∷ [
 
 -- The sum overflows, TOV goes to 0005 and clears the indicator, and there the machine halts and stays.
 overflow_and_its_test : Run standard_machine (at 0 0 0 0 false sum_and_test) (Step ∷ Step ∷ Step ∷ Step ∷ Step ∷ [])
-    (record { done = ran_at 0 0o200003 false; after = at 1 0o377777 0 0 false sum_and_test }
-    ∷ record { done = ran_at 1 0o220004 true; after = at 2 0o400000 0 0 true sum_and_test }
-    ∷ record { done = ran_at 2 0o440005 false; after = at 5 0o400000 0 0 false sum_and_test }
-    ∷ record { done = idle_at 5 0; after = record (at 5 0o400000 0 0 false sum_and_test) { phase = Halted } }
-    ∷ record { done = idle_at 5 0; after = record (at 5 0o400000 0 0 false sum_and_test) { phase = Halted } }
+    (record { report = ran_at 0 0o200003 false; after = at 1 0o377777 0 0 false sum_and_test }
+    ∷ record { report = ran_at 1 0o220004 true; after = at 2 0o400000 0 0 true sum_and_test }
+    ∷ record { report = ran_at 2 0o440005 false; after = at 5 0o400000 0 0 false sum_and_test }
+    ∷ record { report = idle_at 5 0; after = record (at 5 0o400000 0 0 false sum_and_test) { phase = Halted } }
+    ∷ record { report = idle_at 5 0; after = record (at 5 0o400000 0 0 false sum_and_test) { phase = Halted } }
     ∷ [])
-unfolding at sum_and_test ran_at idle_at val fits wrap word_of
+unfolding at sum_and_test ran_at idle_at val fits wrap order_word
 overflow_and_its_test = (
   (Some (record { order = Cla; indexed = false; address = 3 }), record { below = omega arith; equals = refl }, (refl, refl)),
   (
@@ -310,12 +310,12 @@ wait = 0o700000 ∷ []
 
 -- A pulse that comes while orders run is lost; while the machine waits a step does nothing; a pulse ends it.
 delay_and_pulse : Run standard_machine (at 0 0 0 0 false wait) (Pulse ∷ Step ∷ Step ∷ Pulse ∷ [])
-    (record { done = idle_at 0 0o700000; after = at 0 0 0 0 false wait }
-    ∷ record { done = ran_at 0 0o700000 false; after = record (at 0 0 0 0 false wait) { phase = Waiting } }
-    ∷ record { done = idle_at 0 0o700000; after = record (at 0 0 0 0 false wait) { phase = Waiting } }
-    ∷ record { done = idle_at 0 0o700000; after = at 0 0 0 0 false wait }
+    (record { report = idle_at 0 0o700000; after = at 0 0 0 0 false wait }
+    ∷ record { report = ran_at 0 0o700000 false; after = record (at 0 0 0 0 false wait) { phase = Waiting } }
+    ∷ record { report = idle_at 0 0o700000; after = record (at 0 0 0 0 false wait) { phase = Waiting } }
+    ∷ record { report = idle_at 0 0o700000; after = at 0 0 0 0 false wait }
     ∷ [])
-unfolding at wait ran_at idle_at word_of
+unfolding at wait ran_at idle_at order_word
 delay_and_pulse = (
   (refl, refl),
   (

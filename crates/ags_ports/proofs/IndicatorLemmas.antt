@@ -11,7 +11,7 @@ use Rattle.ags_ports.specs.declared.events.Phase.{Phase}
 use Rattle.ags_ports.specs.declared.events.Phase.TheVariants.{Running, Waiting, Halted}
 use Rattle.ags_ports.specs.declared.events.Event.{Event}
 use Rattle.ags_ports.specs.declared.events.Event.TheVariants.{Step, Pulse, Put}
-use Rattle.ags_ports.specs.declared.events.Done.{Done}
+use Rattle.ags_ports.specs.declared.events.Report.{Report}
 use Rattle.ags_ports.specs.declared.machines.Machine.{Machine}
 use Rattle.ags_ports.specs.State.{State, cell, word_here}
 use Rattle.ags_ports.specs.Effect.{Effect, effect, effective, divides}
@@ -107,20 +107,20 @@ effect_sets machine s order e y over = ⊎_elim
 differ : false ≡ true → ⊥
 differ h = cc
 
-obeys_sets : (machine : Machine) (s : State) (named : Option Decoded) (done : Done) (after : State) → Obeys machine s named done after → done.overflow ≡ true → after.indicator ≡ true
-obeys_sets machine s (Some d) done after p over =
-    ap (λ (v : State). v.indicator) p.1 ∙ effect_sets machine s d.order (effective s d.order d.indexed d.address) d.address (sym (ap (λ (v : Done). v.overflow) p.0) ∙ over)
-obeys_sets machine s None done after p over = absurd (differ (sym (ap (λ (v : Done). v.overflow) p.0) ∙ over))
+obeys_sets : (machine : Machine) (s : State) (named : Option Decoded) (report : Report) (after : State) → Obeys machine s named report after → report.overflow ≡ true → after.indicator ≡ true
+obeys_sets machine s (Some d) report after p over =
+    ap (λ (v : State). v.indicator) p.1 ∙ effect_sets machine s d.order (effective s d.order d.indexed d.address) d.address (sym (ap (λ (v : Report). v.overflow) p.0) ∙ over)
+obeys_sets machine s None report after p over = absurd (differ (sym (ap (λ (v : Report). v.overflow) p.0) ∙ over))
 
-step_in_sets : (phase : Phase) (machine : Machine) (s : State) (done : Done) (after : State) → StepsIn phase machine s done after → done.overflow ≡ true → after.indicator ≡ true
-step_in_sets Running machine s done after p over = obeys_sets machine s p.0 done after p.2 over
-step_in_sets Waiting machine s done after p over = absurd (differ (sym (ap (λ (v : Done). v.overflow) p.0) ∙ over))
-step_in_sets Halted machine s done after p over = absurd (differ (sym (ap (λ (v : Done). v.overflow) p.0) ∙ over))
+step_in_sets : (phase : Phase) (machine : Machine) (s : State) (report : Report) (after : State) → StepsIn phase machine s report after → report.overflow ≡ true → after.indicator ≡ true
+step_in_sets Running machine s report after p over = obeys_sets machine s p.0 report after p.2 over
+step_in_sets Waiting machine s report after p over = absurd (differ (sym (ap (λ (v : Report). v.overflow) p.0) ∙ over))
+step_in_sets Halted machine s report after p over = absurd (differ (sym (ap (λ (v : Report). v.overflow) p.0) ∙ over))
 
-pub overflow_sets : (machine : Machine) (s : State) (event : Event) (done : Done) (after : State) → Steps machine s event done after → done.overflow ≡ true → after.indicator ≡ true
-overflow_sets machine s Step done after p over = step_in_sets s.phase machine s done after p over
-overflow_sets machine s Pulse done after p over = absurd (differ (sym (ap (λ (v : Done). v.overflow) p.0) ∙ over))
-overflow_sets machine s (Put address word) done after p over = absurd (differ (sym (ap (λ (v : Done). v.overflow) p.0) ∙ over))
+pub overflow_sets : (machine : Machine) (s : State) (event : Event) (report : Report) (after : State) → Steps machine s event report after → report.overflow ≡ true → after.indicator ≡ true
+overflow_sets machine s Step report after p over = step_in_sets s.phase machine s report after p over
+overflow_sets machine s Pulse report after p over = absurd (differ (sym (ap (λ (v : Report). v.overflow) p.0) ∙ over))
+overflow_sets machine s (Put address word) report after p over = absurd (differ (sym (ap (λ (v : Report). v.overflow) p.0) ∙ over))
 
 -- ---- TOV alone clears it
 
@@ -130,28 +130,28 @@ or_kept a b h = rw h
 still_set : (s after : State) → s.indicator ≡ true → after.indicator ≡ false → after.indicator ≡ s.indicator → ⊥
 still_set s after was now same = differ (sym now ∙ same ∙ was)
 
-obeys_clears : (machine : Machine) (s : State) (named : Option Decoded) (done : Done) (after : State) → s.phase ≡ Running → IsDecoding machine.codes (word_here s) named
-    → Obeys machine s named done after → s.indicator ≡ true → after.indicator ≡ false → Reads machine s Tov
-obeys_clears machine s (Some d) done after running names p was now = ⊎_elim
+obeys_clears : (machine : Machine) (s : State) (named : Option Decoded) (report : Report) (after : State) → s.phase ≡ Running → IsDecoding machine.codes (word_here s) named
+    → Obeys machine s named report after → s.indicator ≡ true → after.indicator ≡ false → Reads machine s Tov
+obeys_clears machine s (Some d) report after running names p was now = ⊎_elim
     (λ tov. record { running = running; indexed = d.indexed; address = d.address; names = subst (λ (o : Order). Names machine.codes (word_here s) o d.indexed d.address) tov names })
     (λ other.
     let e = effective s d.order d.indexed d.address in
     let set = ap (λ (v : State). v.indicator) p.1 ∙ effect_indicator machine s d.order e d.address other ∙ or_kept s.indicator ((effect machine s d.order e d.address).overflow) was in
     absurd (differ (sym now ∙ set)))
     (tov_or_not d.order)
-obeys_clears machine s None done after running names p was now = absurd (still_set s after was now (ap (λ (v : State). v.indicator) p.1))
+obeys_clears machine s None report after running names p was now = absurd (still_set s after was now (ap (λ (v : State). v.indicator) p.1))
 
-step_in_clears : (phase : Phase) (machine : Machine) (s : State) (done : Done) (after : State) → s.phase ≡ phase → StepsIn phase machine s done after
+step_in_clears : (phase : Phase) (machine : Machine) (s : State) (report : Report) (after : State) → s.phase ≡ phase → StepsIn phase machine s report after
     → s.indicator ≡ true → after.indicator ≡ false → Reads machine s Tov
-step_in_clears Running machine s done after is p was now = obeys_clears machine s p.0 done after is p.1 p.2 was now
-step_in_clears Waiting machine s done after is p was now = absurd (still_set s after was now (ap (λ (v : State). v.indicator) p.1))
-step_in_clears Halted machine s done after is p was now = absurd (still_set s after was now (ap (λ (v : State). v.indicator) p.1))
+step_in_clears Running machine s report after is p was now = obeys_clears machine s p.0 report after is p.1 p.2 was now
+step_in_clears Waiting machine s report after is p was now = absurd (still_set s after was now (ap (λ (v : State). v.indicator) p.1))
+step_in_clears Halted machine s report after is p was now = absurd (still_set s after was now (ap (λ (v : State). v.indicator) p.1))
 
-pub tov_clears : (machine : Machine) (s : State) (event : Event) (done : Done) (after : State) → Steps machine s event done after
+pub tov_clears : (machine : Machine) (s : State) (event : Event) (report : Report) (after : State) → Steps machine s event report after
     → s.indicator ≡ true → after.indicator ≡ false → (event ≡ Step) × Reads machine s Tov
-tov_clears machine s Step done after p was now = (refl, step_in_clears s.phase machine s done after refl p was now)
-tov_clears machine s Pulse done after p was now = absurd (still_set s after was now (ap (λ (v : State). v.indicator) p.1))
-tov_clears machine s (Put address word) done after p was now = absurd (still_set s after was now (ap (λ (v : State). v.indicator) p.1))
+tov_clears machine s Step report after p was now = (refl, step_in_clears s.phase machine s report after refl p was now)
+tov_clears machine s Pulse report after p was now = absurd (still_set s after was now (ap (λ (v : State). v.indicator) p.1))
+tov_clears machine s (Put address word) report after p was now = absurd (still_set s after was now (ap (λ (v : State). v.indicator) p.1))
 
 -- ---- an order that overflows alone sets it
 
@@ -175,21 +175,21 @@ effect_set_by machine s order e y was now = ⊎_elim
 still_clear : (s after : State) → s.indicator ≡ false → after.indicator ≡ true → after.indicator ≡ s.indicator → ⊥
 still_clear s after was now same = differ (sym was ∙ sym same ∙ now)
 
-obeys_set_by : (machine : Machine) (s : State) (named : Option Decoded) (done : Done) (after : State) → Obeys machine s named done after
-    → s.indicator ≡ false → after.indicator ≡ true → done.overflow ≡ true
-obeys_set_by machine s (Some d) done after p was now =
-    ap (λ (v : Done). v.overflow) p.0
+obeys_set_by : (machine : Machine) (s : State) (named : Option Decoded) (report : Report) (after : State) → Obeys machine s named report after
+    → s.indicator ≡ false → after.indicator ≡ true → report.overflow ≡ true
+obeys_set_by machine s (Some d) report after p was now =
+    ap (λ (v : Report). v.overflow) p.0
     ∙ effect_set_by machine s d.order (effective s d.order d.indexed d.address) d.address was (sym (ap (λ (v : State). v.indicator) p.1) ∙ now)
-obeys_set_by machine s None done after p was now = absurd (still_clear s after was now (ap (λ (v : State). v.indicator) p.1))
+obeys_set_by machine s None report after p was now = absurd (still_clear s after was now (ap (λ (v : State). v.indicator) p.1))
 
-step_in_set_by : (phase : Phase) (machine : Machine) (s : State) (done : Done) (after : State) → StepsIn phase machine s done after
-    → s.indicator ≡ false → after.indicator ≡ true → done.overflow ≡ true
-step_in_set_by Running machine s done after p was now = obeys_set_by machine s p.0 done after p.2 was now
-step_in_set_by Waiting machine s done after p was now = absurd (still_clear s after was now (ap (λ (v : State). v.indicator) p.1))
-step_in_set_by Halted machine s done after p was now = absurd (still_clear s after was now (ap (λ (v : State). v.indicator) p.1))
+step_in_set_by : (phase : Phase) (machine : Machine) (s : State) (report : Report) (after : State) → StepsIn phase machine s report after
+    → s.indicator ≡ false → after.indicator ≡ true → report.overflow ≡ true
+step_in_set_by Running machine s report after p was now = obeys_set_by machine s p.0 report after p.2 was now
+step_in_set_by Waiting machine s report after p was now = absurd (still_clear s after was now (ap (λ (v : State). v.indicator) p.1))
+step_in_set_by Halted machine s report after p was now = absurd (still_clear s after was now (ap (λ (v : State). v.indicator) p.1))
 
-pub set_by_overflow : (machine : Machine) (s : State) (event : Event) (done : Done) (after : State) → Steps machine s event done after
-    → s.indicator ≡ false → after.indicator ≡ true → done.overflow ≡ true
-set_by_overflow machine s Step done after p was now = step_in_set_by s.phase machine s done after p was now
-set_by_overflow machine s Pulse done after p was now = absurd (still_clear s after was now (ap (λ (v : State). v.indicator) p.1))
-set_by_overflow machine s (Put address word) done after p was now = absurd (still_clear s after was now (ap (λ (v : State). v.indicator) p.1))
+pub set_by_overflow : (machine : Machine) (s : State) (event : Event) (report : Report) (after : State) → Steps machine s event report after
+    → s.indicator ≡ false → after.indicator ≡ true → report.overflow ≡ true
+set_by_overflow machine s Step report after p was now = step_in_set_by s.phase machine s report after p was now
+set_by_overflow machine s Pulse report after p was now = absurd (still_clear s after was now (ap (λ (v : State). v.indicator) p.1))
+set_by_overflow machine s (Put address word) report after p was now = absurd (still_clear s after was now (ap (λ (v : State). v.indicator) p.1))

@@ -8,7 +8,7 @@ use Rattle.ags_isa.specs.declared.orders.Order.TheVariants.{Abs, Tra, Tsq}
 use Rattle.ags_isa.specs.declared.decoding.Decoded.{Decoded}
 use Rattle.ags_isa.specs.Order.{order_number, all_orders}
 use Rattle.ags_isa.specs.Code.{AreCodes, code_of}
-use Rattle.ags_isa.specs.Naming.{index_bit, word_of, Names, IsDecoding}
+use Rattle.ags_isa.specs.Naming.{index_bit, order_word, Names, IsDecoding}
 use Rattle.ags_ports.specs.declared.machines.Machine.{Machine}
 use Rattle.ags_ports.specs.State.{State, next_location}
 use Rattle.ags_ports.specs.Effect.{effect}
@@ -54,7 +54,7 @@ none_of : (table : List ℕ) (code : ℕ) → All (λ o. code_of table o ≢ cod
 none_of table code none o = subst (λ (p : Order). code_of table p ≢ code) (order_at_number o Abs) (none (order_number o) Abs (order_number-below o))
 
 code_is : (table : List ℕ) (word : ℕ) (order : Order) (indexed : Bool) (address : ℕ) → Names table word order indexed address → code_of table order ≡ word / 2 ^ 13
-unfolding word_of
+unfolding order_word
 code_is table word order true address h = omega (arith, h.below, h.equals)
 code_is table word order false address h = omega (arith, h.below, h.equals)
 
@@ -65,7 +65,7 @@ bit_of n = ⊎_elim
     (cases_lt (n % 2) 1)
 
 names_word : (table : List ℕ) (word : ℕ) (o : Order) → code_of table o ≡ word / 2 ^ 13 → Names table word o (nat_eq (word / 2 ^ 12 % 2) 1) (word % 2 ^ 12)
-unfolding word_of
+unfolding order_word
 names_word table word o e = let bit = bit_of (word / 2 ^ 12) in record { below = omega arith; equals = omega arith }
 
 pub decoding : (table : List ℕ) (word : ℕ) → (named : Option Decoded) × IsDecoding table word named

@@ -4,10 +4,10 @@ use Rattle.ags_ports.specs.declared.events.Phase.{Phase}
 use Rattle.ags_ports.specs.declared.events.Phase.TheVariants.{Running, Waiting, Halted}
 use Rattle.ags_ports.specs.declared.events.Event.{Event}
 use Rattle.ags_ports.specs.declared.events.Event.TheVariants.{Step, Pulse, Put}
-use Rattle.ags_ports.specs.declared.events.Done.{Done}
+use Rattle.ags_ports.specs.declared.events.Report.{Report}
 use Rattle.ags_ports.specs.declared.machines.Machine.{Machine}
 use Rattle.ags_ports.specs.State.{State}
-use Rattle.ags_ports.specs.Step.{StepsIn, Steps, ChangesInputsAlone, pulsed}
+use Rattle.ags_ports.specs.Step.{StepsIn, Steps, ChangesInputsAlone, phase_after_pulse}
 
 unchanged : (s after : State) → after ≡ s → ChangesInputsAlone s after
 unchanged s after e = subst (λ (v : State). ChangesInputsAlone s v) (sym e) refl
@@ -15,20 +15,20 @@ unchanged s after e = subst (λ (v : State). ChangesInputsAlone s v) (sym e) ref
 inputs_alone : (s after : State) (inputs : List ℕ) → after ≡ record s { inputs = inputs } → ChangesInputsAlone s after
 inputs_alone s after inputs e = subst (λ (v : State). ChangesInputsAlone s v) (sym e) refl
 
-pub waits : (machine : Machine) (s : State) (event : Event) (done : Done) (after : State) → s.phase ≡ Waiting → event ≢ Pulse → Steps machine s event done after → ChangesInputsAlone s after
-waits machine s Step done after waiting other p =
-    let q = subst (λ (phase : Phase). StepsIn phase machine s done after) waiting p in
+pub waits : (machine : Machine) (s : State) (event : Event) (report : Report) (after : State) → s.phase ≡ Waiting → event ≢ Pulse → Steps machine s event report after → ChangesInputsAlone s after
+waits machine s Step report after waiting other p =
+    let q = subst (λ (phase : Phase). StepsIn phase machine s report after) waiting p in
     unchanged s after q.1
-waits machine s Pulse done after waiting other p = absurd (other refl)
-waits machine s (Put address word) done after waiting other p = inputs_alone s after _ p.1
+waits machine s Pulse report after waiting other p = absurd (other refl)
+waits machine s (Put address word) report after waiting other p = inputs_alone s after _ p.1
 
-pub wakes : (machine : Machine) (s : State) (done : Done) (after : State) → s.phase ≡ Waiting → Steps machine s Pulse done after → after ≡ record s { phase = Running }
-wakes machine s done after waiting p = p.1 ∙ ap (λ (phase : Phase). record s { phase = pulsed phase }) waiting
+pub wakes : (machine : Machine) (s : State) (report : Report) (after : State) → s.phase ≡ Waiting → Steps machine s Pulse report after → after ≡ record s { phase = Running }
+wakes machine s report after waiting p = p.1 ∙ ap (λ (phase : Phase). record s { phase = phase_after_pulse phase }) waiting
 
-pub halts : (machine : Machine) (s : State) (event : Event) (done : Done) (after : State) → s.phase ≡ Halted → Steps machine s event done after → ChangesInputsAlone s after
-halts machine s Step done after halted p =
-    let q = subst (λ (phase : Phase). StepsIn phase machine s done after) halted p in
+pub halts : (machine : Machine) (s : State) (event : Event) (report : Report) (after : State) → s.phase ≡ Halted → Steps machine s event report after → ChangesInputsAlone s after
+halts machine s Step report after halted p =
+    let q = subst (λ (phase : Phase). StepsIn phase machine s report after) halted p in
     unchanged s after q.1
-halts machine s Pulse done after halted p = unchanged s after
-    (p.1 ∙ ap (λ (phase : Phase). record s { phase = pulsed phase }) halted ∙ ap (λ (phase : Phase). record s { phase = phase }) (sym halted))
-halts machine s (Put address word) done after halted p = inputs_alone s after _ p.1
+halts machine s Pulse report after halted p = unchanged s after
+    (p.1 ∙ ap (λ (phase : Phase). record s { phase = phase_after_pulse phase }) halted ∙ ap (λ (phase : Phase). record s { phase = phase }) (sym halted))
+halts machine s (Put address word) report after halted p = inputs_alone s after _ p.1

@@ -4,7 +4,7 @@
 use Rattle.std.proofs.Common.{◌≡◌, ℕ, ◌≤◌, refl, sym, ap, subst, ◌∙◌, List, [], ◌∷◌, ◌++◌}
 use Rattle.ags_ports.specs.declared.events.Phase.TheVariants.{Halted}
 use Rattle.ags_ports.specs.declared.events.Event.{Event}
-use Rattle.ags_ports.specs.declared.events.Done.{Done}
+use Rattle.ags_ports.specs.declared.events.Report.{Report}
 use Rattle.ags_ports.specs.declared.machines.Machine.{Machine}
 use Rattle.ags_ports.specs.Machine.{IsMachine}
 use Rattle.ags_ports.specs.State.{State, IsState, cell}
@@ -20,13 +20,13 @@ some_run machine s [] = ([], tt)
 some_run machine s (event ∷ events) =
     let first = some_step machine s event in
     let rest = some_run machine first.1 events in
-    (record { done = first.0; after = first.1 } ∷ rest.0, (first.2, rest.1))
+    (record { report = first.0; after = first.1 } ∷ rest.0, (first.2, rest.1))
 
-same_moment : (m n : Moment) (ms ns : List Moment) → m.done ≡ n.done → m.after ≡ n.after → ms ≡ ns → m ∷ ms ≡ n ∷ ns
+same_moment : (m n : Moment) (ms ns : List Moment) → m.report ≡ n.report → m.after ≡ n.after → ms ≡ ns → m ∷ ms ≡ n ∷ ns
 same_moment m n ms ns e f g =
-    let h : m ≡ n = made m.done n.done m.after n.after e f in cc
+    let h : m ≡ n = made m.report n.report m.after n.after e f in cc
   where
-    made : (d e : Done) (a b : State) → d ≡ e → a ≡ b → ◌≡◌ {A = Moment} (record { done = d; after = a }) (record { done = e; after = b })
+    made : (d e : Report) (a b : State) → d ≡ e → a ≡ b → ◌≡◌ {A = Moment} (record { report = d; after = a }) (record { report = e; after = b })
     made d e a b p r = cc
 
 pub one_run : (machine : Machine) (s : State) (events : List Event) (moments others : List Moment) → IsMachine machine → Run machine s events moments → Run machine s events others → moments ≡ others
@@ -36,7 +36,7 @@ one_run machine s [] (m ∷ ms) ns h p r = absurd p
 one_run machine s (event ∷ events) [] ns h p r = absurd p
 one_run machine s (event ∷ events) (m ∷ ms) [] h p r = absurd r
 one_run machine s (event ∷ events) (m ∷ ms) (n ∷ ns) h p r =
-    let first = one_step machine s event m.done n.done m.after n.after h p.0 r.0 in
+    let first = one_step machine s event m.report n.report m.after n.after h p.0 r.0 in
     let rest = one_run machine m.after events ms ns h p.1 (subst (λ (t : State). Run machine t events ns) (sym first.1) r.1) in
     same_moment m n ms ns first.0 first.1 rest
 
@@ -45,7 +45,7 @@ run_keeps machine s [] [] h is right p = tt
 run_keeps machine s [] (m ∷ ms) h is right p = absurd p
 run_keeps machine s (event ∷ events) [] h is right p = absurd p
 run_keeps machine s (event ∷ events) (m ∷ ms) h is right p =
-    let next = step_keeps machine s event m.done m.after h is right.0 p.0 in
+    let next = step_keeps machine s event m.report m.after h is right.0 p.0 in
     (next, run_keeps machine m.after events ms h next right.1 p.1)
 
 fixed_from : (at word : ℕ) → 2048 ≤ at → (machine : Machine) (s : State) (events : List Event) (moments : List Moment) → cell s at ≡ word → Run machine s events moments → AtEach (λ moment. cell moment.after at ≡ word) moments
@@ -53,7 +53,7 @@ fixed_from at word fixed machine s [] [] same p = tt
 fixed_from at word fixed machine s [] (m ∷ ms) same p = absurd p
 fixed_from at word fixed machine s (event ∷ events) [] same p = absurd p
 fixed_from at word fixed machine s (event ∷ events) (m ∷ ms) same p =
-    let next = step_fixed machine s event m.done m.after at fixed p.0 ∙ same in
+    let next = step_fixed machine s event m.report m.after at fixed p.0 ∙ same in
     (next, fixed_from at word fixed machine m.after events ms next p.1)
 
 pub run_fixed : (machine : Machine) (s : State) (events : List Event) (moments : List Moment) (at : ℕ) → 2048 ≤ at → Run machine s events moments → AtEach (λ moment. cell moment.after at ≡ cell s at) moments
@@ -64,7 +64,7 @@ run_halted machine s [] [] halted p = tt
 run_halted machine s [] (m ∷ ms) halted p = absurd p
 run_halted machine s (event ∷ events) [] halted p = absurd p
 run_halted machine s (event ∷ events) (m ∷ ms) halted p =
-    let next = ap (λ (t : State). t.phase) (halts machine s event m.done m.after halted p.0) ∙ halted in
+    let next = ap (λ (t : State). t.phase) (halts machine s event m.report m.after halted p.0) ∙ halted in
     (next, run_halted machine m.after events ms next p.1)
 
 -- what changes inputs alone, and then again, changes inputs alone
@@ -77,7 +77,7 @@ alone_from start machine s [] [] halted alone p = tt
 alone_from start machine s [] (m ∷ ms) halted alone p = absurd p
 alone_from start machine s (event ∷ events) [] halted alone p = absurd p
 alone_from start machine s (event ∷ events) (m ∷ ms) halted alone p =
-    let step = halts machine s event m.done m.after halted p.0 in
+    let step = halts machine s event m.report m.after halted p.0 in
     let next = alone_again start s m.after alone step in
     (next, alone_from start machine m.after events ms (ap (λ (t : State). t.phase) step ∙ halted) next p.1)
 

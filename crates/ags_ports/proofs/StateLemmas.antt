@@ -8,7 +8,7 @@ use Rattle.std.proofs.lemmas.Nat.{or_lt}
 use Rattle.std.proofs.lemmas.List.{length-set}
 use Rattle.std.proofs.Math.ListN.{get_or-eq_default}
 use Rattle.std.proofs.lemmas.List.Elements.{All-set}
-use Rattle.ags_word.specs.Word.{val, fits, wrap, word_of as word_of_value}
+use Rattle.ags_word.specs.Word.{val, fits, wrap, word_of_value}
 use Rattle.ags_word.specs.Long.{divided, long}
 use Rattle.ags_word.proofs.WordLaws.{wrap_below}
 use Rattle.ags_word.proofs.LongLaws.{pair_a_below, pair_q_below}
@@ -16,19 +16,19 @@ use Rattle.ags_isa.specs.declared.orders.Order.{Order}
 use Rattle.ags_isa.specs.declared.orders.Order.TheVariants.{Abs, Add, Adz, Als, Axt, Cla, Clz, Com, Dly, Dvp, Inp, Ldq, Lls, Lrs, Mpr, Mpy, Mpz, Out, Sto, Stq, Sub, Suz, Tix, Tmi, Tov, Tra, Tsq}
 use Rattle.ags_isa.specs.declared.decoding.Decoded.{Decoded}
 use Rattle.ags_isa.specs.Naming.{IsDecoding}
-use Rattle.ags_isa.proofs.WordLemmas.{word_of-below}
+use Rattle.ags_isa.proofs.WordLemmas.{order_word-below}
 use Rattle.ags_ports.specs.declared.registers.Port.{Port}
 use Rattle.ags_ports.specs.declared.events.Phase.{Phase}
 use Rattle.ags_ports.specs.declared.events.Phase.TheVariants.{Running, Waiting, Halted}
 use Rattle.ags_ports.specs.declared.events.Event.{Event}
 use Rattle.ags_ports.specs.declared.events.Event.TheVariants.{Step, Pulse, Put}
-use Rattle.ags_ports.specs.declared.events.Done.{Done}
+use Rattle.ags_ports.specs.declared.events.Report.{Report}
 use Rattle.ags_ports.specs.declared.machines.Machine.{Machine}
 use Rattle.ags_ports.specs.Machine.{IsMachine}
 use Rattle.ags_ports.specs.Port.{place_of, register_at, set_at, read_at, is_once}
 use Rattle.ags_ports.specs.State.{State, IsState, cell, word_here, next_location, written}
 use Rattle.ags_ports.specs.Effect.{Effect, effect, effective, counts_index, divides, then_stores, leaves, moved_on, loads, adds, subtracts, rounds_product}
-use Rattle.ags_ports.specs.Step.{IsEvent, Obeys, StepsIn, Steps, pulsed}
+use Rattle.ags_ports.specs.Step.{IsEvent, Obeys, StepsIn, Steps, phase_after_pulse}
 
 -- ---- lists of words
 
@@ -114,8 +114,8 @@ module _ (machine : Machine) (s : State) (is : IsState machine s) where
   divides_keeps (Some w) h = sets_a w s.indicator h
 
 -- a store after an order
-stores_keeps : (machine : Machine) (done : Effect) (address word : ℕ) → IsState machine done.after → word < 2 ^ 18 → IsState machine ((then_stores done address word).after)
-stores_keeps machine done address word is below = record { a = is.a; q = is.q; index = is.index; location = is.location; cells_count = written_length done.after.cells address word ∙ is.cells_count; cells = written_words done.after.cells address word is.cells below; inputs_count = is.inputs_count; inputs = is.inputs; outputs_count = is.outputs_count; outputs = is.outputs }
+stores_keeps : (machine : Machine) (report : Effect) (address word : ℕ) → IsState machine report.after → word < 2 ^ 18 → IsState machine ((then_stores report address word).after)
+stores_keeps machine report address word is below = record { a = is.a; q = is.q; index = is.index; location = is.location; cells_count = written_length report.after.cells address word ∙ is.cells_count; cells = written_words report.after.cells address word is.cells below; inputs_count = is.inputs_count; inputs = is.inputs; outputs_count = is.outputs_count; outputs = is.outputs }
 
 -- a quotient's word is one
 chosen_word : (zero fits : Bool) (w : ℕ) → w < 2 ^ 18 → IfSome (if zero then None else (if fits then Some w else None)) (λ v. v < 2 ^ 18)
@@ -154,7 +154,7 @@ effect_keeps machine s Tov e y h is e_below y_below = chosen machine s is _ _ _ 
 effect_keeps machine s Tix e y h is e_below y_below = chosen machine s is _ _ _ (goes_to machine s is s.indicator (next_location s) (omega arith))
     (holds machine s is s.a s.q (s.index - 1) s.indicator y s.phase is.a is.q (omega (arith, is.index)) y_below)
 effect_keeps machine s Axt e y h is e_below y_below = holds machine s is s.a s.q (y % 8) s.indicator (next_location s) s.phase is.a is.q (omega arith) (omega arith)
-effect_keeps machine s Tsq e y h is e_below y_below = holds machine s is s.a _ s.index s.indicator e s.phase is.a (word_of-below machine.codes h.codes Tra false (next_location s) (omega arith)) is.index e_below
+effect_keeps machine s Tsq e y h is e_below y_below = holds machine s is s.a _ s.index s.indicator e s.phase is.a (order_word-below machine.codes h.codes Tra false (next_location s) (omega arith)) is.index e_below
 effect_keeps machine s Inp e y h is e_below y_below =
     let place = place_of machine.ports.inputs y in
     record { a = register_at_below s.inputs place is.inputs; q = is.q; index = is.index; location = omega arith; cells_count = is.cells_count; cells = is.cells; inputs_count = read_at_length machine.ports.inputs s.inputs place ∙ is.inputs_count; inputs = read_at_words machine.ports.inputs s.inputs place is.inputs; outputs_count = is.outputs_count; outputs = is.outputs }
@@ -176,20 +176,20 @@ effective_below machine s order indexed y is below =
 along : (machine : Machine) (t u : State) → t ≡ u → IsState machine u → IsState machine t
 along machine t u e is = subst (λ (v : State). IsState machine v) (sym e) is
 
-obeys_keeps : (machine : Machine) (s : State) (named : Option Decoded) (done : Done) (after : State) → IsMachine machine → IsState machine s
-    → IsDecoding machine.codes (word_here s) named → Obeys machine s named done after → IsState machine after
-obeys_keeps machine s (Some d) done after h is names does = along machine after _ does.1
+obeys_keeps : (machine : Machine) (s : State) (named : Option Decoded) (report : Report) (after : State) → IsMachine machine → IsState machine s
+    → IsDecoding machine.codes (word_here s) named → Obeys machine s named report after → IsState machine after
+obeys_keeps machine s (Some d) report after h is names does = along machine after _ does.1
     (effect_keeps machine s d.order (effective s d.order d.indexed d.address) d.address h is (effective_below machine s d.order d.indexed d.address is names.below) names.below)
-obeys_keeps machine s None done after h is names does = along machine after _ does.1 (holds machine s is s.a s.q s.index s.indicator s.location Halted is.a is.q is.index is.location)
+obeys_keeps machine s None report after h is names does = along machine after _ does.1 (holds machine s is s.a s.q s.index s.indicator s.location Halted is.a is.q is.index is.location)
 
-step_in_keeps : (phase : Phase) (machine : Machine) (s : State) (done : Done) (after : State) → IsMachine machine → IsState machine s → StepsIn phase machine s done after → IsState machine after
-step_in_keeps Running machine s done after h is p = obeys_keeps machine s p.0 done after h is p.1 p.2
-step_in_keeps Waiting machine s done after h is p = along machine after s p.1 is
-step_in_keeps Halted machine s done after h is p = along machine after s p.1 is
+step_in_keeps : (phase : Phase) (machine : Machine) (s : State) (report : Report) (after : State) → IsMachine machine → IsState machine s → StepsIn phase machine s report after → IsState machine after
+step_in_keeps Running machine s report after h is p = obeys_keeps machine s p.0 report after h is p.1 p.2
+step_in_keeps Waiting machine s report after h is p = along machine after s p.1 is
+step_in_keeps Halted machine s report after h is p = along machine after s p.1 is
 
-pub step_keeps : (machine : Machine) (s : State) (event : Event) (done : Done) (after : State) → IsMachine machine → IsState machine s → IsEvent event → Steps machine s event done after → IsState machine after
-step_keeps machine s Step done after h is right p = step_in_keeps s.phase machine s done after h is p
-step_keeps machine s Pulse done after h is right p = along machine after _ p.1 (holds machine s is s.a s.q s.index s.indicator s.location (pulsed s.phase) is.a is.q is.index is.location)
-step_keeps machine s (Put address word) done after h is right p =
+pub step_keeps : (machine : Machine) (s : State) (event : Event) (report : Report) (after : State) → IsMachine machine → IsState machine s → IsEvent event → Steps machine s event report after → IsState machine after
+step_keeps machine s Step report after h is right p = step_in_keeps s.phase machine s report after h is p
+step_keeps machine s Pulse report after h is right p = along machine after _ p.1 (holds machine s is s.a s.q s.index s.indicator s.location (phase_after_pulse s.phase) is.a is.q is.index is.location)
+step_keeps machine s (Put address word) report after h is right p =
     let place = place_of machine.ports.inputs address in
     along machine after _ p.1 (record { a = is.a; q = is.q; index = is.index; location = is.location; cells_count = is.cells_count; cells = is.cells; inputs_count = set_at_length s.inputs place word ∙ is.inputs_count; inputs = set_at_words s.inputs place word is.inputs right; outputs_count = is.outputs_count; outputs = is.outputs })

@@ -4,7 +4,7 @@ use Rattle.ags_word.specs.Word.{val, fits, wrap}
 use Rattle.ags_word.specs.Long.{long, pair, shifted_right, fits_long, wrap_long, divided}
 use Rattle.ags_isa.specs.declared.orders.Order.{Order}
 use Rattle.ags_isa.specs.declared.orders.Order.TheVariants.{Abs, Add, Adz, Als, Axt, Cla, Clz, Com, Dly, Dvp, Inp, Ldq, Lls, Lrs, Mpr, Mpy, Mpz, Out, Sto, Stq, Sub, Suz, Tix, Tmi, Tov, Tra, Tsq}
-use Rattle.ags_isa.specs.Naming.{word_of}
+use Rattle.ags_isa.specs.Naming.{order_word}
 use Rattle.ags_ports.specs.declared.events.Phase.TheVariants.{Waiting}
 use Rattle.ags_ports.specs.declared.events.Stored.{Stored}
 use Rattle.ags_ports.specs.declared.machines.Machine.{Machine}
@@ -167,7 +167,7 @@ effect machine s Tix e y = leaves
 -- The index becomes y modulo 8.
 effect machine s Axt e y = leaves (record s { index = y % 8; location = next_location s })
 -- Q = the word of TRA, its index bit 0, to the next location; then it goes to e.
-effect machine s Tsq e y = leaves (record s { q = word_of machine.codes Tra false (next_location s); location = e })
+effect machine s Tsq e y = leaves (record s { q = order_word machine.codes Tra false (next_location s); location = e })
 -- A = the word of the input register at y, or 0 where there is none; a register that holds its word once then holds 0.
 effect machine s Inp e y = let place = place_of machine.ports.inputs y in record {
   after = record s {

@@ -38,19 +38,19 @@ read_at ports words None = words
 read_at ports words (Some place) = if is_once (slice_get ports place) then slice_set words place 0 else words
 
 -- the register at an address that holds its word until another one is set
-abbrev pub held : ℕ → Port
-held address = record { address = address; once = false }
+abbrev pub held_port : ℕ → Port
+held_port address = record { address = address; once = false }
 
 -- the register at an address that holds its word once
-abbrev pub once : ℕ → Port
-once address = record { address = address; once = true }
+abbrev pub once_port : ℕ → Port
+once_port address = record { address = address; once = true }
 
 -- the standard input registers, of which the last holds its word once: 2001, 2002, 2004, 2010, 2020, 2040 and 2200 octal
 abbrev pub standard_inputs : List Port
 standard_inputs =
-    held 0o2001 ∷ held 0o2002 ∷ held 0o2004 ∷ held 0o2010 ∷ held 0o2020 ∷ held 0o2040 ∷ once 0o2200 ∷ []
+    held_port 0o2001 ∷ held_port 0o2002 ∷ held_port 0o2004 ∷ held_port 0o2010 ∷ held_port 0o2020 ∷ held_port 0o2040 ∷ once_port 0o2200 ∷ []
 
 -- the standard output registers: 6001, 6002, 6004, 6010, 6020, 6040 and 6200 octal
 abbrev pub standard_outputs : List Port
 standard_outputs =
-    held 0o6001 ∷ held 0o6002 ∷ held 0o6004 ∷ held 0o6010 ∷ held 0o6020 ∷ held 0o6040 ∷ held 0o6200 ∷ []
+    held_port 0o6001 ∷ held_port 0o6002 ∷ held_port 0o6004 ∷ held_port 0o6010 ∷ held_port 0o6020 ∷ held_port 0o6040 ∷ held_port 0o6200 ∷ []

@@ -7,7 +7,7 @@ use Rattle.ags_ports.specs.declared.events.Phase.{Phase}
 use Rattle.ags_ports.specs.declared.events.Phase.TheVariants.{Running, Waiting, Halted}
 use Rattle.ags_ports.specs.declared.events.Event.{Event}
 use Rattle.ags_ports.specs.declared.events.Event.TheVariants.{Step, Pulse, Put}
-use Rattle.ags_ports.specs.declared.events.Done.{Done}
+use Rattle.ags_ports.specs.declared.events.Report.{Report}
 use Rattle.ags_ports.specs.declared.machines.Machine.{Machine}
 use Rattle.ags_ports.specs.Port.{place_of, set_at}
 use Rattle.ags_ports.specs.State.{State, word_here}
@@ -34,9 +34,9 @@ NamesNone machine s = (order : Order) (indexed : Bool) (address : ℕ) → ¬ Na
 abbrev pub ChangesInputsAlone : State → State → Type 0
 ChangesInputsAlone s after = after ≡ record s { inputs = after.inputs }
 
--- what is told of an event that runs no order: the location and its word, and nothing else
-abbrev pub idle : State → Done
-idle s = record {
+-- the report of an event that runs no order: the location and its word, and nothing else
+abbrev pub idle_report : State → Report
+idle_report s = record {
   ran = false;
   location = s.location;
   word = word_here s;
@@ -46,43 +46,43 @@ idle s = record {
   gave = None;
 }
 
--- what is told of an order that ran: the location and the word that it was read from, and what it did
-abbrev pub ran : State → Effect → Done
-ran s done = record {
+-- the report of an order that ran: the location and the word that it was read from, and what it did
+abbrev pub order_report : State → Effect → Report
+order_report s made = record {
   ran = true;
   location = s.location;
   word = word_here s;
-  overflow = done.overflow;
-  stored = done.stored;
-  took = done.took;
-  gave = done.gave;
+  overflow = made.overflow;
+  stored = made.stored;
+  took = made.took;
+  gave = made.gave;
 }
 
 -- the order that was read runs, at its address; where none was read, the machine halts, and nothing else changes
-abbrev pub Obeys : Machine → State → Option Decoded → Done → State → Type 0
-Obeys machine s (Some decoded) done after =
+abbrev pub Obeys : Machine → State → Option Decoded → Report → State → Type 0
+Obeys machine s (Some decoded) report after =
     let e = effective s decoded.order decoded.indexed decoded.address in
     let does = effect machine s decoded.order e decoded.address in
-    (done ≡ ran s does) × (after ≡ does.after)
-Obeys machine s None done after = (done ≡ idle s) × (after ≡ record s { phase = Halted })
+    (report ≡ order_report s does) × (after ≡ does.after)
+Obeys machine s None report after = (report ≡ idle_report s) × (after ≡ record s { phase = Halted })
 
 -- a Step, by the phase: where orders run, the word at the location is read and obeyed; else nothing changes
-abbrev pub StepsIn : Phase → Machine → State → Done → State → Type 0
-StepsIn Running machine s done after =
-    (named : Option Decoded) × IsDecoding machine.codes (word_here s) named × Obeys machine s named done after
-StepsIn Waiting machine s done after = (done ≡ idle s) × (after ≡ s)
-StepsIn Halted machine s done after = (done ≡ idle s) × (after ≡ s)
+abbrev pub StepsIn : Phase → Machine → State → Report → State → Type 0
+StepsIn Running machine s report after =
+    (named : Option Decoded) × IsDecoding machine.codes (word_here s) named × Obeys machine s named report after
+StepsIn Waiting machine s report after = (report ≡ idle_report s) × (after ≡ s)
+StepsIn Halted machine s report after = (report ≡ idle_report s) × (after ≡ s)
 
 -- the phase after a pulse: it ends waiting, and in the other phases it is lost
-abbrev pub pulsed : Phase → Phase
-pulsed Waiting = Running
-pulsed Running = Running
-pulsed Halted = Halted
+abbrev pub phase_after_pulse : Phase → Phase
+phase_after_pulse Waiting = Running
+phase_after_pulse Running = Running
+phase_after_pulse Halted = Halted
 
--- One step of the machine: in this state, the event tells this, and leaves the state after.
-abbrev pub Steps : Machine → State → Event → Done → State → Type 0
-Steps machine s Step done after = StepsIn s.phase machine s done after
-Steps machine s Pulse done after = (done ≡ idle s) × (after ≡ record s { phase = pulsed s.phase })
+-- One step of the machine: in this state, the event makes this report, and leaves the state after.
+abbrev pub Steps : Machine → State → Event → Report → State → Type 0
+Steps machine s Step report after = StepsIn s.phase machine s report after
+Steps machine s Pulse report after = (report ≡ idle_report s) × (after ≡ record s { phase = phase_after_pulse s.phase })
 -- the input register at the address is set, in every phase; where there is none, nothing changes
-Steps machine s (Put address word) done after =
-    (done ≡ idle s) × (after ≡ record s { inputs = set_at s.inputs (place_of machine.ports.inputs address) word })
+Steps machine s (Put address word) report after =
+    (report ≡ idle_report s) × (after ≡ record s { inputs = set_at s.inputs (place_of machine.ports.inputs address) word })

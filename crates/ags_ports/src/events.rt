@@ -38,9 +38,9 @@ pub struct Stored {
     pub word: Word,
 }
 
-/// What a step tells.
+/// What one event makes of the machine: the report of a step.
 #[derive(Clone, Copy, Debug, PartialEq, Eq)]
-pub struct Done {
+pub struct Report {
     /// Whether an order ran.
     pub ran: bool,
     /// The location before the event.

@@ -10,7 +10,7 @@ mod machines;
 mod registers;
 mod time_tables;
 
-pub use events::{Done, Event, Phase, Stored};
+pub use events::{Report, Event, Phase, Stored};
 pub use machines::Machine;
 pub use registers::{Port, Ports};
 pub use time_tables::Times;

@@ -68,25 +68,25 @@ impl Ports {
     {
         Ports {
             inputs: table(&[
-                held(0o2001),
-                held(0o2002),
-                held(0o2004),
-                held(0o2010),
-                held(0o2020),
-                held(0o2040),
+                held_port(0o2001),
+                held_port(0o2002),
+                held_port(0o2004),
+                held_port(0o2010),
+                held_port(0o2020),
+                held_port(0o2040),
                 Port {
                     address: 0o2200,
                     once: true,
                 },
             ]),
             outputs: table(&[
-                held(0o6001),
-                held(0o6002),
-                held(0o6004),
-                held(0o6010),
-                held(0o6020),
-                held(0o6040),
-                held(0o6200),
+                held_port(0o6001),
+                held_port(0o6002),
+                held_port(0o6004),
+                held_port(0o6010),
+                held_port(0o6020),
+                held_port(0o6040),
+                held_port(0o6200),
             ]),
         }
     }
@@ -140,7 +140,7 @@ fn place(ports: &[Port], address: u16) -> Option<usize>
 }
 
 /// A register that holds its word.
-fn held(address: u16) -> Port
+fn held_port(address: u16) -> Port
     ensures { result ≡ record { address = address; once = false } }
 {
     Port {

@@ -6,7 +6,7 @@ use crate::time_tables::Times;
 use ags_isa::{Codes, Order};
 
 /// A register that holds its word.
-fn held(address: u16) -> Port {
+fn held_port(address: u16) -> Port {
     Port {
         address,
         once: false,
@@ -82,18 +82,18 @@ fn standard_registers(rt: HostRuntime) {
 
 #[test]
 fn ends_of_tables(rt: HostRuntime) {
-    let mut many = [held(0); 33];
+    let mut many = [held_port(0); 33];
     for (place, port) in many.iter_mut().enumerate() {
         port.address = place as u16;
     }
     assert!(rt; Ports::of(&many[..32], &many[1..]).is_some());
     assert!(rt; Ports::of(&many, &[]).is_none());
     assert!(rt; Ports::of(&[], &many).is_none());
-    assert!(rt; Ports::of(&[held(0), held(4095)], &[held(4095), held(0)]).is_some());
-    assert!(rt; Ports::of(&[held(4096)], &[]).is_none());
-    assert!(rt; Ports::of(&[], &[held(5), held(4096)]).is_none());
-    assert!(rt; Ports::of(&[held(5), held(6), held(5)], &[]).is_none());
-    assert!(rt; Ports::of(&[], &[held(6), held(6)]).is_none());
+    assert!(rt; Ports::of(&[held_port(0), held_port(4095)], &[held_port(4095), held_port(0)]).is_some());
+    assert!(rt; Ports::of(&[held_port(4096)], &[]).is_none());
+    assert!(rt; Ports::of(&[], &[held_port(5), held_port(4096)]).is_none());
+    assert!(rt; Ports::of(&[held_port(5), held_port(6), held_port(5)], &[]).is_none());
+    assert!(rt; Ports::of(&[], &[held_port(6), held_port(6)]).is_none());
 
     let mut times = [1; 27];
     times[26] = 1000;

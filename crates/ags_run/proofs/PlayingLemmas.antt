@@ -5,7 +5,7 @@ use Rattle.std.proofs.lemmas.List.{drop_more, drop_all, replicate_more}
 use Rattle.std.proofs.lemmas.List.Sums.{sum_by-append}
 use Rattle.ags_ports.specs.declared.events.Event.{Event}
 use Rattle.ags_ports.specs.declared.events.Event.TheVariants as event
-use Rattle.ags_ports.specs.declared.events.Done.{Done}
+use Rattle.ags_ports.specs.declared.events.Report.{Report}
 use Rattle.ags_ports.specs.declared.machines.Machine.{Machine}
 use Rattle.ags_ports.specs.State.{State}
 use Rattle.ags_ports.specs.Step.{Steps}
@@ -25,13 +25,13 @@ use Rattle.ags_run.proofs.PlayLemmas.{last_state-append, some_play, play_runs}
 pub runs_none : (machine : Machine) (s : State) → RunsTo machine s [] s
 runs_none machine s = record { moments = []; run = tt; ends = refl }
 
-pub runs_one : (machine : Machine) (s after : State) (e : Event) (done : Done) → Steps machine s e done after → RunsTo machine s (e ∷ []) after
-runs_one machine s after e done step = record { moments = record { done = done; after = after } ∷ []; run = (step, tt); ends = refl }
+pub runs_one : (machine : Machine) (s after : State) (e : Event) (report : Report) → Steps machine s e report after → RunsTo machine s (e ∷ []) after
+runs_one machine s after e report step = record { moments = record { report = report; after = after } ∷ []; run = (step, tt); ends = refl }
 
-pub runs_more : (machine : Machine) (s mid after : State) (events : List Event) (e : Event) (done : Done) → RunsTo machine s events mid → Steps machine mid e done after → RunsTo machine s (events ++ e ∷ []) after
-runs_more machine s mid after events e done so step =
-    let last : List Moment = record { done = done; after = after } ∷ [] in
-    let here = subst (λ (t : State). Steps machine t e done after) so.ends step in
+pub runs_more : (machine : Machine) (s mid after : State) (events : List Event) (e : Event) (report : Report) → RunsTo machine s events mid → Steps machine mid e report after → RunsTo machine s (events ++ e ∷ []) after
+runs_more machine s mid after events e report so step =
+    let last : List Moment = record { report = report; after = after } ∷ [] in
+    let here = subst (λ (t : State). Steps machine t e report after) so.ends step in
     record {
       moments = so.moments ++ last;
       run = run-append machine s events (e ∷ []) so.moments last so.run (here, tt);
@@ -39,9 +39,9 @@ runs_more machine s mid after events e done so step =
     }
 
 -- one step more
-pub runs_step : (machine : Machine) (s mid after : State) (count : ℕ) (done : Done) → RunsTo machine s (replicate count event.Step) mid → Steps machine mid event.Step done after → RunsTo machine s (replicate (count + 1) event.Step) after
-runs_step machine s mid after count done so step =
-    subst (λ (es : List Event). RunsTo machine s es after) (replicate_more count event.Step) (runs_more machine s mid after (replicate count event.Step) event.Step done so step)
+pub runs_step : (machine : Machine) (s mid after : State) (count : ℕ) (report : Report) → RunsTo machine s (replicate count event.Step) mid → Steps machine mid event.Step report after → RunsTo machine s (replicate (count + 1) event.Step) after
+runs_step machine s mid after count report so step =
+    subst (λ (es : List Event). RunsTo machine s es after) (replicate_more count event.Step) (runs_more machine s mid after (replicate count event.Step) event.Step report so step)
 
 -- ---- how many events of a kind
 

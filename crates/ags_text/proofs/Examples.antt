@@ -1,20 +1,20 @@
 -- Worked values of the definitions of fields and numbers.
 use Rattle.std.proofs.Common.{◌≡◌, [], ◌∷◌, refl, arith}
 use Rattle.std.specs.Prelude.{codes}
-use Rattle.ags_text.specs.Field.{word_of, behind_word, behind_blanks, next_field, behind_field, HasFields, AreCut}
+use Rattle.ags_text.specs.Field.{leading_field, behind_leading_field, behind_blanks, next_field, behind_field, HasFields, AreCut}
 use Rattle.ags_text.specs.Numeral.{IsOctal, IsDecimal}
 
 -- the first word of a line, and its next field
-first_word : word_of (codes "A1  OCT 7") ≡ codes "A1"
-unfolding word_of
+first_word : leading_field (codes "A1  OCT 7") ≡ codes "A1"
+unfolding leading_field
 first_word = refl
 
 field_behind : next_field (codes "  OCT 7 ") ≡ codes "OCT"
-unfolding next_field word_of behind_blanks
+unfolding next_field leading_field behind_blanks
 field_behind = refl
 
 rest_behind : behind_field (codes "  OCT 7 ") ≡ codes " 7 "
-unfolding behind_field behind_word behind_blanks
+unfolding behind_field behind_leading_field behind_blanks
 rest_behind = refl
 
 -- two fields that stand in a line, and that they are cut
@@ -22,7 +22,7 @@ two_stand : HasFields (codes " STEP  12 ") (codes "STEP" ∷ codes "12" ∷ [])
 two_stand = (codes " ", codes "  12 ", refl, refl, (codes "  ", codes " ", record { some = omega arith; blanks = refl }, refl, refl))
 
 two_cut : AreCut (codes "STEP" ∷ codes "12" ∷ []) (codes " STEP  12 ")
-unfolding next_field behind_field word_of behind_word behind_blanks
+unfolding next_field behind_field leading_field behind_leading_field behind_blanks
 two_cut = (refl, (refl, refl))
 
 -- one text in two bases

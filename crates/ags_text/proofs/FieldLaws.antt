@@ -10,15 +10,15 @@ use Rattle.std.specs.List.{position_or_len, prefix_len, list_all}
 use Rattle.std.specs.Str.Parse.{AllDigits}
 use Rattle.std.proofs.lemmas.Bool.{cases_Bool, and_parts, and_from, or_cases, eqb-true, lt-ltb, le-ltb, true≢false}
 use Rattle.std.proofs.lemmas.List.{take_at, drop_at, take-append-drop, append-nil}
-use Rattle.ags_text.specs.Field.{is_blank, AreBlanks, HasNoBlank, IsGap, IsField, AreFields, AreSome, Behind, HasFields, word_of, behind_word, behind_blanks, next_field, behind_field, AreCut}
+use Rattle.ags_text.specs.Field.{is_blank, AreBlanks, HasNoBlank, IsGap, IsField, AreFields, AreSome, Behind, HasFields, leading_field, behind_leading_field, behind_blanks, next_field, behind_field, AreCut}
 use Rattle.ags_text.specs.Numeral.{IsNumber, Writes}
 use Rattle.ags_text.proofs.FrontLemmas.{first_passes, front_passes, rest_stops, prefix_len_cut, first_of_front, no_front}
 
 -- Words and gaps.
 
 -- a word, and a rest that is empty or begins with a blank
-word_cut : (word rest : List ℕ) → HasNoBlank word → first_passes (λ b. not (is_blank b)) rest ≡ false → (word_of (word ++ rest) ≡ word) × (behind_word (word ++ rest) ≡ rest)
-unfolding word_of behind_word
+word_cut : (word rest : List ℕ) → HasNoBlank word → first_passes (λ b. not (is_blank b)) rest ≡ false → (leading_field (word ++ rest) ≡ word) × (behind_leading_field (word ++ rest) ≡ rest)
+unfolding leading_field behind_leading_field
 word_cut word rest no_blank stops =
     let cut : position_or_len is_blank (word ++ rest) ≡ length word = prefix_len_cut (λ b. not (is_blank b)) word rest no_blank stops in
     (rw (cut) (take_at word rest (length word) refl), rw (cut) (drop_at word rest (length word) refl))
@@ -31,8 +31,8 @@ blanks_cut blanks rest all stops =
     rw (cut) (drop_at blanks rest (length blanks) refl)
 
 -- a text is its first word and what stands behind it, which does not begin with a byte that is not blank
-word_parts : (text : List ℕ) → (text ≡ word_of text ++ behind_word text) × HasNoBlank (word_of text) × (first_passes (λ b. not (is_blank b)) (behind_word text) ≡ false)
-unfolding word_of behind_word
+word_parts : (text : List ℕ) → (text ≡ leading_field text ++ behind_leading_field text) × HasNoBlank (leading_field text) × (first_passes (λ b. not (is_blank b)) (behind_leading_field text) ≡ false)
+unfolding leading_field behind_leading_field
 word_parts text = (sym (take-append-drop (position_or_len is_blank text) text), front_passes (λ b. not (is_blank b)) text, rest_stops (λ b. not (is_blank b)) text)
 
 -- and blanks and what stands behind them, which does not begin with a blank
@@ -84,7 +84,7 @@ field_parts text =
 
 -- blanks have no field, and nothing behind it
 pub blanks_end : (text : List ℕ) → AreBlanks text → (next_field text ≡ []) × (behind_field text ≡ [])
-unfolding next_field behind_field word_of behind_word
+unfolding next_field behind_field leading_field behind_leading_field
 blanks_end text are =
     let skip : behind_blanks text ≡ [] = sym (ap behind_blanks (append-nil text)) ∙ blanks_cut text [] are refl in
     (rw (skip) refl, rw (skip) refl)
@@ -94,8 +94,8 @@ pub blanks_none : (text : List ℕ) → AreBlanks text → (next_field text ≡ 
 blanks_none text are = let end = blanks_end text are in (end.0, rw (end.1) refl)
 
 -- a text that does not begin with a blank and has no word is empty
-empty_word : (text : List ℕ) → first_passes is_blank text ≡ false → word_of text ≡ [] → text ≡ []
-unfolding word_of
+empty_word : (text : List ℕ) → first_passes is_blank text ≡ false → leading_field text ≡ [] → text ≡ []
+unfolding leading_field
 empty_word [] stops none = refl
 empty_word (b ∷ text) stops none =
     let n = prefix_len (λ x. not (is_blank x)) text in
@@ -133,7 +133,7 @@ standing_cut line (field ∷ fields) are has =
 
 -- and so behind a word
 pub standing_behind : (line word behind : List ℕ) (fields : List (List ℕ)) → HasNoBlank word → AreFields fields → line ≡ word ++ behind → Behind fields behind
-    → (word_of line ≡ word) × AreCut fields (behind_word line)
+    → (leading_field line ≡ word) × AreCut fields (behind_leading_field line)
 standing_behind line word behind fields marks are whole stand =
     let cut = word_cut word behind marks (behind_stops fields behind stand) in
     (rw (whole) cut.0, rw (whole, cut.1) (behind_cut fields behind are stand))
@@ -180,17 +180,17 @@ pub cut_standing : (line : List ℕ) (fields : List (List ℕ)) → AreSome fiel
 cut_standing line fields some are = (cut_fields line fields some are, cut_has line fields some are)
 
 -- and so behind a word
-pub cut_behind : (line : List ℕ) (fields : List (List ℕ)) → AreSome fields → AreCut fields (behind_word line)
-    → HasNoBlank (word_of line) × (line ≡ word_of line ++ behind_word line) × Behind fields (behind_word line)
+pub cut_behind : (line : List ℕ) (fields : List (List ℕ)) → AreSome fields → AreCut fields (behind_leading_field line)
+    → HasNoBlank (leading_field line) × (line ≡ leading_field line ++ behind_leading_field line) × Behind fields (behind_leading_field line)
 cut_behind line fields some are =
     let parts = word_parts line in
-    (parts.1, parts.0, cut_behind_stop fields (behind_word line) some parts.2 are)
+    (parts.1, parts.0, cut_behind_stop fields (behind_leading_field line) some parts.2 are)
 
 -- The bytes of a field.
 
 -- the first byte of a line begins its first field, where it is no blank
 pub first_byte : (b : ℕ) (line : List ℕ) → is_blank b ≡ false → get_or (next_field (b ∷ line)) 0 0 ≡ b
-unfolding next_field word_of behind_blanks
+unfolding next_field leading_field behind_blanks
 first_byte b line mark = rw (no_front is_blank b line mark) (first_of_front (λ x. not (is_blank x)) b line (ap not mark))
 
 -- a byte that passes a test which no blank passes is no blank

@@ -45,12 +45,12 @@ HasFields line [] = AreBlanks line
 HasFields line (field ∷ fields) = (blanks rest : List ℕ) × AreBlanks blanks × (line ≡ blanks ++ (field ++ rest)) × Behind fields rest
 
 -- the front of a text before its first blank, or all of it
-unfoldable pub word_of : List ℕ → List ℕ
-word_of text = take (position_or_len is_blank text) text
+unfoldable pub leading_field : List ℕ → List ℕ
+leading_field text = take (position_or_len is_blank text) text
 
 -- what stands behind that front
-unfoldable pub behind_word : List ℕ → List ℕ
-behind_word text = drop (position_or_len is_blank text) text
+unfoldable pub behind_leading_field : List ℕ → List ℕ
+behind_leading_field text = drop (position_or_len is_blank text) text
 
 -- a text without the blanks at its front
 unfoldable pub behind_blanks : List ℕ → List ℕ
@@ -58,11 +58,11 @@ behind_blanks text = drop (prefix_len is_blank text) text
 
 -- the next field of a text, and nothing where none is left
 unfoldable pub next_field : List ℕ → List ℕ
-next_field text = word_of (behind_blanks text)
+next_field text = leading_field (behind_blanks text)
 
 -- what stands behind it
 unfoldable pub behind_field : List ℕ → List ℕ
-behind_field text = behind_word (behind_blanks text)
+behind_field text = behind_leading_field (behind_blanks text)
 
 -- the fields that are cut from a text one after another are these, and nothing but blanks stands behind them
 abbrev pub AreCut : List (List ℕ) → List ℕ → Type 0

@@ -2,21 +2,21 @@
 
 ghost use Rattle.std.specs.Prelude.{◌≡◌, ℕ, ◌<◌, ◌≤◌, Bool, false, List, [], ◌∷◌, ◌++◌, IsTrue, slice_index};
 ghost use Rattle.std.specs.List.{list_all};
-ghost use Rattle.ags_text.specs.Field.{is_blank, AreBlanks, HasNoBlank, IsField, AreFields, AreSome, Behind, HasFields, word_of, behind_word, next_field, behind_field, AreCut};
+ghost use Rattle.ags_text.specs.Field.{is_blank, AreBlanks, HasNoBlank, IsField, AreFields, AreSome, Behind, HasFields, leading_field, behind_leading_field, next_field, behind_field, AreCut};
 ghost use Rattle.ags_text.specs.Numeral.{IsNumber, Writes};
 
 /// The fields that stand in a line, or behind a word at its front, are those that are cut.
 pub fn standing_fields_are_cut()
     ensures in_line { (line : List ℕ) (fields : List (List ℕ)) → AreFields fields → HasFields line fields → AreCut fields line }
     ensures behind { (line word behind : List ℕ) (fields : List (List ℕ)) → HasNoBlank word → AreFields fields → line ≡ word ++ behind → Behind fields behind
-        → (word_of line ≡ word) × AreCut fields (behind_word line) }
+        → (leading_field line ≡ word) × AreCut fields (behind_leading_field line) }
 {}
 
 /// What is cut from a line, or behind a word at its front, stands there where none of it is empty, and each is a field.
 pub fn cut_fields_stand()
     ensures in_line { (line : List ℕ) (fields : List (List ℕ)) → AreSome fields → AreCut fields line → AreFields fields × HasFields line fields }
-    ensures behind { (line : List ℕ) (fields : List (List ℕ)) → AreSome fields → AreCut fields (behind_word line)
-        → HasNoBlank (word_of line) × (line ≡ word_of line ++ behind_word line) × Behind fields (behind_word line) }
+    ensures behind { (line : List ℕ) (fields : List (List ℕ)) → AreSome fields → AreCut fields (behind_leading_field line)
+        → HasNoBlank (leading_field line) × (line ≡ leading_field line ++ behind_leading_field line) × Behind fields (behind_leading_field line) }
 {}
 
 /// Blanks are what has no field, and nothing stands behind it.

@@ -2,7 +2,7 @@
 
 ghost use Rattle.std.specs.Prelude.{◌≡◌, ◌≤◌, ◌||◌, ◌==◌, length, not, position};
 ghost use Rattle.std.specs.List.{position_or_len, prefix_len, list_all};
-ghost use Rattle.ags_text.specs.Field.{is_blank, word_of, behind_word, behind_blanks, next_field, behind_field};
+ghost use Rattle.ags_text.specs.Field.{is_blank, leading_field, behind_leading_field, behind_blanks, next_field, behind_field};
 
 /// Where the first blank or tab stands.
 fn first_blank(text: &[u8]) -> Option<usize>
@@ -51,10 +51,10 @@ fn skip_blanks(text: &[u8]) -> &[u8]
 
 /// The front of a text before its first blank or tab, which may be empty, and what stands behind it, from that
 /// blank on.
-#[tactic(auto, unfolding(crate::specs::Field::word_of, crate::specs::Field::behind_word))]
-pub fn split_word(text: &[u8]) -> (&[u8], &[u8])
-    ensures word { result.0.now ≡ word_of text.now }
-    ensures behind { result.1.now ≡ behind_word text.now }
+#[tactic(auto, unfolding(crate::specs::Field::leading_field, crate::specs::Field::behind_leading_field))]
+pub fn split_leading_field(text: &[u8]) -> (&[u8], &[u8])
+    ensures word { result.0.now ≡ leading_field text.now }
+    ensures behind { result.1.now ≡ behind_leading_field text.now }
 {
     text.split_at(word_len(text))
 }
@@ -66,5 +66,5 @@ pub fn split_field(text: &[u8]) -> (&[u8], &[u8])
     ensures field { result.0.now ≡ next_field text.now }
     ensures behind { result.1.now ≡ behind_field text.now }
 {
-    split_word(skip_blanks(text))
+    split_leading_field(skip_blanks(text))
 }

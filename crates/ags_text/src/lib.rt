@@ -17,7 +17,7 @@ pub use field_laws::{
     blanks_have_no_field, bytes_tell_fields, cut_fields_stand, numbers_are_fields,
     standing_fields_are_cut,
 };
-pub use fields::{are_blanks, split_field, split_word};
+pub use fields::{are_blanks, split_field, split_leading_field};
 pub use line_laws::{lines_follow, lines_make_up_the_text, text_is_cut_in_one_way};
 pub use lines::{Line, Lines};
 pub use numerals::{decimal7, numeral_writes, octal4, octal6, read_decimal, read_octal};

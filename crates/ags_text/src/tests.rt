@@ -4,7 +4,7 @@ use crate::{
     Lines, SevenDigits, are_blanks, blanks_have_no_field, bytes_tell_fields, cut_fields_stand,
     decimal7, first_fault_is_first, lines_follow, lines_make_up_the_text, no_fault_is_faultless,
     numbers_are_fields, numeral_writes, octal4, octal6, read_decimal, read_octal, split_field,
-    split_word, standing_fields_are_cut, text_is_cut_in_one_way,
+    split_leading_field, standing_fields_are_cut, text_is_cut_in_one_way,
 };
 use std::alloc::{AllocError, Global};
 use std::test::Fail;
@@ -93,7 +93,7 @@ fn texts_are_cut_at_blanks(rt: HostRuntime) {
         (b" \r 1", (b"", b" \r 1"), (b"\r", b" 1")),
     ];
     for (row, (text, word, field)) in rows.into_iter().enumerate() {
-        assert!(rt; split_word(text) == word, "row {row}");
+        assert!(rt; split_leading_field(text) == word, "row {row}");
         assert!(rt; split_field(text) == field, "row {row}");
     }
     for (text, blank) in [

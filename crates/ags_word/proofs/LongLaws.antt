@@ -26,7 +26,7 @@ use Rattle.std.proofs.lemmas.Nat.{shr-shr, shr_le, shr_split, mod_below, pow_pos
 use Rattle.std.proofs.lemmas.Bool.Decides.{nat_tests}
 use Rattle.std.proofs.lemmas.Bool.{cases_lt}
 use borrow.Author.Differences.{up, down}
-use Rattle.ags_word.specs.Word.{val, fits, wrap, word_of, IsCongruent}
+use Rattle.ags_word.specs.Word.{val, fits, wrap, word_of_value, IsCongruent}
 use Rattle.ags_word.specs.Long.{long, pair, fits_long, wrap_long, divided, shifted_right, top_bit, IsFloor, IsCutOff}
 use Rattle.ags_word.proofs.WordLaws.{val_least, val_most, val-low, val-high, within_in, within_least, within_most, within_not, fits_in, wrap_below, wrap-val, val-wrap}
 
@@ -234,24 +234,24 @@ unfolding divided
 divided-zero n m zero_is = rw zero_is
 
 pub divided-over : (n : ℤ) (m : ℕ) → fits (int_div n (val m)) ≡ false → divided n m ≡ None
-unfolding divided word_of
+unfolding divided word_of_value
 divided-over n m over = grind (arith, ints)
 
 pub divided-some : (n : ℤ) (m : ℕ) → val m ≢ pos 0 → fits (int_div n (val m)) ≡ true → divided n m ≡ Some (wrap (int_div n (val m)))
-unfolding divided word_of
+unfolding divided word_of_value
 divided-some n m some in_range = grind (arith, ints)
 
 -- what an answer tells
 divisor_some : (n : ℤ) (m w : ℕ) → divided n m ≡ Some w → val m ≢ pos 0
-unfolding divided word_of
+unfolding divided word_of_value
 divisor_some n m w e = grind (arith, ints)
 
 quotient_fits : (n : ℤ) (m w : ℕ) → divided n m ≡ Some w → fits (int_div n (val m)) ≡ true
-unfolding divided word_of
+unfolding divided word_of_value
 quotient_fits n m w e = grind (arith, ints)
 
 quotient_word : (n : ℤ) (m w : ℕ) → divided n m ≡ Some w → w ≡ wrap (int_div n (val m))
-unfolding divided word_of
+unfolding divided word_of_value
 quotient_word n m w e = grind (arith, ints)
 
 pub IsCutOff-divided : (n : ℤ) (m w : ℕ) → divided n m ≡ Some w → IsCutOff n (val m) (val w)

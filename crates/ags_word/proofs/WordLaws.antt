@@ -10,14 +10,14 @@
 --     wrap_same                         congruent numbers leave one word
 --     wrap-add, wrap-sub, wrap-neg      wrapping in steps is wrapping the whole
 --     fits_in, fits_least, fits_most, fits_not    what `fits` says, both ways
---     word_of-fits, word_of-not         what `word_of` answers
+--     word_of_value-fits, word_of_value-not         what `word_of_value` answers
 use Rattle.std.proofs.Common.{◌≡◌, ℕ, ◌+◌, ◌-◌, ◌*◌, ◌/◌, ◌%◌, ◌<◌, ◌≤◌, ◌^◌, true, false, refl, sym, ap, ◌∙◌, ⊎_elim, ◌⊎◌, arith, ℤ, pos, negsuc, ◌+ℤ◌, ◌-ℤ◌, ◌≤ℤ◌, ◌<ℤ◌}
 use Rattle.std.specs.Prelude.{neg_ℤ, unsigned_abs, Some, None}
 use Rattle.std.proofs.lemmas.Int.{ints, int_rem_euclid_is}
 use Rattle.std.proofs.lemmas.Bool.Decides.{nat_tests}
 use Rattle.std.proofs.lemmas.Bool.{cases_lt}
 use borrow.Author.Differences.{up, down}
-use Rattle.ags_word.specs.Word.{val, lies_within, fits, wrap, word_of, IsCongruent}
+use Rattle.ags_word.specs.Word.{val, lies_within, fits, wrap, word_of_value, IsCongruent}
 
 -- ---- words
 
@@ -144,13 +144,13 @@ wrap-neg n =
 
 -- ---- the word of a value
 
-pub word_of-fits : (n : ℤ) → fits n ≡ true → word_of n ≡ Some (wrap n)
-unfolding word_of
-word_of-fits n h = rw h
+pub word_of_value-fits : (n : ℤ) → fits n ≡ true → word_of_value n ≡ Some (wrap n)
+unfolding word_of_value
+word_of_value-fits n h = rw h
 
-pub word_of-not : (n : ℤ) → fits n ≡ false → word_of n ≡ None
-unfolding word_of
-word_of-not n h = rw h
+pub word_of_value-not : (n : ℤ) → fits n ≡ false → word_of_value n ≡ None
+unfolding word_of_value
+word_of_value-not n h = rw h
 
 -- ---- the least word
 

@@ -4,7 +4,7 @@ use Rattle.std.specs.Prelude.{◌≡◌, ℕ, ◌<◌, ◌≤◌, ◌+◌, ◌*�
 use Rattle.std.specs.Int.{int_rem_euclid, int_div_euclid}
 use Rattle.std.specs.Int.RustNames.{int_div}
 use Rattle.std.specs.Ordering.{int_eq}
-use Rattle.ags_word.specs.Word.{val, lies_within, wrap, word_of}
+use Rattle.ags_word.specs.Word.{val, lies_within, wrap, word_of_value}
 
 -- a right shift: the whole number over a power of two, rounded down
 abbrev pub shifted_right : ℤ → ℕ → ℤ
@@ -48,4 +48,4 @@ pair n = let a = wrap (shifted_right n 17) in (a, top_bit a + unsigned_abs (int_
 -- the word of a number's quotient by a word's value, cut off toward zero;
 -- nothing where that value is 0 or the quotient doesn't fit
 unfoldable pub divided : (n : ℤ) (m : ℕ) → Option ℕ
-divided n m = if int_eq (val m) (pos 0) then None else word_of (int_div n (val m))
+divided n m = if int_eq (val m) (pos 0) then None else word_of_value (int_div n (val m))

@@ -21,8 +21,8 @@ unfoldable pub wrap : ℤ → ℕ
 wrap n = unsigned_abs (int_rem_euclid n (pos (2 ^ 18)))
 
 -- the word of a value, and nothing for a number that doesn't fit
-unfoldable pub word_of : ℤ → Option ℕ
-word_of n = if fits n then Some (wrap n) else None
+unfoldable pub word_of_value : ℤ → Option ℕ
+word_of_value n = if fits n then Some (wrap n) else None
 
 -- two whole numbers differ by a multiple of a third
 pub record IsCongruent (modulus : ℕ) (m n : ℤ) : Type 0 where

@@ -2,7 +2,7 @@
 //! so that it is proved with the crate. Behind each clause is a lemma of `proofs/`, which the crates above cite.
 
 ghost use Rattle.std.specs.Prelude.{◌≡◌, ◌≢◌, ℕ, ℤ, ◌+◌, ◌%◌, ◌<◌, ◌≤◌, ◌^◌, ◌⊎◌, true, false, pos, ◌+ℤ◌, ◌-ℤ◌, ◌*ℤ◌, ◌≤ℤ◌, ◌<ℤ◌, neg_ℤ, unsigned_abs, int_div, Some, None};
-ghost use Rattle.ags_word.specs.Word.{val, fits, wrap, word_of, IsCongruent};
+ghost use Rattle.ags_word.specs.Word.{val, fits, wrap, word_of_value, IsCongruent};
 ghost use Rattle.ags_word.specs.Long.{long, pair, fits_long, wrap_long, shifted_right, top_bit, divided, IsFloor, IsCutOff};
 
 /// A word's value is its number below 2^17, and its number less 2^18 from there on, so that it lies from -2^17 to
@@ -25,8 +25,8 @@ pub fn fitting_numbers_are_a_range()
 
 /// A number that fits has a word, which is what is left of it, and no other number has one.
 pub fn fitting_number_has_a_word()
-    ensures some { (n : ℤ) → fits n ≡ true → word_of n ≡ Some (wrap n) }
-    ensures none { (n : ℤ) → fits n ≡ false → word_of n ≡ None }
+    ensures some { (n : ℤ) → fits n ≡ true → word_of_value n ≡ Some (wrap n) }
+    ensures none { (n : ℤ) → fits n ≡ false → word_of_value n ≡ None }
 {}
 
 /// What is left of a whole number is a word, and its value is congruent to the number modulo 2^18.

@@ -2,7 +2,7 @@
 //! It stands on `ags_text` for octal digits. Each operation is pinned to its formula over whole numbers in `specs/`,
 //! its result and its overflow both, and no call takes memory. `laws` says what the formulas mean; the lemmas that
 //! the crates above cite are listed at the head of `proofs/WordLaws` and `proofs/LongLaws`.
-#![tactic(auto, unfolding(crate::specs::Word::val, crate::specs::Word::fits, crate::specs::Word::wrap, crate::specs::Word::word_of, crate::specs::Long::long, crate::specs::Long::pair, crate::specs::Long::fits_long, crate::specs::Long::wrap_long, crate::specs::Long::divided))]
+#![tactic(auto, unfolding(crate::specs::Word::val, crate::specs::Word::fits, crate::specs::Word::wrap, crate::specs::Word::word_of_value, crate::specs::Long::long, crate::specs::Long::pair, crate::specs::Long::fits_long, crate::specs::Long::wrap_long, crate::specs::Long::divided))]
 
 pub mod laws;
 mod longs;

@@ -1,7 +1,7 @@
 //! A word of the machine: its number, and its value as a signed number.
 
 ghost use Rattle.std.specs.Prelude.{◌≡◌, ℕ, ◌+◌, ◌<◌, ◌≤◌, ◌^◌, not, pos, neg_ℤ, ◌≤ℤ◌, ◌<ℤ◌, Some, None};
-ghost use Rattle.ags_word.specs.Word.{val, fits, wrap, word_of};
+ghost use Rattle.ags_word.specs.Word.{val, fits, wrap, word_of_value};
 ghost use Rattle.ags_word.specs.Long.{top_bit};
 
 use std::marker::Model;
@@ -70,14 +70,14 @@ impl Word {
 
     /// The word of a value, and nothing outside -2^17 to 2^17 - 1.
     pub fn from_value(n: i32) -> Option<Word>
-        ensures { result ≡ word_of n }
+        ensures { result ≡ word_of_value n }
     {
         Word::fitting(i128::from(n))
     }
 
     /// The word of a value, and nothing for a whole number that doesn't fit.
     pub(crate) fn fitting(n: i128) -> Option<Word>
-        ensures { result ≡ word_of n }
+        ensures { result ≡ word_of_value n }
     {
         if is_fitting(n) {
             Some(Word::wrapped(n))

@@ -1,4 +1,4 @@
-use Rattle.ags_isa.proofs.WordLemmas.{words-one, word_of-below}
+use Rattle.ags_isa.proofs.WordLemmas.{words-one, order_word-below}
 use Rattle.ags_isa.proofs.laws.orders_make_different_words.Goals as goal
 
 pub returns-clause-order : goal.returns-clause-order
@@ -14,4 +14,4 @@ returns-clause-address c = λ table order other indexed bit address place are be
     (words-one table are order other indexed bit address place below place_below same).2
 
 pub returns-clause-below : goal.returns-clause-below
-returns-clause-below c = λ table order indexed address are below. word_of-below table are order indexed address below
+returns-clause-below c = λ table order indexed address are below. order_word-below table are order indexed address below

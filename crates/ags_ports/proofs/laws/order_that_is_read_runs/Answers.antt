@@ -7,8 +7,8 @@ returns-clause-only c = ran_reads
 pub returns-clause-runs : goal.returns-clause-runs
 returns-clause-runs c = reads_ran
 
-pub returns-clause-idle : goal.returns-clause-idle
-returns-clause-idle c = idle_told
+pub returns-clause-idle_report : goal.returns-clause-idle_report
+returns-clause-idle_report c = idle_told
 
 pub returns-clause-here : goal.returns-clause-here
 returns-clause-here c = place_told

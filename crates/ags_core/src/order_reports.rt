@@ -1,13 +1,13 @@
-//! What an order tells beside the state that it leaves.
+//! What an order reports beside the state that it leaves.
 
 ghost use Rattle.std.specs.Prelude.{◌≡◌, true, None, Some};
 
-use ags_ports::{Done, Stored};
+use ags_ports::{Report, Stored};
 use ags_word::Word;
 
-/// What an order tells: whether it overflowed, its store, and what it took and gave.
+/// What an order reports: whether it overflowed, its store, and what it took and gave.
 #[derive(Clone, Copy)]
-pub(crate) struct Told {
+pub(crate) struct OrderReport {
     /// Whether the order overflowed.
     pub overflow: bool,
     /// The order's store.
@@ -18,12 +18,12 @@ pub(crate) struct Told {
     pub gave: Option<Stored>,
 }
 
-impl Told {
+impl OrderReport {
     /// Nothing but whether the order overflowed.
-    pub(crate) fn of(overflow: bool) -> Told
+    pub(crate) fn of(overflow: bool) -> OrderReport
         ensures { result ≡ record { overflow = overflow; stored = None; took = None; gave = None } }
     {
-        Told {
+        OrderReport {
             overflow,
             stored: None,
             took: None,
@@ -32,7 +32,7 @@ impl Told {
     }
 
     /// Whether the order overflowed, and its store.
-    pub(crate) fn of_store(overflow: bool, address: u16, word: Word) -> Told
+    pub(crate) fn of_store(overflow: bool, address: u16, word: Word) -> OrderReport
         ensures { result ≡ record {
           overflow = overflow;
           stored = Some (record { address = address; word = word });
@@ -40,7 +40,7 @@ impl Told {
           gave = None;
         } }
     {
-        Told {
+        OrderReport {
             overflow,
             stored: Some(Stored { address, word }),
             took: None,
@@ -48,8 +48,8 @@ impl Told {
         }
     }
 
-    /// The step of an order that was read from this word at this location.
-    pub(crate) fn ran(self, location: u16, word: Word) -> Done
+    /// The report of a step whose order was read from this word at this location.
+    pub(crate) fn ran(self, location: u16, word: Word) -> Report
         ensures { result ≡ record {
           ran = true;
           location = location;
@@ -60,7 +60,7 @@ impl Told {
           gave = self.gave;
         } }
     {
-        Done {
+        Report {
             ran: true,
             location,
             word,
