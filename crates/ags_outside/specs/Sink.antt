@@ -10,7 +10,7 @@
 -- and two through texts that are written one after the other, as in `send(first)?; send(second)?`:
 --   front_in_first    the first failed
 --   front_in_second   the first was appended, and the second failed
-use Rattle.std.specs.Prelude.{◌≡◌, ℕ, ◌<◌, ◌≤◌, List, [], ◌++◌, take, drop, Option, Some, None, refl}
+use Rattle.std.specs.Prelude.{◌≡◌, ℕ, ◌<◌, ◌≤◌, List, [], ◌++◌, take, drop, Bool, true, false, Option, Some, None, refl}
 use Rattle.std.proofs.Common.{sym, ◌∙◌, ap, arith, length, append_assoc, append-nil, length-append}
 use Rattle.std.proofs.lemmas.List.{take-append-drop}
 use Rattle.ags_outside.specs.declared.sinks.PutDone.{PutDone}
@@ -24,20 +24,17 @@ appended (Some held) bytes = Some (held ++ bytes)
 -- an answer that took bytes took one at least, and no more than it was given
 abbrev pub TookWithin : ℕ → PutDone → Type 0
 TookWithin most (Took count) = (0 < count) × (count ≤ most)
-TookWithin most Failed = Unit {0}
-TookWithin most NoMemory = Unit {0}
+TookWithin most _ = Unit {0}
 
 -- what the sink has taken after an answer to a piece: those first bytes more, and otherwise nothing
 abbrev pub taken_after : (before : Option (List ℕ)) (piece : List ℕ) (answer : PutDone) → Option (List ℕ)
 taken_after before piece (Took count) = appended before (take count piece)
-taken_after before piece Failed = before
-taken_after before piece NoMemory = before
+taken_after before piece _ = before
 
--- an answer leaves the count of faults as it was, unless it is a failure
-abbrev pub IsCleanPut : (answer : PutDone) (faults_stayed : Type 0) → Type 0
-IsCleanPut (Took count) faults_stayed = faults_stayed
-IsCleanPut Failed faults_stayed = Unit {0}
-IsCleanPut NoMemory faults_stayed = faults_stayed
+-- whether a sink failed, which its count of faults counts
+abbrev pub is_failed_put : PutDone → Bool
+is_failed_put Failed = true
+is_failed_put _ = false
 
 -- an answer of a sink that never fails: so many bytes are taken, unless memory is wanting
 abbrev pub IsSteadyPut : (amount : ℕ) (answer : PutDone) → Type 0

@@ -1,8 +1,9 @@
 //! A whole file of a shelf.
 
 ghost use Rattle.std.specs.Prelude.{◌≡◌, ◌+◌, ◌-◌, ◌≤◌, min, length, IfOk, IsErrOf};
-ghost use Rattle.ags_outside.specs.Count.{Rose};
-ghost use Rattle.ags_outside.specs.Fetch.{FetchTells, IsCleanFetch};
+ghost use Rattle.std.specs.Result.{result_map_both};
+ghost use Rattle.ags_outside.specs.Count.{HasCause, Rose};
+ghost use Rattle.ags_outside.specs.Fetch.{FetchTells, is_absence, is_read_fault};
 
 use crate::{Pull, Shelf};
 use std::alloc::Global;
@@ -52,12 +53,11 @@ pub fn fetch<S: Shelf>(
 ) -> Result<Vec<u8>, FetchError>
     ensures same { S.told shelf.new ≡ S.told shelf.old }
     ensures within { IfOk result (λ bytes. length bytes.items ≤ limit) }
-    ensures tells { FetchTells (S.told shelf.old name.now) limit result }
-    ensures faults_stay { S.faults shelf.old ≤ S.faults shelf.new }
-    ensures absences_stay { S.absences shelf.old ≤ S.absences shelf.new }
+    ensures tells { FetchTells (S.told shelf.old name.now) limit (result_map_both (λ bytes. bytes.items) (λ error. error) result) }
     ensures absent { IsErrOf result FetchError.Absent → Rose (S.absences shelf.old) (S.absences shelf.new) }
     ensures read_fault { IsErrOf result FetchError.ReadFault → Rose (S.faults shelf.old) (S.faults shelf.new) }
-    ensures clean { IsCleanFetch result (S.faults shelf.new ≡ S.faults shelf.old) (S.absences shelf.new ≡ S.absences shelf.old) }
+    ensures faults { HasCause (S.faults shelf.old) (S.faults shelf.new) (is_read_fault result) }
+    ensures absences { HasCause (S.absences shelf.old) (S.absences shelf.new) (is_absence result) }
 {
     let mut bytes = Vec::new(alloc);
     let mut piece = [0u8; PIECE];

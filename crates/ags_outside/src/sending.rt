@@ -1,8 +1,8 @@
 //! All bytes into a sink.
 
-ghost use Rattle.std.specs.Prelude.{◌≡◌, ◌≤◌, [], Ok, OnOk, OnErr, IsErrOf};
-ghost use Rattle.ags_outside.specs.Count.{Rose};
-ghost use Rattle.ags_outside.specs.Send.{IsCleanSend};
+ghost use Rattle.std.specs.Prelude.{◌≡◌, [], Ok, OnOk, OnErr, IsErrOf};
+ghost use Rattle.ags_outside.specs.Count.{HasCause, Rose};
+ghost use Rattle.ags_outside.specs.Send.{is_write_fault};
 ghost use Rattle.ags_outside.specs.Sink.{appended, WroteFront};
 
 use crate::{PutDone, Sink};
@@ -24,9 +24,8 @@ pub enum SendError {
 pub fn send<K: Sink>(out: &mut K, bytes: &[u8]) -> Result<(), SendError>
     ensures sent { OnOk result (K.told out.new ≡ appended (K.told out.old) bytes.now) }
     ensures front { OnErr result (WroteFront (K.told out.old) (K.told out.new) bytes.now) }
-    ensures faults_stay { K.faults out.old ≤ K.faults out.new }
     ensures write_fault { IsErrOf result SendError.WriteFault → Rose (K.faults out.old) (K.faults out.new) }
-    ensures clean { IsCleanSend result (K.faults out.new ≡ K.faults out.old) }
+    ensures faults { HasCause (K.faults out.old) (K.faults out.new) (is_write_fault result) }
     ensures nothing { bytes.now ≡ [] → (result ≡ Ok tt) × (out.new ≡ out.old) }
 {
     let mut rest = bytes;

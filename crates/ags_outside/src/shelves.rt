@@ -1,8 +1,9 @@
 //! Shelves: where files are read from.
 
-ghost use Rattle.std.specs.Prelude.{◌≡◌, ℕ, ◌<◌, ◌≤◌, List, length, Option};
-ghost use Rattle.ags_outside.specs.Count.{Rose};
-ghost use Rattle.ags_outside.specs.Shelf.{GotWithin, IsCleanPull, PullTells};
+ghost use Rattle.std.specs.Prelude.{◌≡◌, ℕ, ◌<◌, List, length};
+ghost use Rattle.ags_outside.specs.Count.{HasCause, Rose};
+ghost use Rattle.ags_outside.specs.Shelf.{GotWithin, PullTells, is_absent_pull, is_failed_pull};
+ghost use Rattle.ags_outside.specs.ToldFile.{ToldFile};
 
 /// What a shelf answers to a pull.
 #[derive(Clone, Copy, Debug, PartialEq, Eq)]
@@ -22,7 +23,7 @@ pub enum Pull {
 /// What files are read from, by their names.
 pub trait Shelf {
     /// Of a file, by its name's bytes, where the shelf tells: its bytes, or that it is absent. No call changes it.
-    ghost told: { Self → List ℕ → Option (Option (List ℕ)) };
+    ghost told: { Self → List ℕ → ToldFile };
 
     /// How often it has failed.
     ghost faults: { Self → ℕ };
@@ -36,9 +37,8 @@ pub trait Shelf {
         ensures same { told self.new ≡ told self.old }
         ensures got { GotWithin (length into.old) result }
         ensures tells { PullTells (told self.old name.now) from into.new result }
-        ensures faults_stay { faults self.old ≤ faults self.new }
-        ensures absences_stay { absences self.old ≤ absences self.new }
         ensures absent { result ≡ Pull.Absent → Rose (absences self.old) (absences self.new) }
         ensures failed { result ≡ Pull.Failed → Rose (faults self.old) (faults self.new) }
-        ensures clean { IsCleanPull result (faults self.new ≡ faults self.old) (absences self.new ≡ absences self.old) };
+        ensures faults { HasCause (faults self.old) (faults self.new) (is_failed_pull result) }
+        ensures absences { HasCause (absences self.old) (absences self.new) (is_absent_pull result) };
 }

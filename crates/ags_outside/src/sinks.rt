@@ -1,8 +1,8 @@
 //! Sinks: what bytes are put into.
 
-ghost use Rattle.std.specs.Prelude.{◌≡◌, ℕ, ◌<◌, ◌≤◌, List, length, Option};
-ghost use Rattle.ags_outside.specs.Count.{Rose};
-ghost use Rattle.ags_outside.specs.Sink.{IsCleanPut, TookWithin, taken_after};
+ghost use Rattle.std.specs.Prelude.{◌≡◌, ℕ, ◌<◌, List, length, Option};
+ghost use Rattle.ags_outside.specs.Count.{HasCause, Rose};
+ghost use Rattle.ags_outside.specs.Sink.{TookWithin, is_failed_put, taken_after};
 
 /// What a sink answers to a put.
 #[derive(Clone, Copy, Debug, PartialEq, Eq)]
@@ -28,7 +28,6 @@ pub trait Sink {
         requires { 0 < length piece.now }
         ensures took { TookWithin (length piece.now) result }
         ensures taken { told self.new ≡ taken_after (told self.old) piece.now result }
-        ensures faults_stay { faults self.old ≤ faults self.new }
         ensures failed { result ≡ PutDone.Failed → Rose (faults self.old) (faults self.new) }
-        ensures clean { IsCleanPut result (faults self.new ≡ faults self.old) };
+        ensures faults { HasCause (faults self.old) (faults self.new) (is_failed_put result) };
 }

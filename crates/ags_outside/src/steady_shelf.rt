@@ -8,6 +8,7 @@ ghost use Rattle.std.specs.String.{string_bytes};
 ghost use Rattle.ags_outside.specs.Files.{Puts, bytes_of};
 ghost use Rattle.ags_outside.specs.StoredFile.{file_of};
 ghost use Rattle.ags_outside.specs.Shelf.{GotWithin, IsSteadyPull, PullTells, absences_after};
+ghost use Rattle.ags_outside.specs.ToldFile.{told_of};
 
 use crate::{Pull, Shelf};
 use std::alloc::{AllocError, Global};
@@ -85,7 +86,7 @@ impl SteadyShelf {
 }
 
 impl Shelf for SteadyShelf {
-    ghost told = { λ shelf name. Some (bytes_of shelf.files name) };
+    ghost told = { λ shelf name. told_of (bytes_of shelf.files name) };
 
     ghost faults = { λ _. 0 };
 
@@ -97,7 +98,7 @@ impl Shelf for SteadyShelf {
         ensures absences { self.new.absences ≡ absences_after self.old.absences result }
         ensures absences_stay { self.old.absences ≤ self.new.absences }
         ensures got { GotWithin (length into.old) result }
-        ensures tells { PullTells (Some (bytes_of self.old.files name.now)) from into.new result }
+        ensures tells { PullTells (told_of (bytes_of self.old.files name.now)) from into.new result }
         ensures steady { IsSteadyPull (bytes_of self.old.files name.now) from (length into.old) result }
     {
         let Some(bytes) = find(&self.files, name) else {

@@ -2,6 +2,7 @@
 //! that a fault in mid-stream is answered as one.
 
 ghost use Rattle.std.specs.Prelude.{None};
+ghost use Rattle.ags_outside.specs.ToldFile.{Untold};
 
 use crate::{
     FetchError, Pull, PutDone, SendError, Shelf, Sink, SteadyShelf, SteadySink, fetch, send,
@@ -72,7 +73,7 @@ struct ZeroShelf {
 }
 
 impl Shelf for ZeroShelf {
-    ghost told = { λ _ _. None };
+    ghost told = { λ _ _. Untold };
 
     ghost faults = { λ shelf. shelf.faults };
 
@@ -149,7 +150,7 @@ struct TurningShelf {
 }
 
 impl Shelf for TurningShelf {
-    ghost told = { λ _ _. None };
+    ghost told = { λ _ _. Untold };
 
     ghost faults = { λ shelf. shelf.faults };
 

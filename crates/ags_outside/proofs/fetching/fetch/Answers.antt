@@ -23,6 +23,6 @@ pulls-preserved g c =
       same = c.pull.ensures.same ∙ c.pulls.invariant.same;
       front = rw items (front_more _ _ _ c.len-in-pulls.result _ (omega arith) c.pulls.invariant.front
           (rw (← c.pulls.invariant.same) c.in-Got.ensures.tells));
-      faults_stay = c.in-Got.ensures.clean.0 ∙ c.pulls.invariant.faults_stay;
-      absences_stay = c.in-Got.ensures.clean.1 ∙ c.pulls.invariant.absences_stay;
+      faults_stay = c.in-Got.ensures.faults.clean refl ∙ c.pulls.invariant.faults_stay;
+      absences_stay = c.in-Got.ensures.absences.clean refl ∙ c.pulls.invariant.absences_stay;
     }

@@ -1,0 +1,6 @@
+pub mod SayingLemmas
+pub mod WalkLemmas
+pub mod AnswerLemmas
+pub mod RunLemmas
+pub mod StatusLemmas
+pub mod LoadingLemmas

@@ -1,0 +1,32 @@
+//! The files of a command line, one at a time.
+
+ghost use Rattle.std.specs.Prelude.{◌≡◌, ◌≤◌, length, IfOk};
+ghost use Rattle.std.specs.Result.{result_map_both};
+ghost use Rattle.ags_outside.specs.Count.{HasCause};
+ghost use Rattle.ags_plan.specs.Loading.{FetchesFile, is_absence, is_read_fault};
+
+use crate::unloaded::Unloaded;
+use ags_outside::{FetchError, Shelf, fetch};
+use std::alloc::Global;
+
+/// Fetches the file of a name whole, where it has no more bytes than the limit.
+pub fn fetch_file<'a, S: Shelf, R: Drop>(
+    alloc: Global,
+    shelf: &mut S,
+    name: &'a str,
+    limit: u64,
+) -> Result<Vec<u8>, Unloaded<'a, R>>
+    ensures same { S.told shelf.new ≡ S.told shelf.old }
+    ensures within { IfOk result (λ bytes. length bytes.items ≤ limit) }
+    ensures fetches { FetchesFile (S.told shelf.old name.entry.now) name.entry.now limit (result_map_both (λ bytes. bytes.items) (λ why. why) result) }
+    ensures faults { HasCause (S.faults shelf.old) (S.faults shelf.new) (is_read_fault result) }
+    ensures absences { HasCause (S.absences shelf.old) (S.absences shelf.new) (is_absence result) }
+{
+    match fetch(alloc, shelf, name, limit) {
+        Ok(bytes) => Ok(bytes),
+        Err(FetchError::Absent) => Err(Unloaded::Absent(name)),
+        Err(FetchError::TooLong) => Err(Unloaded::TooLong { name, limit }),
+        Err(FetchError::ReadFault) => Err(Unloaded::ReadFault),
+        Err(FetchError::NoMemory) => Err(Unloaded::NoMemory),
+    }
+}
