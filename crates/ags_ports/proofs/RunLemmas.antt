@@ -3,7 +3,8 @@
 --     run-append, last-append       a run that goes on where another ends makes one run with it, which ends where the second does
 --     run-split                     a run over one list of events and then another is one over each, in turn
 --     some_end, one_end             from each state, each list of events leads to one state
---     end-append, end-split         and by way of another state, where the list is cut
+--     end-nil, end-step             none to the state itself, one event to the state that its step leaves
+--     end-append, end-split         one list and then another by way of a state between
 --     steps_of_run, run_of_steps    a run is a step at each of its events
 --     along_run                     what holds of every step holds at each step of a run
 --     front_steps, later_steps, joined_steps    what holds at each step holds in each part of a run, and the other way
@@ -125,6 +126,12 @@ pub one_end : (machine : Machine) (s : State) (events : List Event) (after left 
 one_end machine s events after left h p r =
     let same = one_run machine s events p.moments r.moments h p.run r.run in
     p.ends ∙ ap (last_state s) same ∙ sym r.ends
+
+pub end-nil : (machine : Machine) (s : State) → RunsTo machine s [] s
+end-nil machine s = record { moments = []; run = tt; ends = refl }
+
+pub end-step : (machine : Machine) (s : State) (event : Event) (report : Report) (after : State) → Steps machine s event report after → RunsTo machine s (event ∷ []) after
+end-step machine s event report after step = record { moments = record { report = report; after = after } ∷ []; run = (step, tt); ends = refl }
 
 pub end-append : (machine : Machine) (s mid after : State) (first second : List Event) → RunsTo machine s first mid → RunsTo machine mid second after → RunsTo machine s (first ++ second) after
 end-append machine s mid after first second p r = record {

@@ -1,8 +1,9 @@
 //! What runs of the machine mean. Each law is what a function that does nothing ensures, so that it is proved with the
 //! crate. Behind each clause is a lemma of `proofs/RunLemmas`, which the crates above cite.
 
-ghost use Rattle.std.specs.Prelude.{◌≡◌, ◌↔◌, List, ◌++◌};
+ghost use Rattle.std.specs.Prelude.{◌≡◌, ◌↔◌, List, [], ◌∷◌, ◌++◌};
 ghost use Rattle.ags_ports.specs.declared.events.Event.{Event};
+ghost use Rattle.ags_ports.specs.declared.events.Report.{Report};
 ghost use Rattle.ags_ports.specs.declared.machines.Machine.{Machine};
 ghost use Rattle.ags_ports.specs.Machine.{IsMachine};
 ghost use Rattle.ags_ports.specs.State.{State, IsState};
@@ -40,12 +41,15 @@ pub fn runs_split()
         → Run machine s (first ++ second) moments → RunsInTurn machine s first second moments }
 {}
 
-/// From each state, each list of events leads to one state: that of one list and then another by way of the state that
-/// the first leads to.
+/// From each state, each list of events leads to one state: none to the state itself, one event to the state that its step
+/// leaves, and one list and then another by way of the state that the first leads to.
 pub fn events_lead_to_one_state()
     ensures some { (machine : Machine) (s : State) (events : List Event) → (after : State) × RunsTo machine s events after }
     ensures one { (machine : Machine) (s : State) (events : List Event) (after left : State) → IsMachine machine
         → RunsTo machine s events after → RunsTo machine s events left → after ≡ left }
+    ensures none { (machine : Machine) (s : State) → RunsTo machine s [] s }
+    ensures step { (machine : Machine) (s : State) (event : Event) (report : Report) (after : State)
+        → Steps machine s event report after → RunsTo machine s (event ∷ []) after }
     ensures join { (machine : Machine) (s mid after : State) (first second : List Event)
         → RunsTo machine s first mid → RunsTo machine mid second after → RunsTo machine s (first ++ second) after }
     ensures split { (machine : Machine) (s after : State) (first second : List Event)
