@@ -1,15 +1,16 @@
--- In a source without a fault no card's word stands where an earlier one's does. The crates above cite `each_place_once`,
+-- In a source without a fault no card's word is put where an earlier one's is. The crates above cite `each_place_once`,
 -- behind the law `source_defines_each_place_once`.
-use Rattle.std.proofs.Common.{◌≡◌, ℕ, ◌+◌, Bool, true, false, cond, List, [], ◌∷◌, ◌++◌, length, Option, Some, None, option_map, refl, sym, ap, ◌∙◌, inl, inr, arith, eq-eqb}
-use Rattle.std.specs.Prelude.{◌⊎◌}
+use Rattle.std.proofs.Common.{◌≡◌, ◌≢◌, ℕ, ◌+◌, Bool, true, false, cond, List, [], ◌∷◌, length, get_or, Option, Some, None, option_map, refl, sym, ap, ◌∙◌, inl, inr, arith, eq-eqb}
 use Rattle.std.specs.List.{Contains}
 use Rattle.std.proofs.lemmas.Bool.{true≢false}
-use Rattle.std.proofs.lemmas.List.Elements.{Contains-append_left, Contains-append_right, Contains-append_cases, Contains-push_cases}
+use Rattle.std.proofs.lemmas.List.Elements.{Contains-get_or, Contains-push, Contains-append_left, Contains-append_right, Contains-append_cases, Contains-push_cases}
+use Rattle.std.proofs.lemmas.List.Kept.{AllPairs-cons}
 use Rattle.ags_text.specs.Fault.{or_later, first_fault}
+use Rattle.ags_image.specs.Image.{PlacedWord, EachPlaceOnce}
 use Rattle.ags_asm.specs.declared.source_error.SourceKind.{SourceKind}
 use Rattle.ags_asm.specs.declared.source_error.SourceKind.TheVariants.{PlaceTwice}
 use Rattle.ags_asm.specs.Place.{stands_at, owner, place_fault, word_fault, definitions}
-use Rattle.ags_asm.specs.Source.{or_fault, Defines, EachPlaceOnce}
+use Rattle.ags_asm.specs.Source.{or_fault, Defines, placed_words}
 
 -- ---- no owner
 
@@ -19,16 +20,16 @@ not_here true n later none = absurd cc
 not_here false n later none = (refl, none)
 
 -- where no card before owns a place, none of them has its word there
-owner_none : (place : ℕ) (before : List (Option (ℕ × ℕ))) (other : ℕ) → owner place before ≡ None → Contains before (Some (place, other)) → ⊥
+owner_none : (place : ℕ) (before : List (Option PlacedWord)) (one : PlacedWord) → owner place before ≡ None → Contains before (Some one) → one.place ≡ place → ⊥
 unfolding owner
-owner_none place [] other none is = omega (arith, is.1)
-owner_none place (one ∷ before) other none is =
-    let parts = not_here (stands_at place one) (length before + 1) (owner place before) none in
-    elim (Contains-append_cases (one ∷ []) before (Some (place, other)) is) [
-      | inr later ↦ owner_none place before other parts.1 later
-      | inl first ↦ elim (Contains-push_cases [] one (Some (place, other)) first) [
+owner_none place [] one none is at = omega (arith, is.1)
+owner_none place (first ∷ before) one none is at =
+    let parts = not_here (stands_at place first) (length before + 1) (owner place before) none in
+    elim (Contains-append_cases (first ∷ []) before (Some one) is) [
+      | inr later ↦ owner_none place before one parts.1 later at
+      | inl here ↦ elim (Contains-push_cases [] first (Some one) here) [
         | inl nothing ↦ omega (arith, nothing.1)
-        | inr same ↦ true≢false (sym (ap (stands_at place) same ∙ eq-eqb place place refl) ∙ parts.0)
+        | inr same ↦ true≢false (sym (ap (stands_at place) same ∙ eq-eqb one.place place at) ∙ parts.0)
       ]
     ]
 
@@ -44,35 +45,55 @@ pub no_later : {F : Type 0} (number : ℕ) (head : Option F) (later : Option (�
 no_later number None later none = (refl, none)
 no_later number (Some fault) later none = absurd cc
 
--- behind those before, whose words are none of theirs either
-apart_behind : (before words : List (Option (ℕ × ℕ))) → first_fault word_fault before words ≡ None → (front rest : List (Option (ℕ × ℕ))) (place word : ℕ) → words ≡ front ++ Some (place, word) ∷ rest
-    → (other : ℕ) → (Contains front (Some (place, other))) ⊎ (Contains before (Some (place, other))) → ⊥
+-- a word that comes later is put at another place than one before
+later_apart : (before words : List (Option PlacedWord)) → first_fault word_fault before words ≡ None → (early late : PlacedWord) → Contains before (Some early) → Contains words (Some late)
+    → early.place ≢ late.place
 unfolding first_fault
-apart_behind before [] none [] rest place word is other held = absurd cc
-apart_behind before [] none (one ∷ front) rest place word is other held = absurd cc
-apart_behind before (first ∷ words) none [] rest place word is other (inl nothing) = omega (arith, nothing.1)
-apart_behind before (first ∷ words) none [] rest place word is other (inr held) =
-    let same : first ≡ Some (place, word) = cc in
+later_apart before [] none early late held is = λ at. omega (arith, is.1)
+later_apart before (first ∷ words) none early late held is =
     let parts = no_later (length before + 1) (word_fault before first) (first_fault word_fault (first ∷ before) words) none in
-    let fault : word_fault before (Some (place, word)) ≡ None = rw same at parts.0 in
-    owner_none place before other (no_twice (owner place before) fault) held
-apart_behind before (first ∷ words) none (one ∷ front) rest place word is other held =
-    let same : first ≡ one = cc in
-    let behind : words ≡ front ++ Some (place, word) ∷ rest = cc in
-    let parts = no_later (length before + 1) (word_fault before first) (first_fault word_fault (first ∷ before) words) none in
-    apart_behind (first ∷ before) words parts.1 front rest place word behind other (elim held [
-      | inr earlier ↦ inr (Contains-append_right (first ∷ []) before (Some (place, other)) earlier)
-      | inl here ↦ elim (Contains-append_cases (one ∷ []) front (Some (place, other)) here) [
-        | inr later ↦ inl later
-        | inl at ↦ inr (Contains-append_left (first ∷ []) before (Some (place, other)) (rw same at))
+    elim (Contains-append_cases (first ∷ []) words (Some late) is) [
+      | inr later ↦ later_apart (first ∷ before) words parts.1 early late (Contains-append_right (first ∷ []) before (Some early) held) later
+      | inl here ↦ elim (Contains-push_cases [] first (Some late) here) [
+        | inl nothing ↦ λ at. omega (arith, nothing.1)
+        | inr same ↦
+            let fault : word_fault before (Some late) ≡ None = rw same at parts.0 in
+            owner_none late.place before early (no_twice (owner late.place before) fault) held
       ]
-    ])
+    ]
+
+-- a word among those of cards is one of theirs
+pub card_of_word : (defined : List (Option PlacedWord)) (placed : PlacedWord) → Contains (placed_words defined) placed → Contains defined (Some placed)
+card_of_word [] placed is = absurd (omega (arith, is.1))
+card_of_word (None ∷ defined) placed is = Contains-append_right (None ∷ []) defined (Some placed) (card_of_word defined placed is)
+card_of_word (Some first ∷ defined) placed is = elim (Contains-append_cases (first ∷ []) (placed_words defined) placed is) [
+  | inr later ↦ Contains-append_right (Some first ∷ []) defined (Some placed) (card_of_word defined placed later)
+  | inl here ↦ elim (Contains-push_cases [] first placed here) [
+    | inl nothing ↦ absurd (omega (arith, nothing.1))
+    | inr same ↦ rw same (Contains-append_left (Some placed ∷ []) defined (Some placed) (Contains-push [] (Some placed)))
+  ]
+]
+
+-- behind those before, each place comes once
+once_behind : (before words : List (Option PlacedWord)) → first_fault word_fault before words ≡ None → EachPlaceOnce (placed_words words)
+unfolding first_fault
+once_behind before [] none = λ i j d first inside. absurd (omega (arith, first, inside))
+once_behind before (None ∷ words) none =
+    let parts = no_later (length before + 1) (word_fault before None) (first_fault word_fault (None ∷ before) words) none in
+    once_behind (None ∷ before) words parts.1
+once_behind before (Some placed ∷ words) none =
+    let parts = no_later (length before + 1) (word_fault before (Some placed)) (first_fault word_fault (Some placed ∷ before) words) none in
+    let held : Contains (Some placed ∷ before) (Some placed) = Contains-append_left (Some placed ∷ []) before (Some placed) (Contains-push [] (Some placed)) in
+    AllPairs-cons (λ (one other : PlacedWord). one.place ≢ other.place) placed (placed_words words)
+    (λ k d inside. later_apart (Some placed ∷ before) words parts.1 placed (get_or (placed_words words) k d) held
+    (card_of_word words (get_or (placed_words words) k d) (Contains-get_or (placed_words words) k d inside)))
+    (once_behind (Some placed ∷ before) words parts.1)
 
 no_or_fault : (first later : Option (ℕ × SourceKind)) → or_fault first later ≡ None → later ≡ None
 no_or_fault None later none = none
 no_or_fault (Some fault) later none = absurd cc
 
-pub each_place_once : (text : List ℕ) (defined : List (Option (ℕ × ℕ))) → Defines text defined → EachPlaceOnce defined
-each_place_once text defined so = λ front rest place word is other held.
+pub each_place_once : (text : List ℕ) (defined : List (Option PlacedWord)) → Defines text defined → EachPlaceOnce (placed_words defined)
+each_place_once text defined so =
     let words = no_or_fault (first_fault place_fault [] so.bodies) _ so.faultless in
-    apart_behind [] (definitions so.bodies) words front rest place word (sym so.words ∙ is) other (inl held)
+    rw so.words (once_behind [] (definitions so.bodies) words)

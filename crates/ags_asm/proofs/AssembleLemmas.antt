@@ -5,6 +5,7 @@ use Rattle.std.specs.Global.{Global}
 use Rattle.std.proofs.lemmas.List.{length-map}
 use Rattle.ags_text.specs.Fault.{first_fault}
 use Rattle.ags_text.specs.Line.{LineAt, Follow, lines_of}
+use Rattle.ags_image.specs.Image.{PlacedWord}
 use Rattle.ags_asm.specs.declared.card.Body.{Body}
 use Rattle.ags_asm.specs.declared.placed.Placed.{Placed}
 use Rattle.ags_asm.specs.declared.source_card.SourceCard.{SourceCard}
@@ -24,11 +25,11 @@ asked-source_cards (line ∷ lines) [] same = refl
 asked-source_cards (line ∷ lines) (b ∷ bs) same = ap (λ (rest : List Body). b ∷ rest) (asked-source_cards lines bs (omega arith))
 
 -- a line's card with its place and word is the line with them
-place_card-source : (line : LineAt) (b : Body) (one : Option (ℕ × ℕ)) → place_card (source_card line b) one ≡ placed_at line one
+place_card-source : (line : LineAt) (b : Body) (one : Option PlacedWord) → place_card (source_card line b) one ≡ placed_at line one
 place_card-source line b None = refl
 place_card-source line b (Some definition) = refl
 
-place_cards-source : (lines : List LineAt) (bs : List Body) (ds : List (Option (ℕ × ℕ))) → length bs ≡ length lines → place_cards (source_cards lines bs) ds ≡ placed_cards lines ds
+place_cards-source : (lines : List LineAt) (bs : List Body) (ds : List (Option PlacedWord)) → length bs ≡ length lines → place_cards (source_cards lines bs) ds ≡ placed_cards lines ds
 place_cards-source [] [] ds same = refl
 place_cards-source [] (b ∷ bs) ds same = absurd (omega arith)
 place_cards-source (line ∷ lines) [] ds same = absurd (omega arith)
@@ -37,11 +38,11 @@ place_cards-source (line ∷ lines) (b ∷ bs) (d ∷ ds) same =
     rw (place_card-source line b d, place_cards-source lines bs ds (omega arith)) refl
 
 -- what placed cards define is what was defined
-defined-place_card : (card : SourceCard) (one : Option (ℕ × ℕ)) → defined (place_card card one) ≡ one
+defined-place_card : (card : SourceCard) (one : Option PlacedWord) → defined (place_card card one) ≡ one
 defined-place_card card None = refl
 defined-place_card card (Some definition) = refl
 
-defined-place_cards : (cards : List SourceCard) (ds : List (Option (ℕ × ℕ))) → length ds ≡ length cards → map defined (place_cards cards ds) ≡ ds
+defined-place_cards : (cards : List SourceCard) (ds : List (Option PlacedWord)) → length ds ≡ length cards → map defined (place_cards cards ds) ≡ ds
 defined-place_cards [] [] same = refl
 defined-place_cards [] (d ∷ ds) same = absurd (omega arith)
 defined-place_cards (card ∷ cards) [] same = refl
@@ -108,7 +109,7 @@ refused_words text cards placed NoMemory so places is first = tt
 -- ---- the answer
 
 -- each line's card is placed
-length-placed_cards : (lines : List LineAt) (defined : List (Option (ℕ × ℕ))) → length defined ≡ length lines → length (placed_cards lines defined) ≡ length lines
+length-placed_cards : (lines : List LineAt) (defined : List (Option PlacedWord)) → length defined ≡ length lines → length (placed_cards lines defined) ≡ length lines
 length-placed_cards [] defined same = refl
 length-placed_cards (line ∷ lines) [] same = same
 length-placed_cards (line ∷ lines) (one ∷ defined) same = ap suc (length-placed_cards lines defined (omega arith))
@@ -125,7 +126,7 @@ faulty_exactly text (Err (Source other)) assembled refused error faulty = inl (a
 faulty_exactly text (Err NoMemory) assembled refused error faulty = inr refl
 
 pub faultless_exactly : (text : List ℕ) (result : Result (Vec Placed Global) AssembleError) → IfOk result (λ placed. IsAssembled text placed.items) → IfErr result (IsRefused text)
-    → (defined : List (Option (ℕ × ℕ))) → Defines text defined → (IsOkAnd result (λ placed. placed.items ≡ placed_cards (lines_of text) defined)) ⊎ (IsErrOf result NoMemory)
+    → (defined : List (Option PlacedWord)) → Defines text defined → (IsOkAnd result (λ placed. placed.items ≡ placed_cards (lines_of text) defined)) ⊎ (IsErrOf result NoMemory)
 faultless_exactly text (Ok placed) assembled refused defined defines =
     inl (assembled.cards ∙ ap (placed_cards (lines_of text)) (one_meaning text assembled.defined defined assembled.defines defines))
 faultless_exactly text (Err (Source other)) assembled refused defined defines = absurd (not_both text defined other defines refused)
@@ -133,11 +134,11 @@ faultless_exactly text (Err NoMemory) assembled refused defined defines = inr re
 
 -- ---- the spans
 
-span_of : (line : LineAt) (one : Option (ℕ × ℕ)) → ((placed_at line one).start ≡ line.start) × ((placed_at line one).end ≡ line.start + length line.bytes)
+span_of : (line : LineAt) (one : Option PlacedWord) → ((placed_at line one).start ≡ line.start) × ((placed_at line one).end ≡ line.start + length line.bytes)
 span_of line None = (refl, refl)
 span_of line (Some definition) = (refl, refl)
 
-spans_follow : (text : List ℕ) (from : ℕ) (lines : List LineAt) (ds : List (Option (ℕ × ℕ))) → Follow text from lines → AreSpans from (length text) (placed_cards lines ds)
+spans_follow : (text : List ℕ) (from : ℕ) (lines : List LineAt) (ds : List (Option PlacedWord)) → Follow text from lines → AreSpans from (length text) (placed_cards lines ds)
 spans_follow text from [] ds follow = tt
 spans_follow text from (line ∷ lines) [] follow = tt
 spans_follow text from (line ∷ lines) (d ∷ ds) follow =

@@ -7,6 +7,7 @@ use Rattle.std.specs.Prelude.{◌⊎◌}
 use Rattle.ags_text.specs.Fault.{first_fault}
 use Rattle.ags_text.specs.Line.{lines_of}
 use Rattle.ags_text.proofs.ReadingLemmas.{length-readings}
+use Rattle.ags_image.specs.Image.{PlacedWord}
 use Rattle.ags_asm.specs.declared.card.Body.{Body}
 use Rattle.ags_asm.specs.declared.source_error.SourceError.{SourceError}
 use Rattle.ags_asm.specs.declared.source_error.SourceKind.{SourceKind}
@@ -47,7 +48,7 @@ first_of_bodies : (found : Option (ℕ × SourceKind)) (readings : List (Option 
 first_of_bodies (Some found) readings bodies fault none are first = absurd cc
 first_of_bodies None readings bodies fault none are first = ap bodies_fault (one_bodies readings bodies first.0 are first.1) ∙ first.2
 
-pub not_both : (text : List ℕ) (defined : List (Option (ℕ × ℕ))) (error : SourceError) → Defines text defined → IsFaulty text error → ⊥
+pub not_both : (text : List ℕ) (defined : List (Option PlacedWord)) (error : SourceError) → Defines text defined → IsFaulty text error → ⊥
 not_both text defined error defines faulty =
     let same = one_readings (lines_of text) defines.readings faulty.readings defines.are_readings faulty.are_readings in
     let none : first_fault card_fault [] faulty.readings ≡ None = rw (← same) defines.spelled in
@@ -56,7 +57,7 @@ not_both text defined error defines faulty =
     let nothing = defines.faultless in
     cc
 
-pub one_meaning : (text : List ℕ) (defined other : List (Option (ℕ × ℕ))) → Defines text defined → Defines text other → defined ≡ other
+pub one_meaning : (text : List ℕ) (defined other : List (Option PlacedWord)) → Defines text defined → Defines text other → defined ≡ other
 one_meaning text defined other one two =
     let same = one_readings (lines_of text) one.readings two.readings one.are_readings two.are_readings in
     let bodies = one_bodies two.readings one.bodies two.bodies (rw same at one.are_bodies) two.are_bodies in
@@ -81,7 +82,7 @@ length-bodies (None ∷ readings) bodies are = absurd are
 length-bodies (Some card ∷ readings) [] are = absurd are
 length-bodies (Some card ∷ readings) (body ∷ bodies) are = ap suc (length-bodies readings bodies are.1)
 
-pub one_for_each : (text : List ℕ) (defined : List (Option (ℕ × ℕ))) → Defines text defined → length defined ≡ length (lines_of text)
+pub one_for_each : (text : List ℕ) (defined : List (Option PlacedWord)) → Defines text defined → length defined ≡ length (lines_of text)
 one_for_each text defined so =
     ap length so.words ∙ length-definitions_after [] so.bodies ∙ length-bodies so.readings so.bodies so.are_bodies ∙ length-readings IsReading (lines_of text) so.readings so.are_readings
 
@@ -100,21 +101,21 @@ bodies_exist before (Some card ∷ readings) none =
 -- what readings mean, by what the phases find
 readings_mean : (text : List ℕ) (readings : List (Option Statement)) (bodies : List Body) (in_bodies : Option (ℕ × SourceKind)) → AreReadings (lines_of text) readings
     → first_fault card_fault [] readings ≡ None → AreBodies readings bodies → bodies_fault bodies ≡ in_bodies
-    → ((defined : List (Option (ℕ × ℕ))) × Defines text defined) ⊎ ((error : SourceError) × IsFaulty text error)
+    → ((defined : List (Option PlacedWord)) × Defines text defined) ⊎ ((error : SourceError) × IsFaulty text error)
 readings_mean text readings bodies None are spelled are_bodies is =
     inl (definitions bodies, record { readings = readings; are_readings = are; spelled = spelled; bodies = bodies; are_bodies = are_bodies; faultless = is; words = refl })
 readings_mean text readings bodies (Some fault) are spelled are_bodies is =
     inr (record { card = fault.0; kind = fault.1 }, record { readings = readings; are_readings = are; first = rw spelled (bodies, are_bodies, is) })
 
 lines_mean : (text : List ℕ) (readings : List (Option Statement)) (in_cards : Option (ℕ × SourceKind)) → AreReadings (lines_of text) readings → first_fault card_fault [] readings ≡ in_cards
-    → ((defined : List (Option (ℕ × ℕ))) × Defines text defined) ⊎ ((error : SourceError) × IsFaulty text error)
+    → ((defined : List (Option PlacedWord)) × Defines text defined) ⊎ ((error : SourceError) × IsFaulty text error)
 lines_mean text readings (Some fault) are is =
     inr (record { card = fault.0; kind = fault.1 }, record { readings = readings; are_readings = are; first = rw is refl })
 lines_mean text readings None are is =
     let bodies = bodies_exist [] readings is in
     readings_mean text readings bodies.0 (bodies_fault bodies.0) are is bodies.1 refl
 
-pub each_means : (text : List ℕ) → ((defined : List (Option (ℕ × ℕ))) × Defines text defined) ⊎ ((error : SourceError) × IsFaulty text error)
+pub each_means : (text : List ℕ) → ((defined : List (Option PlacedWord)) × Defines text defined) ⊎ ((error : SourceError) × IsFaulty text error)
 each_means text =
     let readings = readings_exist (lines_of text) in
     lines_mean text readings.0 (first_fault card_fault [] readings.0) readings.1 refl

@@ -1,6 +1,6 @@
 -- What a source defines are words of the memory. The crates above cite `words_of_memory`, behind the law
 -- `source_defines_words_of_the_memory`.
-use Rattle.std.proofs.Common.{◌≡◌, ℕ, ◌+◌, ◌<◌, ◌≤◌, ◌^◌, List, [], ◌∷◌, length, Option, Some, None, refl, sym, ap, subst, inl, inr, arith}
+use Rattle.std.proofs.Common.{◌≡◌, ℕ, ◌+◌, ◌<◌, ◌≤◌, ◌^◌, List, [], ◌∷◌, length, Option, Some, None, refl, sym, subst, inl, inr, arith}
 use Rattle.std.specs.List.{Contains}
 use Rattle.std.proofs.Math.Nat.{pow-le-pow_right}
 use Rattle.std.proofs.lemmas.Bool.{cases_lt}
@@ -9,13 +9,14 @@ use Rattle.std.proofs.lemmas.List.Elements.{Contains-append_cases, Contains-push
 use Rattle.ags_text.specs.Fault.{first_fault}
 use Rattle.ags_text.specs.Line.{LineAt, lines_of}
 use Rattle.ags_text.specs.Numeral.{IsOctal}
+use Rattle.ags_image.specs.Image.{PlacedWord, IsMemoryWord}
 use Rattle.ags_asm.specs.declared.card.Body.{Body}
 use Rattle.ags_asm.specs.declared.card.Body.TheVariants.{Comment, Org, Oct}
 use Rattle.ags_asm.specs.declared.source_error.SourceKind.{SourceKind}
 use Rattle.ags_asm.specs.Spelling.{Statement, States, Spells}
 use Rattle.ags_asm.specs.Place.{place, range_fault, place_fault, word_fault, definition, definitions, definitions_after}
-use Rattle.ags_asm.specs.Source.{or_fault, AreReadings, AreBodies, Defines}
-use Rattle.ags_asm.proofs.ApartLemmas.{no_later}
+use Rattle.ags_asm.specs.Source.{or_fault, AreReadings, AreBodies, Defines, placed_words}
+use Rattle.ags_asm.proofs.ApartLemmas.{no_later, card_of_word}
 
 -- ---- the word of a card
 
@@ -43,36 +44,32 @@ place_inside at none = elim (cases_lt at 4096) [
 -- ---- of one card
 
 -- what a card without a fault defines
-card_defines : (line : List ℕ) (card : Statement) (before : List Body) (body : Body) (at word : ℕ) → Spells line card → body ≡ card.body → place_fault before body ≡ None
-    → definition before body ≡ Some (at, word) → (at < 4096) × (word < 2 ^ 18)
-card_defines line card before Comment at word spells is none defined = absurd cc
-card_defines line card before (Org to) at word spells is none defined = absurd cc
-card_defines line card before (Oct given) at word spells is none defined =
-    let pairs : (place before, given) ≡ (at, word) = cc in
-    let same_place : place before ≡ at = ap (λ (p : ℕ × ℕ). p.0) pairs in
-    let same_word : given ≡ word = ap (λ (p : ℕ × ℕ). p.1) pairs in
-    let states : States line card.symbol (Oct given) = subst (λ (b : Body). States line card.symbol b) (sym is) spells.states in (
-      rw (← same_place) (place_inside (place before) none),
-      rw (← same_word) (word_stated line card.symbol given states),
-    )
+card_defines : (line : List ℕ) (card : Statement) (before : List Body) (body : Body) (placed : PlacedWord) → Spells line card → body ≡ card.body → place_fault before body ≡ None
+    → definition before body ≡ Some placed → IsMemoryWord placed
+card_defines line card before Comment placed spells is none defined = absurd cc
+card_defines line card before (Org to) placed spells is none defined = absurd cc
+card_defines line card before (Oct given) placed spells is none defined =
+    let same : ◌≡◌ {A = PlacedWord} (record { place = place before; word = given }) placed = cc in
+    let states : States line card.symbol (Oct given) = subst (λ (b : Body). States line card.symbol b) (sym is) spells.states in
+    subst IsMemoryWord same (record { place = place_inside (place before) none; word = word_stated line card.symbol given states })
 
 -- ---- of each card
 
 each_defines : (lines : List LineAt) (readings : List (Option Statement)) (before bodies : List Body) → AreReadings lines readings → AreBodies readings bodies
-    → first_fault place_fault before bodies ≡ None → (at word : ℕ) → Contains (definitions_after before bodies) (Some (at, word)) → (at < 4096) × (word < 2 ^ 18)
+    → first_fault place_fault before bodies ≡ None → (placed : PlacedWord) → Contains (definitions_after before bodies) (Some placed) → IsMemoryWord placed
 unfolding first_fault definitions_after
-each_defines lines [] before [] are are_bodies none at word held = absurd (omega (arith, held.1))
-each_defines lines [] before (body ∷ bodies) are are_bodies none at word held = absurd are_bodies
-each_defines lines (None ∷ readings) before bodies are are_bodies none at word held = absurd are_bodies
-each_defines lines (Some card ∷ readings) before [] are are_bodies none at word held = absurd are_bodies
-each_defines [] (Some card ∷ readings) before (body ∷ bodies) are are_bodies none at word held = absurd are
-each_defines (line ∷ lines) (Some card ∷ readings) before (body ∷ bodies) are are_bodies none at word held =
+each_defines lines [] before [] are are_bodies none placed held = absurd (omega (arith, held.1))
+each_defines lines [] before (body ∷ bodies) are are_bodies none placed held = absurd are_bodies
+each_defines lines (None ∷ readings) before bodies are are_bodies none placed held = absurd are_bodies
+each_defines lines (Some card ∷ readings) before [] are are_bodies none placed held = absurd are_bodies
+each_defines [] (Some card ∷ readings) before (body ∷ bodies) are are_bodies none placed held = absurd are
+each_defines (line ∷ lines) (Some card ∷ readings) before (body ∷ bodies) are are_bodies none placed held =
     let parts = no_later (length before + 1) (place_fault before body) (first_fault place_fault (body ∷ before) bodies) none in
-    elim (Contains-append_cases (definition before body ∷ []) (definitions_after (body ∷ before) bodies) (Some (at, word)) held) [
-      | inr later ↦ each_defines lines readings (body ∷ before) bodies are.1 are_bodies.1 parts.1 at word later
-      | inl first ↦ elim (Contains-push_cases [] (definition before body) (Some (at, word)) first) [
+    elim (Contains-append_cases (definition before body ∷ []) (definitions_after (body ∷ before) bodies) (Some placed) held) [
+      | inr later ↦ each_defines lines readings (body ∷ before) bodies are.1 are_bodies.1 parts.1 placed later
+      | inl first ↦ elim (Contains-push_cases [] (definition before body) (Some placed) first) [
         | inl nothing ↦ absurd (omega (arith, nothing.1))
-        | inr same ↦ card_defines line.bytes card before body at word are.0 are_bodies.0 parts.0 same
+        | inr same ↦ card_defines line.bytes card before body placed are.0 are_bodies.0 parts.0 same
       ]
     ]
 
@@ -81,8 +78,8 @@ no_first_fault : (first later : Option (ℕ × SourceKind)) → or_fault first l
 no_first_fault None later none = refl
 no_first_fault (Some fault) later none = none
 
-pub words_of_memory : (text : List ℕ) (defined : List (Option (ℕ × ℕ))) → Defines text defined → (at word : ℕ) → Contains defined (Some (at, word)) → (at < 4096) × (word < 2 ^ 18)
-words_of_memory text defined so at word held =
+pub words_of_memory : (text : List ℕ) (defined : List (Option PlacedWord)) → Defines text defined → (placed : PlacedWord) → Contains (placed_words defined) placed → IsMemoryWord placed
+words_of_memory text defined so placed held =
     let places = no_first_fault (first_fault place_fault [] so.bodies) (first_fault word_fault [] (definitions so.bodies)) so.faultless in
-    let inside : Contains (definitions_after [] so.bodies) (Some (at, word)) = rw so.words at held in
-    each_defines (lines_of text) so.readings [] so.bodies so.are_readings so.are_bodies places at word inside
+    let inside : Contains (definitions_after [] so.bodies) (Some placed) = rw so.words at (card_of_word defined placed held) in
+    each_defines (lines_of text) so.readings [] so.bodies so.are_readings so.are_bodies places placed inside

@@ -3,6 +3,7 @@ use Rattle.std.proofs.Common.{◌≡◌, ◌≢◌, ℕ, ◌+◌, ◌<◌, ◌�
 use Rattle.std.proofs.lemmas.Bool.{cases_eq, ne_eqb}
 use Rattle.std.proofs.lemmas.List.{drop_all, length-set, get_or-set_same, get_or-set_other}
 use Rattle.ags_text.specs.Fault.{first_fault, first_fault-nil, first_fault-faulty, first_fault-faultless}
+use Rattle.ags_image.specs.Image.{PlacedWord}
 use Rattle.ags_asm.specs.declared.placed.Placed.{Placed}
 use Rattle.ags_asm.specs.declared.source_error.SourceKind.TheVariants.{PlaceTwice}
 use Rattle.ags_asm.specs.Place.{stands_at, owner, word_fault}
@@ -10,7 +11,7 @@ use Rattle.ags_asm.specs.Phase.{defined, IsInMemory}
 use Rattle.ags_asm.proofs.ListLemmas.{nearest, nearest-more, length-nearest, rest-more}
 
 -- what the first cards define, nearest first
-abbrev pub before : List Placed → ℕ → List (Option (ℕ × ℕ))
+abbrev pub before : List Placed → ℕ → List (Option PlacedWord)
 before = nearest defined
 
 -- The first i cards are without a fault, and `owners` has for each place the card whose word stands there, or 0.
@@ -19,12 +20,12 @@ pub record Owning (placed : List Placed) (i : ℕ) (owners : List ℕ) : Type 0 
   pub owns : (at : ℕ) → at < 4096 → get_or owners at 0 ≡ unwrap_or (owner at (before placed i)) 0
   pub fault : first_fault word_fault (before placed i) (map defined (drop i placed)) ≡ first_fault word_fault [] (map defined placed)
 
-owner_test : (at n : ℕ) (front : List (Option (ℕ × ℕ))) (here : Bool) → (owner at front ≡ Some n → 0 < n) → cond here (Some (length front + 1)) (owner at front) ≡ Some n → 0 < n
+owner_test : (at n : ℕ) (front : List (Option PlacedWord)) (here : Bool) → (owner at front ≡ Some n → 0 < n) → cond here (Some (length front + 1)) (owner at front) ≡ Some n → 0 < n
 owner_test at n front true later is = let same : length front + 1 ≡ n = cc in omega arith
 owner_test at n front false later is = later is
 
 -- an owner's number is not 0
-owner-some : (at n : ℕ) (front : List (Option (ℕ × ℕ))) → owner at front ≡ Some n → 0 < n
+owner-some : (at n : ℕ) (front : List (Option PlacedWord)) → owner at front ≡ Some n → 0 < n
 unfolding owner
 owner-some at n [] is = absurd cc
 owner-some at n (one ∷ front) is = owner_test at n front (stands_at at one) (owner-some at n front) is
@@ -53,10 +54,10 @@ pub Owning-skip : (placed : List Placed) (i : ℕ) (owners : List ℕ) (card : P
     → Owning placed (i + 1) owners
 unfolding owner
 Owning-skip placed i owners card so within is none =
-    let front : List (Option (ℕ × ℕ)) = before placed i in
-    let behind : List (Option (ℕ × ℕ)) = map defined (drop (i + 1) placed) in
+    let front : List (Option PlacedWord) = before placed i in
+    let behind : List (Option PlacedWord) = map defined (drop (i + 1) placed) in
     let nothing : defined card ≡ None = rw none refl in
-    let nearer : before placed (i + 1) ≡ None ∷ front = nearest-more defined placed i card within is ∙ ap (λ (one : Option (ℕ × ℕ)). one ∷ front) nothing in
+    let nearer : before placed (i + 1) ≡ None ∷ front = nearest-more defined placed i card within is ∙ ap (λ (one : Option PlacedWord). one ∷ front) nothing in
     let rest : map defined (drop i placed) ≡ None ∷ behind = rw (rest-more placed i card within is, nothing) refl in
     record {
       many = so.many;
@@ -68,18 +69,18 @@ Owning-skip placed i owners card so within is none =
 pub Owning-twice : (placed : List Placed) (i : ℕ) (owners : List ℕ) (card : Placed) (at first : ℕ) → Owning placed i owners → i < length placed → card ≡ get_or placed i card → card.place ≡ Some at
     → at < 4096 → first ≡ get_or owners at 0 → first ≢ 0 → first_fault word_fault [] (map defined placed) ≡ Some (i + 1, PlaceTwice first)
 Owning-twice placed i owners card at first so within is there small first_is some =
-    let front : List (Option (ℕ × ℕ)) = before placed i in
-    let behind : List (Option (ℕ × ℕ)) = map defined (drop (i + 1) placed) in
-    let one : defined card ≡ Some (at, card.word) = rw there refl in
-    let rest : map defined (drop i placed) ≡ Some (at, card.word) ∷ behind = rw (rest-more placed i card within is, one) refl in
+    let front : List (Option PlacedWord) = before placed i in
+    let behind : List (Option PlacedWord) = map defined (drop (i + 1) placed) in
+    let one : defined card ≡ Some (record { place = at; word = card.word }) = rw there refl in
+    let rest : map defined (drop i placed) ≡ Some (record { place = at; word = card.word }) ∷ behind = rw (rest-more placed i card within is, one) refl in
     let owned : owner at front ≡ Some first = first_owner (owner at front) first (λ n. owner-some at n front) (first_is ∙ so.owns at small) some in
-    let here : word_fault front (Some (at, card.word)) ≡ Some (PlaceTwice first) = rw owned refl in
-    sym so.fault ∙ rw rest (first_fault-faulty word_fault front (Some (at, card.word)) behind (PlaceTwice first) here)
+    let here : word_fault front (Some (record { place = at; word = card.word })) ≡ Some (PlaceTwice first) = rw owned refl in
+    sym so.fault ∙ rw rest (first_fault-faulty word_fault front (Some (record { place = at; word = card.word })) behind (PlaceTwice first) here)
     ∙ ap (λ (n : ℕ). Some (n + 1, PlaceTwice first)) (length-nearest defined placed i (omega arith))
 
 -- a place that is owned from now on
-owns-set : (owners : List ℕ) (front : List (Option (ℕ × ℕ))) (at i q word : ℕ) → length owners ≡ 4096 → at < 4096 → length front ≡ i
-    → get_or owners q 0 ≡ unwrap_or (owner q front) 0 → get_or (set owners at (i + 1)) q 0 ≡ unwrap_or (owner q (Some (at, word) ∷ front)) 0
+owns-set : (owners : List ℕ) (front : List (Option PlacedWord)) (at i q word : ℕ) → length owners ≡ 4096 → at < 4096 → length front ≡ i
+    → get_or owners q 0 ≡ unwrap_or (owner q front) 0 → get_or (set owners at (i + 1)) q 0 ≡ unwrap_or (owner q (Some (record { place = at; word = word }) ∷ front)) 0
 unfolding owner
 owns-set owners front at i q word many small so_far owned =
     elim (cases_eq at q) [
@@ -91,17 +92,17 @@ owns-set owners front at i q word many small so_far owned =
 pub Owning-more : (placed : List Placed) (i : ℕ) (owners : List ℕ) (card : Placed) (at first : ℕ) → Owning placed i owners → i < length placed → card ≡ get_or placed i card → card.place ≡ Some at
     → at < 4096 → first ≡ get_or owners at 0 → first ≡ 0 → Owning placed (i + 1) (set owners at (i + 1))
 Owning-more placed i owners card at first so within is there small first_is none =
-    let front : List (Option (ℕ × ℕ)) = before placed i in
-    let behind : List (Option (ℕ × ℕ)) = map defined (drop (i + 1) placed) in
-    let one : defined card ≡ Some (at, card.word) = rw there refl in
-    let nearer : before placed (i + 1) ≡ Some (at, card.word) ∷ front = nearest-more defined placed i card within is ∙ ap (λ (d : Option (ℕ × ℕ)). d ∷ front) one in
-    let rest : map defined (drop i placed) ≡ Some (at, card.word) ∷ behind = rw (rest-more placed i card within is, one) refl in
+    let front : List (Option PlacedWord) = before placed i in
+    let behind : List (Option PlacedWord) = map defined (drop (i + 1) placed) in
+    let one : defined card ≡ Some (record { place = at; word = card.word }) = rw there refl in
+    let nearer : before placed (i + 1) ≡ Some (record { place = at; word = card.word }) ∷ front = nearest-more defined placed i card within is ∙ ap (λ (d : Option PlacedWord). d ∷ front) one in
+    let rest : map defined (drop i placed) ≡ Some (record { place = at; word = card.word }) ∷ behind = rw (rest-more placed i card within is, one) refl in
     let owned : owner at front ≡ None = no_owner (owner at front) first (λ n. owner-some at n front) (first_is ∙ so.owns at small) none in
-    let here : word_fault front (Some (at, card.word)) ≡ None = rw owned refl in
+    let here : word_fault front (Some (record { place = at; word = card.word })) ≡ None = rw owned refl in
     record {
       many = omega (arith, length-set owners at (i + 1), so.many);
       owns = λ q below. rw nearer (owns-set owners front at i q card.word so.many small (length-nearest defined placed i (omega arith)) (so.owns q below));
-      fault = rw nearer (sym (first_fault-faultless word_fault front (Some (at, card.word)) behind here) ∙ rw rest at so.fault);
+      fault = rw nearer (sym (first_fault-faultless word_fault front (Some (record { place = at; word = card.word })) behind here) ∙ rw rest at so.fault);
     }
 
 pub Owning-all : (placed : List Placed) (i : ℕ) (owners : List ℕ) → Owning placed i owners → length placed ≤ i → first_fault word_fault [] (map defined placed) ≡ None

@@ -2,6 +2,7 @@
 use Rattle.std.specs.Prelude.{◌≡◌, ℕ, ◌+◌, ◌<◌, Bool, ◌&&◌, if◌then◌else◌, is_some, List, [], ◌∷◌, length, Option, Some, None, option_map, IfSome, map}
 use Rattle.ags_text.specs.Fault.{first_fault}
 use Rattle.ags_text.specs.Line.{LineAt}
+use Rattle.ags_image.specs.Image.{PlacedWord}
 use Rattle.ags_asm.specs.declared.card.Body.{Body}
 use Rattle.ags_asm.specs.declared.card.Body.TheVariants.{Comment, Org, Oct}
 use Rattle.ags_asm.specs.declared.placed.Placed.{Placed}
@@ -55,19 +56,19 @@ abbrev pub asked : List SourceCard → List Body
 asked cards = map (λ card. card.body) cards
 
 -- a card with its place and word
-abbrev pub place_card : SourceCard → Option (ℕ × ℕ) → Placed
+abbrev pub place_card : SourceCard → Option PlacedWord → Placed
 place_card card None = record { start = card.start; end = card.end; place = None; word = 0 }
-place_card card (Some defined) = record { start = card.start; end = card.end; place = Some defined.0; word = defined.1 }
+place_card card (Some defined) = record { start = card.start; end = card.end; place = Some defined.place; word = defined.word }
 
 -- each card with its place and word
-abbrev pub place_cards : List SourceCard → List (Option (ℕ × ℕ)) → List Placed
+abbrev pub place_cards : List SourceCard → List (Option PlacedWord) → List Placed
 place_cards [] defined = []
 place_cards (card ∷ cards) [] = []
 place_cards (card ∷ cards) (one ∷ defined) = place_card card one ∷ place_cards cards defined
 
 -- the place and the word of a placed card
-abbrev pub defined : Placed → Option (ℕ × ℕ)
-defined card = option_map (λ at. (at, card.word)) card.place
+abbrev pub defined : Placed → Option PlacedWord
+defined card = option_map (λ at. record { place = at; word = card.word }) card.place
 
 -- the fault of a card that comes when the place is this
 abbrev pub place_fault_at : ℕ → Body → Option SourceKind
@@ -82,10 +83,10 @@ place_after at (Org to) = to
 place_after at (Oct word) = at + 1
 
 -- its place and word, where it has one
-abbrev pub definition_at : ℕ → Body → Option (ℕ × ℕ)
+abbrev pub definition_at : ℕ → Body → Option PlacedWord
 definition_at at Comment = None
 definition_at at (Org to) = None
-definition_at at (Oct word) = Some (at, word)
+definition_at at (Oct word) = Some (record { place = at; word = word })
 
 -- where a placed card has a place, it is one of the memory's
 abbrev pub IsInMemory : Placed → Type 0

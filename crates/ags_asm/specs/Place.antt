@@ -2,6 +2,7 @@
 use Rattle.std.specs.Prelude.{ℕ, ◌+◌, Bool, true, false, not, ◌==◌, nat_lt, if◌then◌else◌, List, [], ◌∷◌, length, Option, Some, None, option_map, sum_by}
 use Rattle.std.specs.List.{find, take_while}
 use Rattle.std.specs.Option.{option_map_or}
+use Rattle.ags_image.specs.Image.{PlacedWord}
 use Rattle.ags_asm.specs.declared.card.Body.{Body}
 use Rattle.ags_asm.specs.declared.card.Body.TheVariants.{Comment, Org, Oct}
 use Rattle.ags_asm.specs.declared.source_error.SourceKind.{SourceKind}
@@ -42,31 +43,31 @@ place_fault before (Org to) = range_fault to
 place_fault before (Oct word) = range_fault (place before)
 
 -- the place and the word of a card that has one
-abbrev pub definition : List Body → Body → Option (ℕ × ℕ)
+abbrev pub definition : List Body → Body → Option PlacedWord
 definition before Comment = None
 definition before (Org to) = None
-definition before (Oct word) = Some (place before, word)
+definition before (Oct word) = Some (record { place = place before; word = word })
 
 -- the place and the word of each of the cards that follow those before, where it has one
-unfoldable pub definitions_after : List Body → List Body → List (Option (ℕ × ℕ))
+unfoldable pub definitions_after : List Body → List Body → List (Option PlacedWord)
 definitions_after before [] = []
 definitions_after before (card ∷ cards) = definition before card ∷ definitions_after (card ∷ before) cards
 
 -- the place and the word of each card, where it has one
-abbrev pub definitions : List Body → List (Option (ℕ × ℕ))
+abbrev pub definitions : List Body → List (Option PlacedWord)
 definitions cards = definitions_after [] cards
 
 -- whether a card's word stands at the place
-abbrev pub stands_at : ℕ → Option (ℕ × ℕ) → Bool
+abbrev pub stands_at : ℕ → Option PlacedWord → Bool
 stands_at at None = false
-stands_at at (Some defined) = defined.0 == at
+stands_at at (Some defined) = defined.place == at
 
 -- the number of the card before whose word stands at the place
-unfoldable pub owner : ℕ → List (Option (ℕ × ℕ)) → Option ℕ
+unfoldable pub owner : ℕ → List (Option PlacedWord) → Option ℕ
 owner at [] = None
 owner at (defined ∷ before) = if stands_at at defined then Some (length before + 1) else owner at before
 
 -- in the phase of words: a card whose place has the word of an earlier one
-abbrev pub word_fault : List (Option (ℕ × ℕ)) → Option (ℕ × ℕ) → Option SourceKind
+abbrev pub word_fault : List (Option PlacedWord) → Option PlacedWord → Option SourceKind
 word_fault before None = None
-word_fault before (Some defined) = option_map PlaceTwice (owner defined.0 before)
+word_fault before (Some defined) = option_map PlaceTwice (owner defined.place before)

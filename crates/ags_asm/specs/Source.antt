@@ -1,9 +1,10 @@
 -- What a source means: the cards that its lines spell, its first fault, and the words that it defines.
-use Rattle.std.specs.Prelude.{◌≡◌, ℕ, ◌+◌, ◌≤◌, Bool, false, ◌&&◌, if◌then◌else◌, List, [], ◌∷◌, ◌++◌, length, Option, Some, None, is_some}
-use Rattle.std.specs.List.{Contains, list_any}
+use Rattle.std.specs.Prelude.{◌≡◌, ℕ, ◌+◌, ◌≤◌, Bool, false, ◌&&◌, if◌then◌else◌, List, [], ◌∷◌, length, Option, Some, None, is_some}
+use Rattle.std.specs.List.{filter_map, list_any}
 use Rattle.ags_text.specs.Fault.{first_fault}
 use Rattle.ags_text.specs.Line.{LineAt, lines_of}
 use Rattle.ags_text.specs.Reading.{AreReadingsBy}
+use Rattle.ags_image.specs.Image.{PlacedWord}
 use Rattle.ags_asm.specs.declared.card.Body.{Body}
 use Rattle.ags_asm.specs.declared.placed.Placed.{Placed}
 use Rattle.ags_asm.specs.declared.source_error.SourceKind.{SourceKind}
@@ -59,19 +60,19 @@ IsFirstOf (Some found) readings fault = found ≡ fault
 IsFirstOf None readings fault = (bodies : List Body) × AreBodies readings bodies × (bodies_fault bodies ≡ Some fault)
 
 -- a card as it was placed: the span of its bytes, and its place and word, where it has one
-abbrev pub placed_at : LineAt → Option (ℕ × ℕ) → Placed
+abbrev pub placed_at : LineAt → Option PlacedWord → Placed
 placed_at line None = record { start = line.start; end = line.start + length line.bytes; place = None; word = 0 }
-placed_at line (Some defined) = record { start = line.start; end = line.start + length line.bytes; place = Some defined.0; word = defined.1 }
+placed_at line (Some defined) = record { start = line.start; end = line.start + length line.bytes; place = Some defined.place; word = defined.word }
 
 -- each line's card as it was placed, where there are as many definitions as lines
-abbrev pub placed_cards : List LineAt → List (Option (ℕ × ℕ)) → List Placed
+abbrev pub placed_cards : List LineAt → List (Option PlacedWord) → List Placed
 placed_cards [] defined = []
 placed_cards (line ∷ lines) [] = []
 placed_cards (line ∷ lines) (one ∷ defined) = placed_at line one ∷ placed_cards lines defined
 
 -- The text is a source without a fault, and these are the places and the words of its cards: one for each card,
 -- where it has one.
-pub record Defines (text : List ℕ) (defined : List (Option (ℕ × ℕ))) : Type 0 where
+pub record Defines (text : List ℕ) (defined : List (Option PlacedWord)) : Type 0 where
   pub readings : List (Option Statement)
   pub are_readings : AreReadings (lines_of text) readings
   pub spelled : first_fault card_fault [] readings ≡ None
@@ -80,9 +81,13 @@ pub record Defines (text : List ℕ) (defined : List (Option (ℕ × ℕ))) : Ty
   pub faultless : bodies_fault bodies ≡ None
   pub words : defined ≡ definitions bodies
 
+-- the words that the cards have, each with its place, in the order of the cards
+abbrev pub placed_words : List (Option PlacedWord) → List PlacedWord
+placed_words defined = filter_map (λ one. one) defined
+
 -- The text is a source without a fault, and these are its cards as they are placed.
 pub record IsAssembled (text : List ℕ) (placed : List Placed) : Type 0 where
-  pub defined : List (Option (ℕ × ℕ))
+  pub defined : List (Option PlacedWord)
   pub defines : Defines text defined
   pub one_each : length defined ≡ length (lines_of text)
   pub cards : placed ≡ placed_cards (lines_of text) defined
@@ -102,8 +107,3 @@ IsRefused text NoMemory = Unit {0}
 abbrev pub AreSpans : (from limit : ℕ) → List Placed → Type 0
 AreSpans from limit [] = Unit {0}
 AreSpans from limit (card ∷ cards) = (from ≤ card.start) × (card.start ≤ card.end) × (card.end ≤ limit) × AreSpans (card.end + 1) limit cards
-
--- No card's word stands where an earlier one's does.
-abbrev pub EachPlaceOnce : List (Option (ℕ × ℕ)) → Type 0
-EachPlaceOnce defined = (front rest : List (Option (ℕ × ℕ))) (place word : ℕ) → defined ≡ front ++ Some (place, word) ∷ rest
-    → (other : ℕ) → Contains front (Some (place, other)) → ⊥

@@ -2,6 +2,7 @@
 
 ghost use Rattle.std.specs.Prelude.{◌≡◌, ◌≤◌, ◌⊎◌, ℕ, List, Option, length, map, All, OnOk, IfOk, IfErr, IsOkAnd, IsErrOf};
 ghost use Rattle.ags_text.specs.Line.{Follow, lines_of};
+ghost use Rattle.ags_image.specs.Image.{PlacedWord};
 ghost use Rattle.ags_asm.specs.declared.source_error.SourceError.{SourceError};
 ghost use Rattle.ags_asm.specs.Source.{AreSpans, Defines, IsAssembled, IsFaulty, IsRefused, placed_cards};
 ghost use Rattle.ags_asm.specs.Phase.{IsInMemory, defined};
@@ -41,7 +42,7 @@ pub fn assemble(alloc: Global, bytes: &[u8]) -> Result<Vec<Placed>, AssembleErro
     ensures refused { IfErr result (IsRefused bytes.now) }
 
     // A source without a fault is assembled, and one with a fault is refused for it, unless memory runs out.
-    ensures faultless { (words : List (Option (ℕ × ℕ))) → Defines bytes.now words
+    ensures faultless { (words : List (Option PlacedWord)) → Defines bytes.now words
         → IsOkAnd result (λ placed. placed.items ≡ placed_cards (lines_of bytes.now) words)
         ⊎ IsErrOf result AssembleError.NoMemory }
     ensures faulty { (error : SourceError) → IsFaulty bytes.now error

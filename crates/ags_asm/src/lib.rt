@@ -1,6 +1,6 @@
 //! The assembler: from a source's bytes to its cards with their places and words, or its first fault.
-//! It stands on `ags_text` for lines, fields and digits and on `ags_word` for words, and `assemble` answers exactly what
-//! the definitions in `specs/` say of the text.
+//! It stands on `ags_text` for lines, fields and digits, on `ags_word` for words and on `ags_image` for what a word at a
+//! place is, and `assemble` answers exactly what the definitions in `specs/` say of the text.
 #![tactic(auto)]
 
 mod assembling;

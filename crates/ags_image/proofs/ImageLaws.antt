@@ -7,16 +7,17 @@
 --     length-with_word, IsImage-with_word     an image that is given a word is an image of as many locations
 --     image_same                              images with the same entry at each location are one
 --     image_of_nothing                        the image without a word is that of no words
---     image_of_none_more, image_of_word_more  what it is of one word more
---     some_image                              words of the memory, of which no two lie at one location, have an image
+--     image_of_word_more                      what it is of one word more
+--     some_image                              words of the memory have an image, where no place has two of them
+--     one_word_a_place                        no place has two, where no two are put at one place
 --     one_image                               words have one image
-use Rattle.std.proofs.Common.{◌≡◌, ◌≢◌, ℕ, ◌<◌, ◌^◌, List, [], ◌∷◌, ◌++◌, Option, Some, None, length, refl, sym, ap, ◌∙◌, ⊎_elim, inl, inr, arith, append_assoc, append-nil}
+use Rattle.std.proofs.Common.{◌≡◌, ◌≢◌, ℕ, ◌<◌, ◌^◌, List, [], ◌∷◌, ◌++◌, Option, Some, None, length, get_or, refl, sym, ap, ◌∙◌, ⊎_elim, inl, inr, arith, append_assoc, append-nil}
 use Rattle.std.specs.List.{Contains}
 use Rattle.std.proofs.lemmas.Bool.{cases_lt, cases_eq}
 use Rattle.std.proofs.lemmas.Grind.{common_steps}
 use Rattle.std.proofs.lemmas.List.{get_or-set_same, get_or-set_other, get_or_past, get_or_default, length-set, length-replicate, get_or-replicate, same_lists}
 use Rattle.std.proofs.lemmas.List.Elements.{Contains-append_left, Contains-push, Contains-push_cases}
-use Rattle.ags_image.specs.Image.{memory_size, no_words, entry_at, word_at, with_word, IsImage, IsImageOf}
+use Rattle.ags_image.specs.Image.{memory_size, no_words, entry_at, word_at, with_word, IsImage, PlacedWord, IsMemoryWord, EachPlaceOnce, EachPlaceHasOneWord, IsImageOf}
 
 -- ---- no word
 
@@ -89,99 +90,102 @@ image_same left right is_left is_right same = same_lists left right (is_left.who
 pub image_of_nothing : IsImageOf [] no_words
 image_of_nothing = record {
   is_image = IsImage-no_words;
-  from_words = λ location word is. let none = entry_at-no_words location in absurd cc;
-  has_words = λ location word is. absurd (omega (arith, is.1));
+  from_words = λ place word is. let none = entry_at-no_words place in absurd cc;
+  has_words = λ place word is. absurd (omega (arith, is.1));
 }
 
--- where nothing is added, each word is one of those before
-none_more : (words : List (Option (ℕ × ℕ))) (location word : ℕ) → Contains (words ++ None ∷ []) (Some (location, word)) → Contains words (Some (location, word))
-none_more words location word is = elim (Contains-push_cases words None (Some (location, word)) is) [ inl before ↦ before | inr last ↦ absurd cc ]
+-- words before, of which none is another word at the place of this one
+abbrev MeetsNone : List PlacedWord → PlacedWord → Type 0
+MeetsNone words placed = (other : PlacedWord) → Contains words other → other.place ≡ placed.place → other.word ≡ placed.word
 
-pub image_of_none_more : (words : List (Option (ℕ × ℕ))) (image : List (Option ℕ)) → IsImageOf words image → IsImageOf (words ++ None ∷ []) image
-image_of_none_more words image of = record {
-  is_image = of.is_image;
-  from_words = λ location word is. Contains-append_left words (None ∷ []) (Some (location, word)) (of.from_words location word is);
-  has_words = λ location word is. of.has_words location word (none_more words location word is);
-}
+-- a word more, over the words before and their image
+module _ (words : List PlacedWord) (image : List (Option ℕ)) (placed : PlacedWord) (inside : IsMemoryWord placed) (of : IsImageOf words image) where
+  -- what the image holds once it is set
+  from_word_more : (place word : ℕ) → entry_at (with_word image placed.place placed.word) place ≡ Some word → Contains (words ++ placed ∷ []) (record { place = place; word = word })
+  from_word_more place word is = elim (cases_eq place placed.place) [
+    | inl same ↦
+        let set = entry_at-set image placed.place placed.word (rw of.is_image.whole inside.place) in
+        let here : entry_at (with_word image placed.place placed.word) placed.place ≡ Some word = rw same at is in
+        let value : placed.word ≡ word = cc in
+        rw (same, ← value) (Contains-push words placed)
+    | inr apart ↦
+        Contains-append_left words (placed ∷ []) (record { place = place; word = word })
+        (of.from_words place word (sym (entry_at-other image placed.place place placed.word apart) ∙ is))
+  ]
 
--- what an image holds once a word more is set
-from_word_more : (words : List (Option (ℕ × ℕ))) (image : List (Option ℕ)) (at given : ℕ) → at < memory_size → IsImageOf words image
-    → (location word : ℕ) → entry_at (with_word image at given) location ≡ Some word → Contains (words ++ Some (at, given) ∷ []) (Some (location, word))
-from_word_more words image at given within of location word is =
-    elim (cases_eq location at) [
-      | inl same ↦
-          let set = entry_at-set image at given (rw of.is_image.whole within) in
-          let here : entry_at (with_word image at given) at ≡ Some word = rw same at is in
-          let value : given ≡ word = cc in
-          rw (same, ← value) (Contains-push words (Some (at, given)))
-      | inr apart ↦
-          Contains-append_left words (Some (at, given) ∷ []) (Some (location, word))
-          (of.from_words location word (sym (entry_at-other image at location given apart) ∙ is))
-    ]
+  -- and which of the words it holds
+  has_word_more : MeetsNone words placed → (place word : ℕ) → Contains (words ++ placed ∷ []) (record { place = place; word = word })
+      → entry_at (with_word image placed.place placed.word) place ≡ Some word
+  has_word_more none place word is =
+      let set = entry_at-set image placed.place placed.word (rw of.is_image.whole inside.place) in
+      elim (Contains-push_cases words placed (record { place = place; word = word }) is) [
+        | inr last ↦
+            let same_place : placed.place ≡ place = ap (λ (p : PlacedWord). p.place) last in
+            let same_word : placed.word ≡ word = ap (λ (p : PlacedWord). p.word) last in
+            rw (← same_place, ← same_word) set
+        | inl before ↦ elim (cases_eq place placed.place) [
+          | inl same ↦
+              let value : word ≡ placed.word = none (record { place = place; word = word }) before same in
+              rw (same, value) set
+          | inr other ↦ entry_at-other image placed.place place placed.word other ∙ of.has_words place word before
+        ]
+      ]
 
--- and which of the words it holds
-has_word_more : (words : List (Option (ℕ × ℕ))) (image : List (Option ℕ)) (at given : ℕ) → at < memory_size → IsImageOf words image
-    → ((other : ℕ) → Contains words (Some (at, other)) → other ≡ given)
-    → (location word : ℕ) → Contains (words ++ Some (at, given) ∷ []) (Some (location, word)) → entry_at (with_word image at given) location ≡ Some word
-has_word_more words image at given within of apart location word is =
-    let set = entry_at-set image at given (rw of.is_image.whole within) in
-    elim (Contains-push_cases words (Some (at, given)) (Some (location, word)) is) [
-      | inr last ↦
-          let pairs : (at, given) ≡ (location, word) = cc in
-          let place : at ≡ location = ap (λ (p : ℕ × ℕ). p.0) pairs in
-          let value : given ≡ word = ap (λ (p : ℕ × ℕ). p.1) pairs in
-          rw (← place, ← value) set
-      | inl before ↦ elim (cases_eq location at) [
-        | inl same ↦
-            let value : word ≡ given = apart word (rw same at before) in
-            rw (same, value) set
-        | inr other ↦ entry_at-other image at location given other ∙ of.has_words location word before
+  pub image_of_word_more : MeetsNone words placed → IsImageOf (words ++ placed ∷ []) (with_word image placed.place placed.word)
+  image_of_word_more none = record {
+    is_image = IsImage-with_word image placed.place placed.word of.is_image inside.word;
+    from_words = from_word_more;
+    has_words = has_word_more none;
+  }
+
+-- words of the memory, of which no place has two
+module _ (words : List PlacedWord) (inside : (placed : PlacedWord) → Contains words placed → IsMemoryWord placed) (apart : EachPlaceHasOneWord words) where
+  -- The image of all words, where that of those at the front is this one: what is left is set word by word.
+  image_grown : (front rest : List PlacedWord) (image : List (Option ℕ)) → words ≡ front ++ rest → IsImageOf front image → (whole : List (Option ℕ)) × IsImageOf words whole
+  image_grown front [] image is of =
+      let all : words ≡ front = is ∙ append-nil front in
+      (image, rw all of)
+  image_grown front (placed ∷ rest) image is of =
+      let cut : words ≡ (front ++ placed ∷ []) ++ rest = is ∙ sym (append_assoc front (placed ∷ []) rest) in
+      let held : Contains words placed = rw cut (Contains-append_left (front ++ placed ∷ []) rest placed (Contains-push front placed)) in
+      let before : (other : PlacedWord) → Contains front other → Contains words other = λ other at. rw is (Contains-append_left front (placed ∷ rest) other at) in
+      let more : IsImageOf (front ++ placed ∷ []) (with_word image placed.place placed.word) =
+      image_of_word_more front image placed (inside placed held) of (λ other at. apart other placed (before other at) held) in
+      image_grown (front ++ placed ∷ []) rest (with_word image placed.place placed.word) cut more
+
+  pub some_image : (image : List (Option ℕ)) × IsImageOf words image
+  some_image = image_grown [] words no_words refl image_of_nothing
+
+-- an earlier word and a later one are put at two places
+apart_at : (words : List PlacedWord) (one other : PlacedWord) (i j : ℕ) → EachPlaceOnce words → i < j → j < length words → get_or words i one ≡ one → get_or words j other ≡ other
+    → one.place ≢ other.place
+apart_at words one other i j once before inside one_is other_is =
+    let there : get_or words j one ≡ other = get_or_default words j one other inside ∙ other_is in
+    rw (one_is, there) at (once i j one before inside)
+
+-- where no two words are put at one place, those at one place are one word
+pub one_word_a_place : (words : List PlacedWord) → EachPlaceOnce words → EachPlaceHasOneWord words
+one_word_a_place words once = λ one other held too same.
+    elim (cases_lt held.0 too.0) [
+      | inl before ↦ absurd (apart_at words one other held.0 too.0 once before too.1 held.2 too.2 same)
+      | inr later ↦ elim (cases_eq held.0 too.0) [
+        | inl at ↦
+            let here : get_or words held.0 other ≡ other = rw at too.2 in
+            ap (λ (p : PlacedWord). p.word) (sym held.2 ∙ get_or_default words held.0 one other held.1 ∙ here)
+        | inr apart ↦ absurd (apart_at words other one too.0 held.0 once (omega arith) held.1 too.2 held.2 (sym same))
       ]
     ]
 
-pub image_of_word_more : (words : List (Option (ℕ × ℕ))) (image : List (Option ℕ)) (at given : ℕ) → at < memory_size → given < 2 ^ 18 → IsImageOf words image
-    → ((other : ℕ) → Contains words (Some (at, other)) → other ≡ given) → IsImageOf (words ++ Some (at, given) ∷ []) (with_word image at given)
-image_of_word_more words image at given within below of apart = record {
-  is_image = IsImage-with_word image at given of.is_image below;
-  from_words = from_word_more words image at given within of;
-  has_words = has_word_more words image at given within of apart;
-}
+-- words have one image
+module _ (words : List PlacedWord) (one other : List (Option ℕ)) (of : IsImageOf words one) (too : IsImageOf words other) where
+  -- two images of the same words have the same entries
+  entry_same : (place : ℕ) (entry : Option ℕ) → entry_at one place ≡ entry → entry ≡ entry_at other place
+  entry_same place (Some word) is = sym (too.has_words place word (of.from_words place word is))
+  entry_same place None is = none_too (entry_at other place) refl
+    where
+      none_too : (found : Option ℕ) → entry_at other place ≡ found → None ≡ entry_at other place
+      none_too None found_is = sym found_is
+      none_too (Some word) found_is = let some = of.has_words place word (too.from_words place word found_is) in absurd cc
 
--- The image of all words, where that of those at the front is this one: what is left is set word by word.
-image_grown : (words front rest : List (Option (ℕ × ℕ))) (image : List (Option ℕ)) → words ≡ front ++ rest
-    → ((location word : ℕ) → Contains words (Some (location, word)) → (location < memory_size) × (word < 2 ^ 18))
-    → ((before after : List (Option (ℕ × ℕ))) (location word : ℕ) → words ≡ before ++ Some (location, word) ∷ after
-    → (other : ℕ) → Contains before (Some (location, other)) → other ≡ word)
-    → IsImageOf front image → (whole : List (Option ℕ)) × IsImageOf words whole
-image_grown words front [] image is within apart of =
-    let all : words ≡ front = is ∙ append-nil front in
-    (image, rw all of)
-image_grown words front (None ∷ rest) image is within apart of =
-    image_grown words (front ++ None ∷ []) rest image (is ∙ sym (append_assoc front (None ∷ []) rest)) within apart (image_of_none_more front image of)
-image_grown words front (Some pair ∷ rest) image is within apart of =
-    let cut : words ≡ (front ++ Some pair ∷ []) ++ rest = is ∙ sym (append_assoc front (Some pair ∷ []) rest) in
-    let held : Contains words (Some pair) = rw cut (Contains-append_left (front ++ Some pair ∷ []) rest (Some pair) (Contains-push front (Some pair))) in
-    let inside = within pair.0 pair.1 held in
-    let more : IsImageOf (front ++ Some pair ∷ []) (with_word image pair.0 pair.1) =
-    image_of_word_more front image pair.0 pair.1 inside.0 inside.1 of (λ other before. apart front rest pair.0 pair.1 is other before) in
-    image_grown words (front ++ Some pair ∷ []) rest (with_word image pair.0 pair.1) cut within apart more
-
-pub some_image : (words : List (Option (ℕ × ℕ)))
-    → ((location word : ℕ) → Contains words (Some (location, word)) → (location < memory_size) × (word < 2 ^ 18))
-    → ((before after : List (Option (ℕ × ℕ))) (location word : ℕ) → words ≡ before ++ Some (location, word) ∷ after
-    → (other : ℕ) → Contains before (Some (location, other)) → other ≡ word)
-    → (image : List (Option ℕ)) × IsImageOf words image
-some_image words within apart = image_grown words [] words no_words refl within apart image_of_nothing
-
--- two images of the same words have the same entries
-entry_same : (words : List (Option (ℕ × ℕ))) (one other : List (Option ℕ)) → IsImageOf words one → IsImageOf words other → (location : ℕ) (entry : Option ℕ)
-    → entry_at one location ≡ entry → entry ≡ entry_at other location
-entry_same words one other of too location (Some word) is = sym (too.has_words location word (of.from_words location word is))
-entry_same words one other of too location None is = none_too (entry_at other location) refl
-  where
-    none_too : (found : Option ℕ) → entry_at other location ≡ found → None ≡ entry_at other location
-    none_too None found_is = sym found_is
-    none_too (Some word) found_is = let some = of.has_words location word (too.from_words location word found_is) in absurd cc
-
-pub one_image : (words : List (Option (ℕ × ℕ))) (one other : List (Option ℕ)) → IsImageOf words one → IsImageOf words other → one ≡ other
-one_image words one other of too = image_same one other of.is_image too.is_image (λ location within. entry_same words one other of too location (entry_at one location) refl)
+  pub one_image : one ≡ other
+  one_image = image_same one other of.is_image too.is_image (λ place within. entry_same place (entry_at one place) refl)

@@ -1,7 +1,7 @@
 -- What an assembly puts into the machine's memory: for each location a word or none, as a list in the order of the
 -- locations.
-use Rattle.std.specs.Prelude.{◌≡◌, ℕ, ◌<◌, ◌^◌, List, Option, Some, None, length, get_or, replicate, slice_set, unwrap_or}
-use Rattle.std.specs.List.{Contains}
+use Rattle.std.specs.Prelude.{◌≡◌, ◌≢◌, ℕ, ◌<◌, ◌^◌, List, Option, Some, None, length, get_or, replicate, slice_set, unwrap_or}
+use Rattle.std.specs.List.{AllPairs, Contains}
 
 -- how many locations the memory has
 abbrev pub memory_size : ℕ
@@ -28,9 +28,27 @@ pub record IsImage (image : List (Option ℕ)) : Type 0 where
   pub whole : length image ≡ memory_size
   pub words : (location : ℕ) → word_at image location < 2 ^ 18
 
--- The image has exactly the words of the list, each at its location; an element of the list may be none. Each word in the
--- image is an element, and each element that is a word is in the image.
-pub record IsImageOf (words : List (Option (ℕ × ℕ))) (image : List (Option ℕ)) : Type 0 where
+-- a word with the place of the memory that it is put at
+pub record PlacedWord : Type 0 where
+  pub place : ℕ
+  pub word : ℕ
+
+-- it is a word, below 2 ^ 18, at a place of the memory
+pub record IsMemoryWord (placed : PlacedWord) : Type 0 where
+  pub place : placed.place < memory_size
+  pub word : placed.word < 2 ^ 18
+
+-- no two of the words are put at one place
+abbrev pub EachPlaceOnce : List PlacedWord → Type 0
+EachPlaceOnce words = AllPairs (λ one other. one.place ≢ other.place) words
+
+-- those of the words that are put at one place are one word
+abbrev pub EachPlaceHasOneWord : List PlacedWord → Type 0
+EachPlaceHasOneWord words = (one other : PlacedWord) → Contains words one → Contains words other → one.place ≡ other.place → one.word ≡ other.word
+
+-- The image has exactly these words, each at its place: each word in the image is one of them, and each of them is in the
+-- image.
+pub record IsImageOf (words : List PlacedWord) (image : List (Option ℕ)) : Type 0 where
   pub is_image : IsImage image
-  pub from_words : (location word : ℕ) → entry_at image location ≡ Some word → Contains words (Some (location, word))
-  pub has_words : (location word : ℕ) → Contains words (Some (location, word)) → entry_at image location ≡ Some word
+  pub from_words : (place word : ℕ) → entry_at image place ≡ Some word → Contains words (record { place = place; word = word })
+  pub has_words : (place word : ℕ) → Contains words (record { place = place; word = word }) → entry_at image place ≡ Some word

@@ -3,7 +3,7 @@
 
 ghost use Rattle.std.specs.Prelude.{◌≡◌, ◌≢◌, ℕ, ◌<◌, ◌^◌, ◌++◌, List, [], ◌∷◌, Option, Some, None, length};
 ghost use Rattle.std.specs.List.{Contains};
-ghost use Rattle.ags_image.specs.Image.{memory_size, no_words, entry_at, word_at, with_word, IsImage, IsImageOf};
+ghost use Rattle.ags_image.specs.Image.{memory_size, no_words, entry_at, word_at, with_word, IsImage, PlacedWord, IsMemoryWord, EachPlaceOnce, EachPlaceHasOneWord, IsImageOf};
 
 /// The image without a word is an image, and none of its locations has a word.
 pub fn no_words_has_no_word()
@@ -50,29 +50,28 @@ pub fn entries_make_image()
         → left ≡ right }
 {}
 
-/// The image of words is made word by word: of none at first, then of one more, where the words before have no other
-/// word at its location.
+/// The image of words is made word by word: of none at first, then of one more, where none of the words before is another
+/// word at its place.
 pub fn image_is_made_word_by_word()
     ensures first { IsImageOf [] no_words }
-    ensures none { (words : List (Option (ℕ × ℕ))) (image : List (Option ℕ)) → IsImageOf words image
-        → IsImageOf (words ++ None ∷ []) image }
-    ensures word { (words : List (Option (ℕ × ℕ))) (image : List (Option ℕ)) (at given : ℕ) → at < memory_size
-        → given < 2 ^ 18 → IsImageOf words image
-        → ((other : ℕ) → Contains words (Some (at, other)) → other ≡ given)
-        → IsImageOf (words ++ Some (at, given) ∷ []) (with_word image at given) }
+    ensures word { (words : List PlacedWord) (image : List (Option ℕ)) (placed : PlacedWord) → IsMemoryWord placed
+        → IsImageOf words image → ((other : PlacedWord) → Contains words other → other.place ≡ placed.place → other.word ≡ placed.word)
+        → IsImageOf (words ++ placed ∷ []) (with_word image placed.place placed.word) }
 {}
 
-/// Words of the memory have an image, where no location has two words.
+/// Words of the memory have an image, where no place has two words.
 pub fn apart_words_have_an_image()
-    ensures { (words : List (Option (ℕ × ℕ)))
-        → ((location word : ℕ) → Contains words (Some (location, word)) → (location < memory_size) × (word < 2 ^ 18))
-        → ((before after : List (Option (ℕ × ℕ))) (location word : ℕ) → words ≡ before ++ Some (location, word) ∷ after
-        → (other : ℕ) → Contains before (Some (location, other)) → other ≡ word)
-        → (image : List (Option ℕ)) × IsImageOf words image }
+    ensures { (words : List PlacedWord) → ((placed : PlacedWord) → Contains words placed → IsMemoryWord placed)
+        → EachPlaceHasOneWord words → (image : List (Option ℕ)) × IsImageOf words image }
+{}
+
+/// Where no two words are put at one place, no place has two words.
+pub fn each_place_once_has_one_word()
+    ensures { (words : List PlacedWord) → EachPlaceOnce words → EachPlaceHasOneWord words }
 {}
 
 /// Words have one image.
 pub fn words_have_one_image()
-    ensures { (words : List (Option (ℕ × ℕ))) (one other : List (Option ℕ)) → IsImageOf words one
+    ensures { (words : List PlacedWord) (one other : List (Option ℕ)) → IsImageOf words one
         → IsImageOf words other → one ≡ other }
 {}

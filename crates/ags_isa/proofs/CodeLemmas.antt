@@ -1,5 +1,6 @@
 -- A table of codes tells its orders apart. The crates above cite:
---     standard_are_codes    the standard codes are a table
+--     standard_are_codes            the standard codes are a table
+--     order_of-code                 the order of an order's code is that order
 use Rattle.std.proofs.Common.{◌≡◌, ◌≢◌, ◌↔◌, ◌⊎◌, ⊎_elim, inl, inr, ℕ, zero, suc, zero-add, take, drop, set, subst, ◌≤◌, ◌-◌, ◌+◌, ◌*◌, ap, sym, ◌∙◌, ◌<◌, ◌==◌, ltb, Bool, true, false, not, ◌&&◌, List, [], ◌∷◌, length, All, AllPairs, get_or, refl, rules, arith}
 use Rattle.std.specs.List.{list_all, find}
 use Rattle.std.specs.Prelude.{Option, Some, None, IfSome}
@@ -116,9 +117,9 @@ some_or_none : (r : Option Order) → (r ≡ None) ⊎ ((order : Order) × (r �
 some_or_none None = inl refl
 some_or_none (Some order) = inr (order, refl)
 
-code_found : (table : List ℕ) (code : ℕ) → IfSome (order_of table code) (λ order. code_of table order ≡ code)
+pub order_of-found : (table : List ℕ) (code : ℕ) → IfSome (order_of table code) (λ order. code_of table order ≡ code)
 unfolding order_of
-code_found table code = find_tells (λ order. code_of table order == code) (λ order. code_of table order ≡ code) (λ order test. (Decides-eqb _ _).0 test) all_orders
+order_of-found table code = find_tells (λ order. code_of table order == code) (λ order. code_of table order ≡ code) (λ order test. (Decides-eqb _ _).0 test) all_orders
 
 code_missed : (table : List ℕ) (code : ℕ) (order : Order) → code_of table order ≡ code → order_of table code ≡ None → ⊥
 unfolding order_of
@@ -126,11 +127,11 @@ code_missed table code order same none =
     let here : code_of table (get_or all_orders (order_number order) order) ≡ code = ap (code_of table) (order_at_number order order) ∙ same in
     find_fails (λ some. code_of table some == code) all_orders (order_number order) order (order_number-below order) ((Decides-eqb _ _).1 here) none
 
-code_only : (table : List ℕ) (code : ℕ) → AreCodes table → (order : Order) → code_of table order ≡ code → order_of table code ≡ Some order
-code_only table code are order same = ⊎_elim
+pub order_of-code : (table : List ℕ) (code : ℕ) → AreCodes table → (order : Order) → code_of table order ≡ code → order_of table code ≡ Some order
+order_of-code table code are order same = ⊎_elim
     (λ none. absurd (code_missed table code order same none))
     (λ some.
-    let its : code_of table some.0 ≡ code = subst (λ (r : Option Order). IfSome r (λ other. code_of table other ≡ code)) some.1 (code_found table code) in
+    let its : code_of table some.0 ≡ code = subst (λ (r : Option Order). IfSome r (λ other. code_of table other ≡ code)) some.1 (order_of-found table code) in
     some.1 ∙ ap Some (code_of-injective table are some.0 order (its ∙ sym same)))
     (some_or_none (order_of table code))
 
@@ -162,12 +163,12 @@ pub order_found : (table : List ℕ) (orders : List (Option Order)) (code : ℕ)
     → IfSome (get_or orders code None) (λ order. code_of table order ≡ code)
 order_found table orders code are below =
     subst (λ (r : Option Order). IfSome r (λ order. code_of table order ≡ code)) (sym (ap (λ (all : List (Option Order)). get_or all code None) are ∙ order_from table code below))
-    (code_found table code)
+    (order_of-found table code)
 
 pub order_only : (table : List ℕ) (orders : List (Option Order)) (code : ℕ) → AreCodes table → orders ≡ orders_of table → code < 32
     → (order : Order) → code_of table order ≡ code → get_or orders code None ≡ Some order
 order_only table orders code codes are below order same =
-    ap (λ (all : List (Option Order)). get_or all code None) are ∙ order_from table code below ∙ code_only table code codes order same
+    ap (λ (all : List (Option Order)). get_or all code None) are ∙ order_from table code below ∙ order_of-code table code codes order same
 
 pub standard_code-half : (order : Order) → 2 * code_of standard_codes order ≡ standard_digits order
 standard_code-half order =

@@ -2,10 +2,10 @@
 //! nothing ensures, so that it is proved with the crate. Behind each clause is a lemma of `proofs/`; those that the crates
 //! above cite are listed at the heads of its files.
 
-ghost use Rattle.std.specs.Prelude.{◌≡◌, ◌≢◌, ℕ, ◌+◌, ◌*◌, ◌/◌, ◌%◌, ◌^◌, ◌<◌, ◌↔◌, Bool, List, All, length, slice_index_or, if◌then◌else◌};
+ghost use Rattle.std.specs.Prelude.{◌≡◌, ◌≢◌, ℕ, ◌+◌, ◌*◌, ◌/◌, ◌%◌, ◌^◌, ◌<◌, ◌↔◌, Bool, List, All, length, slice_index_or, Some, IfSome, if◌then◌else◌};
 ghost use Rattle.ags_isa.specs.declared.orders.Order.{Order};
 ghost use Rattle.ags_isa.specs.Order.{order_number, all_orders, order_name, ComesBefore};
-ghost use Rattle.ags_isa.specs.Code.{AreCodes, code_of, standard_codes, standard_digits, unused_digits};
+ghost use Rattle.ags_isa.specs.Code.{AreCodes, code_of, order_of, standard_codes, standard_digits, unused_digits};
 ghost use Rattle.ags_isa.specs.Naming.{order_word, Names};
 
 /// Orders with one number, or with one name, are one order, and the numbers run from 0 to 26.
@@ -37,12 +37,16 @@ pub fn standard_codes_are_half_their_digits()
     ensures unused { (order : Order) → All (λ digits. standard_digits order ≢ digits) unused_digits }
 {}
 
-/// The standard codes are a table, and in each table orders with one code are one order.
+/// The standard codes are a table, and in each table orders with one code are one order, which is found by that code;
+/// what is found by a code has it.
 pub fn codes_tell_orders_apart()
     ensures standard { AreCodes standard_codes }
     ensures order { (table : List ℕ) (order other : Order) → AreCodes table
         → code_of table order ≡ code_of table other → order ≡ other }
     ensures below { (table : List ℕ) (order : Order) → AreCodes table → code_of table order < 32 }
+    ensures found { (table : List ℕ) (code : ℕ) (order : Order) → AreCodes table → code_of table order ≡ code
+        → order_of table code ≡ Some order }
+    ensures only { (table : List ℕ) (code : ℕ) → IfSome (order_of table code) (λ order. code_of table order ≡ code) }
 {}
 
 /// No word names two orders, two index bits or two addresses.

@@ -10,5 +10,6 @@ pub mod PhaseLemmas
 pub mod HaltLemmas
 pub mod ChangeLemmas
 pub mod IndicatorLemmas
+pub mod OrderTimeLemmas
 pub mod RunLemmas
 pub mod Examples

@@ -1,6 +1,13 @@
 -- What holds of each step holds along each run. The crates above cite:
---     some_run, one_run          from each state, each list of events has one run
---     run-append, last-append    a run that goes on where another ends makes one run with it, which ends where the second does
+--     some_run, one_run             from each state, each list of events has one run
+--     run-append, last-append       a run that goes on where another ends makes one run with it, which ends where the second does
+--     run-split                     a run over one list of events and then another is one over each, in turn
+--     some_end, one_end             from each state, each list of events leads to one state
+--     end-nil, end-step             none to the state itself, one event to the state that its step leaves
+--     end-append, end-split         one list and then another by way of a state between
+--     steps_of_run, run_of_steps    a run is a step at each of its events
+--     along_run                     what holds of every step holds at each step of a run
+--     front_steps, later_steps, joined_steps    what holds at each step holds in each part of a run, and the other way
 use Rattle.std.proofs.Common.{◌≡◌, ℕ, ◌≤◌, refl, sym, ap, subst, ◌∙◌, List, [], ◌∷◌, ◌++◌}
 use Rattle.ags_ports.specs.declared.events.Phase.TheVariants.{Halted}
 use Rattle.ags_ports.specs.declared.events.Event.{Event}
@@ -8,8 +15,8 @@ use Rattle.ags_ports.specs.declared.events.Report.{Report}
 use Rattle.ags_ports.specs.declared.machines.Machine.{Machine}
 use Rattle.ags_ports.specs.Machine.{IsMachine}
 use Rattle.ags_ports.specs.State.{State, IsState, cell}
-use Rattle.ags_ports.specs.Step.{ChangesInputsAlone}
-use Rattle.ags_ports.specs.Run.{Moment, Run, AtEach, AreEvents, last_state}
+use Rattle.ags_ports.specs.Step.{Steps, ChangesInputsAlone}
+use Rattle.ags_ports.specs.Run.{Moment, Run, RunsTo, RunsInTurn, AtEach, AtEachStep, AreEvents, last_state}
 use Rattle.ags_ports.proofs.StepLemmas.{some_step, one_step}
 use Rattle.ags_ports.proofs.StateLemmas.{step_keeps}
 use Rattle.ags_ports.proofs.CellLemmas.{step_fixed}
@@ -94,3 +101,96 @@ run-append machine s (event ∷ events) more (m ∷ ms) others p r = (p.0, run-a
 pub last-append : (s : State) (moments others : List Moment) → last_state s (moments ++ others) ≡ last_state (last_state s moments) others
 last-append s [] others = refl
 last-append s (m ∷ ms) others = last-append m.after ms others
+
+-- ---- a run that is cut
+
+pub run-split : (machine : Machine) (s : State) (first second : List Event) (moments : List Moment) → Run machine s (first ++ second) moments → RunsInTurn machine s first second moments
+run-split machine s [] second moments p = record { early = []; late = moments; moments_are = refl; run = tt; goes_on = p }
+run-split machine s (event ∷ first) second [] p = absurd p
+run-split machine s (event ∷ first) second (m ∷ ms) p =
+    let rest = run-split machine m.after first second ms p.1 in
+    record {
+      early = m ∷ rest.early;
+      late = rest.late;
+      moments_are = ap (λ (moments : List Moment). m ∷ moments) rest.moments_are;
+      run = (p.0, rest.run);
+      goes_on = rest.goes_on;
+    }
+
+-- ---- the state that events lead to
+
+pub some_end : (machine : Machine) (s : State) (events : List Event) → (after : State) × RunsTo machine s events after
+some_end machine s events = let run = some_run machine s events in (last_state s run.0, record { moments = run.0; run = run.1; ends = refl })
+
+pub one_end : (machine : Machine) (s : State) (events : List Event) (after left : State) → IsMachine machine → RunsTo machine s events after → RunsTo machine s events left → after ≡ left
+one_end machine s events after left h p r =
+    let same = one_run machine s events p.moments r.moments h p.run r.run in
+    p.ends ∙ ap (last_state s) same ∙ sym r.ends
+
+pub end-nil : (machine : Machine) (s : State) → RunsTo machine s [] s
+end-nil machine s = record { moments = []; run = tt; ends = refl }
+
+pub end-step : (machine : Machine) (s : State) (event : Event) (report : Report) (after : State) → Steps machine s event report after → RunsTo machine s (event ∷ []) after
+end-step machine s event report after step = record { moments = record { report = report; after = after } ∷ []; run = (step, tt); ends = refl }
+
+pub end-append : (machine : Machine) (s mid after : State) (first second : List Event) → RunsTo machine s first mid → RunsTo machine mid second after → RunsTo machine s (first ++ second) after
+end-append machine s mid after first second p r = record {
+  moments = p.moments ++ r.moments;
+  run = run-append machine s first second p.moments r.moments p.run (subst (λ (t : State). Run machine t second r.moments) p.ends r.run);
+  ends = r.ends ∙ ap (λ (t : State). last_state t r.moments) p.ends ∙ sym (last-append s p.moments r.moments);
+}
+
+pub end-split : (machine : Machine) (s after : State) (first second : List Event) → RunsTo machine s (first ++ second) after
+    → (mid : State) × RunsTo machine s first mid × RunsTo machine mid second after
+end-split machine s after first second p =
+    let cut = run-split machine s first second p.moments p.run in (
+      last_state s cut.early,
+      record { moments = cut.early; run = cut.run; ends = refl },
+      record { moments = cut.late; run = cut.goes_on; ends = p.ends ∙ ap (last_state s) cut.moments_are ∙ last-append s cut.early cut.late },
+    )
+
+-- ---- each step of a run
+
+abbrev IsStepOf : Machine → State → Event → Moment → Type 0
+IsStepOf machine s event moment = Steps machine s event moment.report moment.after
+
+pub steps_of_run : (machine : Machine) (s : State) (events : List Event) (moments : List Moment) → Run machine s events moments → AtEachStep (IsStepOf machine) s events moments
+steps_of_run machine s [] [] p = tt
+steps_of_run machine s [] (m ∷ ms) p = p
+steps_of_run machine s (event ∷ events) [] p = p
+steps_of_run machine s (event ∷ events) (m ∷ ms) p = (p.0, steps_of_run machine m.after events ms p.1)
+
+pub run_of_steps : (machine : Machine) (s : State) (events : List Event) (moments : List Moment) → AtEachStep (IsStepOf machine) s events moments → Run machine s events moments
+run_of_steps machine s [] [] p = tt
+run_of_steps machine s [] (m ∷ ms) p = p
+run_of_steps machine s (event ∷ events) [] p = p
+run_of_steps machine s (event ∷ events) (m ∷ ms) p = (p.0, run_of_steps machine m.after events ms p.1)
+
+module _ (P : State → Event → Moment → Type 0) where
+  pub along_run : (machine : Machine) (s : State) (events : List Event) (moments : List Moment) → ((before : State) (event : Event) (moment : Moment) → IsStepOf machine before event moment → P before event moment)
+      → Run machine s events moments → AtEachStep P s events moments
+  along_run machine s [] [] each p = tt
+  along_run machine s [] (m ∷ ms) each p = p
+  along_run machine s (event ∷ events) [] each p = p
+  along_run machine s (event ∷ events) (m ∷ ms) each p = (each s event m p.0, along_run machine m.after events ms each p.1)
+
+  pub front_steps : (machine : Machine) (s : State) (first second : List Event) (moments others : List Moment) → Run machine s first moments → AtEachStep P s (first ++ second) (moments ++ others)
+      → AtEachStep P s first moments
+  front_steps machine s [] second [] others p each = tt
+  front_steps machine s [] second (m ∷ ms) others p each = p
+  front_steps machine s (event ∷ first) second [] others p each = p
+  front_steps machine s (event ∷ first) second (m ∷ ms) others p each = (each.0, front_steps machine m.after first second ms others p.1 each.1)
+
+  pub later_steps : (machine : Machine) (s : State) (first second : List Event) (moments others : List Moment) → Run machine s first moments → AtEachStep P s (first ++ second) (moments ++ others)
+      → AtEachStep P (last_state s moments) second others
+  later_steps machine s [] second [] others p each = each
+  later_steps machine s [] second (m ∷ ms) others p each = absurd p
+  later_steps machine s (event ∷ first) second [] others p each = absurd p
+  later_steps machine s (event ∷ first) second (m ∷ ms) others p each = later_steps machine m.after first second ms others p.1 each.1
+
+  pub joined_steps : (s : State) (first second : List Event) (moments others : List Moment) → AtEachStep P s first moments → AtEachStep P (last_state s moments) second others
+      → AtEachStep P s (first ++ second) (moments ++ others)
+  joined_steps s [] second [] others early late = late
+  joined_steps s [] second (m ∷ ms) others early late = absurd early
+  joined_steps s (event ∷ first) second [] others early late = absurd early
+  joined_steps s (event ∷ first) second (m ∷ ms) others early late = (early.0, joined_steps m.after first second ms others early.1 late)

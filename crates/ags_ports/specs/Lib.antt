@@ -1,3 +1,4 @@
+-- what the public contracts cite
 pub mod Port
 pub mod Time
 pub mod Machine
@@ -5,4 +6,5 @@ pub mod State
 pub mod Change
 pub mod Effect
 pub mod Step
+pub mod OrderTime
 pub mod Run

@@ -2,7 +2,7 @@
 //! proved with the crate. Behind each clause is a lemma of `proofs/`; those that the crates above cite are listed at the
 //! heads of its files.
 
-ghost use Rattle.std.specs.Prelude.{◌≡◌, ◌≢◌, ℕ, ◌/◌, ◌%◌, ◌^◌, ◌<◌, ◌≤◌, ◌⊎◌, ◌↔◌, Bool, true, false, All, List, ◌++◌, length, slice_index_or, Some, None};
+ghost use Rattle.std.specs.Prelude.{◌≡◌, ◌≢◌, ℕ, ◌/◌, ◌%◌, ◌^◌, ◌<◌, ◌≤◌, ◌⊎◌, ◌↔◌, Bool, true, false, All, List, length, slice_index_or, Some, None};
 ghost use Rattle.ags_isa.specs.declared.orders.Order.{Order};
 ghost use Rattle.ags_isa.specs.declared.orders.Order.TheVariants.{Add, Adz, Cla, Clz, Dly, Mpr, Mpz, Sub, Suz, Tov, Tra, Tsq};
 ghost use Rattle.ags_isa.specs.Naming.{Names};
@@ -18,7 +18,7 @@ ghost use Rattle.ags_ports.specs.State.{State, IsState, cell, next_location, wor
 ghost use Rattle.ags_ports.specs.Change.{stored_in, taken_from, given_to};
 ghost use Rattle.ags_ports.specs.Effect.{counts_index, effective, effect, then_clears};
 ghost use Rattle.ags_ports.specs.Step.{IsEvent, Steps, Reads, NamesNone, ChangesInputsAlone, idle_report};
-ghost use Rattle.ags_ports.specs.Run.{Moment, Run, AtEach, AreEvents, last_state};
+ghost use Rattle.ags_ports.specs.Run.{Moment, Run, AtEach};
 
 use crate::machines::Machine;
 
@@ -155,25 +155,6 @@ pub fn clearing_order_is_plain_order_and_cleared_cell()
 pub fn tsq_leaves_an_order_that_goes_back()
     ensures { (machine : Machine) (s : State) (e y : ℕ)
         → Names machine.codes ((effect machine s Tsq e y).after.q) Tra false (next_location s) }
-{}
-
-/// From each state, each list of events has one run, and it keeps a state.
-pub fn each_list_of_events_has_one_run()
-    ensures some { (machine : Machine) (s : State) (events : List Event) → (moments : List Moment) × Run machine s events moments }
-    ensures one { (machine : Machine) (s : State) (events : List Event) (moments others : List Moment) → IsMachine machine
-        → Run machine s events moments → Run machine s events others → moments ≡ others }
-    ensures keeps { (machine : Machine) (s : State) (events : List Event) (moments : List Moment) → IsMachine machine
-        → IsState machine s → AreEvents events → Run machine s events moments
-        → AtEach (λ moment. IsState machine moment.after) moments }
-{}
-
-/// Two runs of which the second begins where the first ends make one run, and it ends where the second does.
-pub fn runs_join()
-    ensures run { (machine : Machine) (s : State) (first second : List Event) (moments others : List Moment)
-        → Run machine s first moments → Run machine (last_state s moments) second others
-        → Run machine s (first ++ second) (moments ++ others) }
-    ensures last { (s : State) (moments others : List Moment)
-        → last_state s (moments ++ others) ≡ last_state (last_state s moments) others }
 {}
 
 /// What is found at an address is a register of that address, nothing is found only where there is none, and each

@@ -1,13 +1,16 @@
 //! The machine: its tables of times and registers, and the definition of what it does. `specs/` says what a state is,
 //! what each order does, one step and a run; the types of events and of what a step tells stand here. The core runs
 //! that definition. It stands on `ags_word` for words, on `ags_isa` for orders and on `arrayvec` for short lists.
-//! A table is valid by its type, and `laws` says what the definition means. No call takes memory.
+//! A table is valid by its type. `laws` says what the definition means, `run_laws` what runs of it do, and `time_laws`
+//! how long its steps take. No call takes memory.
 #![tactic(auto)]
 
 mod events;
 pub mod laws;
 mod machines;
 mod registers;
+pub mod run_laws;
+pub mod time_laws;
 mod time_tables;
 
 pub use events::{Report, Event, Phase, Stored};

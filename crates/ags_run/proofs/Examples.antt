@@ -7,6 +7,7 @@ use Rattle.ags_ports.specs.declared.events.Phase.TheVariants.{Running, Halted}
 use Rattle.ags_ports.specs.declared.machines.Machine.{Machine}
 use Rattle.ags_ports.specs.Machine.{standard_machine}
 use Rattle.ags_ports.specs.State.{State, cell}
+use Rattle.ags_ports.proofs.RunLemmas.{end-nil}
 use Rattle.ags_run.specs.declared.plain.Plain.TheVariants.{Step, Set, ShowReg, ShowCell, ShowOut}
 use Rattle.ags_run.specs.declared.script_error.ScriptKind.TheVariants.{NoPort, TooManySteps}
 use Rattle.ags_run.specs.declared.script_error.ScriptError.TheVariants.{NoMemory}
@@ -79,14 +80,20 @@ nothing_printed = refl
 -- what shows makes no event, and each line has its feed
 two_shown : (machine : Machine) (s : State) → Plays machine s (ShowReg ∷ ShowCell 0 ∷ []) []
     ((reg_text s ++ codes "\n") ++ ((cell_text 0 (cell s 0) ++ codes "\n") ++ []))
-two_shown machine s = (
-  [],
-  [],
-  [],
-  (cell_text 0 (cell s 0) ++ codes "\n") ++ [],
-  refl,
-  tt,
-  refl,
-  refl,
-  ([], [], [], [], refl, tt, refl, refl, (refl, refl)),
-)
+two_shown machine s = record {
+  after = s;
+  first = record { made = []; makes = refl; runs = end-nil machine s };
+  later = [];
+  rest = (cell_text 0 (cell s 0) ++ codes "\n") ++ [];
+  events_are = refl;
+  text_is = refl;
+  goes_on = record {
+    after = s;
+    first = record { made = []; makes = refl; runs = end-nil machine s };
+    later = [];
+    rest = [];
+    events_are = refl;
+    text_is = refl;
+    goes_on = (refl, refl);
+  };
+}

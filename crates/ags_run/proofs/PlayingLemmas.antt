@@ -9,39 +9,23 @@ use Rattle.ags_ports.specs.declared.events.Report.{Report}
 use Rattle.ags_ports.specs.declared.machines.Machine.{Machine}
 use Rattle.ags_ports.specs.State.{State}
 use Rattle.ags_ports.specs.Step.{Steps}
-use Rattle.ags_ports.specs.Run.{Moment}
-use Rattle.ags_ports.proofs.RunLemmas.{run-append}
+use Rattle.ags_ports.specs.Run.{Moment, RunsTo}
+use Rattle.ags_ports.proofs.RunLemmas.{end-step, end-append}
 use Rattle.ags_outside.specs.Sink.{appended, appended_nothing, appended_twice, WroteFront, wrote_nothing, front_of_wrote, front_in_first, front_in_second}
+use Rattle.ags_run.specs.declared.script.TheConstants.{STEP_LIMIT}
 use Rattle.ags_run.specs.declared.plain.Plain.{Plain}
-use Rattle.ags_run.specs.declared.plain.Plain.TheVariants.{Step, Pulse, Set, ShowReg, ShowCell, ShowOut}
+use Rattle.ags_run.specs.declared.plain.Plain.TheVariants.{Step, Pulse, Set}
 use Rattle.ags_run.specs.declared.playing.Played.{Played}
-use Rattle.ags_run.specs.Playable.{IsPlayable, IsPlayableCommand, step_count}
-use Rattle.ags_run.specs.Played.{MakesEvents, Plays, shown_text, is_step, is_put, PlayedWhole, PlayedInPart}
-use Rattle.ags_run.specs.Made.{RunsTo, CommandRunsTo, put_count}
-use Rattle.ags_run.proofs.PlayLemmas.{last_state-append, some_play, play_runs}
+use Rattle.ags_run.specs.Playable.{IsPlayable, IsPlayableCommand, step_count, put_count}
+use Rattle.ags_run.specs.Played.{MakesEvents, CommandRunsTo, Plays, shown_text, is_step, is_put, PlayedWhole, PlayedInPart}
+use Rattle.ags_run.proofs.PlayLemmas.{some_play, play_runs}
 
--- ---- an event further
+-- ---- a step further
 
-pub runs_none : (machine : Machine) (s : State) → RunsTo machine s [] s
-runs_none machine s = record { moments = []; run = tt; ends = refl }
-
-pub runs_one : (machine : Machine) (s after : State) (e : Event) (report : Report) → Steps machine s e report after → RunsTo machine s (e ∷ []) after
-runs_one machine s after e report step = record { moments = record { report = report; after = after } ∷ []; run = (step, tt); ends = refl }
-
-pub runs_more : (machine : Machine) (s mid after : State) (events : List Event) (e : Event) (report : Report) → RunsTo machine s events mid → Steps machine mid e report after → RunsTo machine s (events ++ e ∷ []) after
-runs_more machine s mid after events e report so step =
-    let last : List Moment = record { report = report; after = after } ∷ [] in
-    let here = subst (λ (t : State). Steps machine t e report after) so.ends step in
-    record {
-      moments = so.moments ++ last;
-      run = run-append machine s events (e ∷ []) so.moments last so.run (here, tt);
-      ends = sym (last_state-append s so.moments last);
-    }
-
--- one step more
 pub runs_step : (machine : Machine) (s mid after : State) (count : ℕ) (report : Report) → RunsTo machine s (replicate count event.Step) mid → Steps machine mid event.Step report after → RunsTo machine s (replicate (count + 1) event.Step) after
 runs_step machine s mid after count report so step =
-    subst (λ (es : List Event). RunsTo machine s es after) (replicate_more count event.Step) (runs_more machine s mid after (replicate count event.Step) event.Step report so step)
+    subst (λ (es : List Event). RunsTo machine s es after) (replicate_more count event.Step)
+    (end-append machine s mid after (replicate count event.Step) (event.Step ∷ []) so (end-step machine mid event.Step report after step))
 
 -- ---- how many events of a kind
 
@@ -60,25 +44,17 @@ made_steps : (machine : Machine) (s : State) (command : Plain) (made : List Even
 made_steps machine s (Step count) made p = rw p (steps_among count)
 made_steps machine s Pulse made p = rw p refl
 made_steps machine s (Set address word) made p = rw p refl
-made_steps machine s ShowReg made p = rw p refl
-made_steps machine s (ShowCell address) made p = rw p refl
-made_steps machine s (ShowOut address) made p = rw p refl
+made_steps machine s _ made p = rw p refl
 
 made_puts : (machine : Machine) (s : State) (command : Plain) (made : List Event) → MakesEvents machine s command made → count_by is_put made ≡ put_count command
 made_puts machine s (Step count) made p = rw p (puts_among count)
 made_puts machine s Pulse made p = rw p refl
 made_puts machine s (Set address word) made p = rw p refl
-made_puts machine s ShowReg made p = rw p refl
-made_puts machine s (ShowCell address) made p = rw p refl
-made_puts machine s (ShowOut address) made p = rw p refl
+made_puts machine s _ made p = rw p refl
 
 few_puts : (command : Plain) → put_count command ≤ 1
-few_puts (Step count) = omega arith
-few_puts Pulse = omega arith
 few_puts (Set address word) = omega arith
-few_puts ShowReg = omega arith
-few_puts (ShowCell address) = omega arith
-few_puts (ShowOut address) = omega arith
+few_puts _ = omega arith
 
 count_by-append : {X : Type 0} (p : X → Bool) (xs ys : List X) → count_by p (xs ++ ys) ≡ count_by p xs + count_by p ys
 count_by-append {X} p xs ys = sum_by-append (λ (x : X). cond (p x) 1 0) xs ys
@@ -91,8 +67,7 @@ rest-more script i command within is = drop_more script i command within ∙ ap 
 plays_first : (machine : Machine) (s after : State) (command : Plain) (commands : List Plain) (later : List Event) (rest : List ℕ) (so : CommandRunsTo machine s command after)
     → Plays machine after commands later rest → Plays machine s (command ∷ commands) (so.made ++ later) (shown_text machine command after ++ rest)
 plays_first machine s after command commands later rest so p =
-    let line = ap (λ (t : State). shown_text machine command t ++ rest) so.runs.ends in
-    (so.made, so.runs.moments, later, rest, so.makes, so.runs.run, refl, line, subst (λ (t : State). Plays machine t commands later rest) so.runs.ends p)
+    record { after = after; first = so; later = later; rest = rest; events_are = refl; text_is = refl; goes_on = p }
 
 -- The first i commands were played, and what is left is played from here.
 pub record Playing (machine : Machine) (start : State) (script : List Plain) (old now : Option (List ℕ)) (here : State) (steps puts i : ℕ) : Type 0 where
@@ -102,7 +77,7 @@ pub record Playing (machine : Machine) (start : State) (script : List Plain) (ol
   pub steps_are : steps ≡ count_by is_step events
   pub puts_are : puts ≡ count_by is_put events
   pub goes_on : (later : List Event) (rest : List ℕ) → Plays machine here (drop i script) later rest → Plays machine start script (events ++ later) (text ++ rest)
-  pub few_steps : steps + sum_by step_count (drop i script) ≤ 100000000
+  pub few_steps : steps + sum_by step_count (drop i script) ≤ STEP_LIMIT
   pub few_puts : puts ≤ i
 
 pub Playing-none : (machine : Machine) (start : State) (script : List Plain) (old : Option (List ℕ)) → IsPlayable machine script → Playing machine start script old old start 0 0 0
@@ -119,7 +94,7 @@ Playing-none machine start script old is = record {
 
 -- the next command is playable, and its steps and puts can be counted
 pub Playing-next : (machine : Machine) (start : State) (script : List Plain) (old now : Option (List ℕ)) (here : State) (steps puts i : ℕ) (command : Plain) → IsPlayable machine script → Playing machine start script old now here steps puts i
-    → i < length script → command ≡ get_or script i command → IsPlayableCommand machine command × (steps + step_count command ≤ 100000000) × (puts + put_count command ≤ i + 1)
+    → i < length script → command ≡ get_or script i command → IsPlayableCommand machine command × (steps + step_count command ≤ STEP_LIMIT) × (puts + put_count command ≤ i + 1)
 Playing-next machine start script old now here steps puts i command kept so within is =
     let cut = rest-more script i command within is in
     let few = rw cut at so.few_steps in

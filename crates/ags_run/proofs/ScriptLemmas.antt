@@ -15,6 +15,7 @@ use Rattle.ags_text.specs.Fault.{first_fault, first_fault-faulty, first_fault-fa
 use Rattle.ags_text.specs.Line.{LineAt, Follow, lines_of}
 use Rattle.ags_text.proofs.ReadingLemmas.{ReadSoFar, read-none, read-more, read-fault, read-all}
 use Rattle.ags_ports.specs.declared.machines.Machine.{Machine}
+use Rattle.ags_run.specs.declared.script.TheConstants.{STEP_LIMIT}
 use Rattle.ags_run.specs.declared.plain.Plain.{Plain}
 use Rattle.ags_run.specs.declared.plain.Plain.TheVariants.{Step, Pulse, Set, ShowReg, ShowCell, ShowOut}
 use Rattle.ags_run.specs.declared.reading.LineReading.{LineReading}
@@ -46,9 +47,9 @@ playable_command machine line steps (ShowCell address) spells fault = small_addr
 playable_command machine line steps (ShowOut address) spells fault = (small_address spells.states.0 address spells.states.1, port_found _ fault)
 
 -- and with it the steps are not too many
-command_steps : (machine : Machine) (steps : ℕ) (command : Plain) → steps ≤ 100000000 → command_fault machine steps command ≡ None → steps + step_count command ≤ 100000000
+command_steps : (machine : Machine) (steps : ℕ) (command : Plain) → steps ≤ STEP_LIMIT → command_fault machine steps command ≡ None → steps + step_count command ≤ STEP_LIMIT
 command_steps machine steps (Step count) most fault =
-    elim (cases_lt 100000000 (steps + count)) [
+    elim (cases_lt STEP_LIMIT (steps + count)) [
       | inl lt ↦ absurd (let over = rw (lt-ltb _ _ lt) at fault in cc)
       | inr le ↦ le
     ]
@@ -58,7 +59,7 @@ command_steps machine steps ShowReg most fault = omega arith
 command_steps machine steps (ShowCell address) most fault = omega arith
 command_steps machine steps (ShowOut address) most fault = omega arith
 
-reading_most : (machine : Machine) (steps : ℕ) (reading : LineReading) → steps ≤ 100000000 → fault_after machine steps reading ≡ None → steps + reading_steps reading ≤ 100000000
+reading_most : (machine : Machine) (steps : ℕ) (reading : LineReading) → steps ≤ STEP_LIMIT → fault_after machine steps reading ≡ None → steps + reading_steps reading ≤ STEP_LIMIT
 reading_most machine steps (Command command) most fault = command_steps machine steps command most fault
 reading_most machine steps Skipped most fault = omega arith
 reading_most machine steps Malformed most fault = omega arith
@@ -96,7 +97,7 @@ commands-push (Malformed ∷ readings) reading = commands-push readings reading
 pub record SoFar (machine : Machine) (text : List ℕ) (left : List LineAt) (commands : List Plain) (number steps : ℕ) : Type 0 where
   pub read : ReadSoFar IsReading (line_fault machine) text (lines_of text) left
   pub steps_are : steps ≡ sum_by reading_steps read.before
-  pub most : steps ≤ 100000000
+  pub most : steps ≤ STEP_LIMIT
   pub commands_are : commands ≡ filter_map command_of read.readings
   pub playable : All (IsPlayableCommand machine) commands
   pub commands_steps : sum_by step_count commands ≡ steps
@@ -179,14 +180,14 @@ commands-cons Skipped readings = refl
 commands-cons Malformed readings = refl
 
 -- what faultless lines spell is playable, and with the lines before them their steps are not too many
-playable_commands : (machine : Machine) (lines : List LineAt) (readings before : List LineReading) → AreReadings lines readings → sum_by reading_steps before ≤ 100000000 → first_fault (line_fault machine) before readings ≡ None
-    → All (IsPlayableCommand machine) (filter_map command_of readings) × (sum_by reading_steps before + sum_by step_count (filter_map command_of readings) ≤ 100000000)
+playable_commands : (machine : Machine) (lines : List LineAt) (readings before : List LineReading) → AreReadings lines readings → sum_by reading_steps before ≤ STEP_LIMIT → first_fault (line_fault machine) before readings ≡ None
+    → All (IsPlayableCommand machine) (filter_map command_of readings) × (sum_by reading_steps before + sum_by step_count (filter_map command_of readings) ≤ STEP_LIMIT)
 playable_commands machine [] [] before are most none = (no_commands machine, omega arith)
 playable_commands machine [] (reading ∷ readings) before are most none = absurd are
 playable_commands machine (line ∷ lines) [] before are most none = absurd are
 playable_commands machine (line ∷ lines) (reading ∷ readings) before are most none =
     let split = faultless_first machine before reading readings none in
-    let more : sum_by reading_steps (reading ∷ before) ≤ 100000000 = omega (arith, reading_most machine (sum_by reading_steps before) reading most split.0, sum_by-cons reading_steps reading before) in
+    let more : sum_by reading_steps (reading ∷ before) ≤ STEP_LIMIT = omega (arith, reading_most machine (sum_by reading_steps before) reading most split.0, sum_by-cons reading_steps reading before) in
     let rest = playable_commands machine lines readings (reading ∷ before) are.1 more split.1 in
     let first = kept_playable machine line.bytes (sum_by reading_steps before) reading are.0 split.0 in
     rw (commands-cons reading readings) (

@@ -5,5 +5,4 @@ pub mod Reading
 pub mod Script
 pub mod Spelling
 pub mod Shown
-pub mod Made
 pub mod Played

@@ -6,7 +6,7 @@ use Rattle.ags_ports.specs.declared.events.Event.TheVariants as event
 use Rattle.ags_ports.specs.declared.machines.Machine.{Machine}
 use Rattle.ags_ports.specs.Port.{place_of, register_at}
 use Rattle.ags_ports.specs.State.{State, cell}
-use Rattle.ags_ports.specs.Run.{Moment, Run, last_state}
+use Rattle.ags_ports.specs.Run.{Moment, Run, RunsTo, last_state}
 use Rattle.ags_outside.specs.Sink.{appended, WroteFront}
 use Rattle.ags_run.specs.declared.plain.Plain.{Plain}
 use Rattle.ags_run.specs.declared.plain.Plain.TheVariants.{Step, Pulse, Set, ShowReg, ShowCell, ShowOut}
@@ -20,39 +20,61 @@ abbrev pub MakesEvents : Machine → State → Plain → List Event → Type 0
 MakesEvents machine s (Step count) events = events ≡ replicate count event.Step
 MakesEvents machine s Pulse events = events ≡ event.Pulse ∷ []
 MakesEvents machine s (Set address word) events = events ≡ event.Put address word ∷ []
-MakesEvents machine s ShowReg events = events ≡ []
-MakesEvents machine s (ShowCell address) events = events ≡ []
-MakesEvents machine s (ShowOut address) events = events ≡ []
+MakesEvents machine s _ events = events ≡ []
 
 -- the text that a command prints, by the state after its events: a line where it shows something
 abbrev pub shown_text : Machine → Plain → State → List ℕ
-shown_text machine (Step count) s = []
-shown_text machine Pulse s = []
-shown_text machine (Set address word) s = []
 shown_text machine ShowReg s = reg_text s ++ codes "\n"
 shown_text machine (ShowCell address) s = cell_text address (cell s address) ++ codes "\n"
 shown_text machine (ShowOut address) s = output_text address (register_at s.outputs (place_of machine.ports.outputs address)) ++ codes "\n"
+shown_text machine _ s = []
 
--- From this state, the commands make these events and print this text, one command after another: the first makes its
--- events, they run, it prints by the state that they end in, and the others go on from there.
+-- a command's events lead from one state to another
+pub record CommandRunsTo (machine : Machine) (s : State) (command : Plain) (after : State) : Type 0 where
+  pub made : List Event
+  pub makes : MakesEvents machine s command made
+  pub runs : RunsTo machine s made after
+
+-- From this state, a command makes its events, which lead to another state, and prints its text by that; and what goes on
+-- from there makes the other events and prints the rest of the text.
+pub record PlaysFirst (machine : Machine) (s : State) (command : Plain) (GoesOn : State → List Event → List ℕ → Type 0) (events : List Event) (text : List ℕ) : Type 0 where
+  pub after : State
+  pub first : CommandRunsTo machine s command after
+  pub later : List Event
+  pub rest : List ℕ
+  pub events_are : events ≡ first.made ++ later
+  pub text_is : text ≡ shown_text machine command after ++ rest
+  pub goes_on : GoesOn after later rest
+
+-- From this state, the commands make these events and print this text, one command after another.
 abbrev pub Plays : Machine → State → List Plain → List Event → List ℕ → Type 0
 Plays machine s [] events text = (events ≡ []) × (text ≡ [])
 Plays machine s (command ∷ commands) events text =
-    (made : List Event) × (moments : List Moment) × (later : List Event) × (rest : List ℕ)
-    × MakesEvents machine s command made × Run machine s made moments × (events ≡ made ++ later)
-    × (text ≡ shown_text machine command (last_state s moments) ++ rest) × Plays machine (last_state s moments) commands later rest
+    PlaysFirst machine s command (λ after later rest. Plays machine after commands later rest) events text
+
+-- A play that is cut between two commands: what stands before the cut is a play whose events are one run from the first
+-- state, and what stands behind it is played from the state that this run ends in.
+pub record PlaysInTurn (machine : Machine) (s : State) (first second : List Plain) (events : List Event) (text : List ℕ) : Type 0 where
+  pub early : List Event
+  pub moments : List Moment
+  pub later : List Event
+  pub shown : List ℕ
+  pub rest : List ℕ
+  pub events_are : events ≡ early ++ later
+  pub text_is : text ≡ shown ++ rest
+  pub plays : Plays machine s first early shown
+  pub run : Run machine s early moments
+  pub goes_on : Plays machine (last_state s moments) second later rest
 
 -- whether an event is a step
 abbrev pub is_step : Event → Bool
 is_step event.Step = true
-is_step event.Pulse = false
-is_step (event.Put address word) = false
+is_step _ = false
 
 -- whether an event is a word that is put
 abbrev pub is_put : Event → Bool
-is_put event.Step = false
-is_put event.Pulse = false
 is_put (event.Put address word) = true
+is_put _ = false
 
 -- The commands were played to their end: their events are one run from the first state, the sink took exactly the text that
 -- is shown along it, and the steps and the puts among those events are counted.

@@ -5,8 +5,9 @@ use Rattle.ags_text.specs.Fault.{first_fault}
 use Rattle.ags_text.specs.Line.{lines_of}
 use Rattle.ags_ports.specs.declared.machines.Machine.{Machine}
 use Rattle.ags_ports.specs.Port.{place_of}
+use Rattle.ags_run.specs.declared.script.TheConstants.{STEP_LIMIT}
 use Rattle.ags_run.specs.declared.plain.Plain.{Plain}
-use Rattle.ags_run.specs.declared.plain.Plain.TheVariants.{Step, Pulse, Set, ShowReg, ShowCell, ShowOut}
+use Rattle.ags_run.specs.declared.plain.Plain.TheVariants.{Step, Set, ShowOut}
 use Rattle.ags_run.specs.declared.reading.LineReading.{LineReading}
 use Rattle.ags_run.specs.declared.reading.LineReading.TheVariants.{Command, Skipped, Malformed}
 use Rattle.ags_run.specs.declared.script_error.ScriptKind.{ScriptKind}
@@ -22,12 +23,10 @@ port_fault (Some place) = None
 
 -- the fault of a command where the lines before it make so many steps
 abbrev pub command_fault : Machine → ℕ → Plain → Option ScriptKind
-command_fault machine steps (Step count) = if nat_lt 100000000 (steps + count) then Some TooManySteps else None
-command_fault machine steps Pulse = None
+command_fault machine steps (Step count) = if nat_lt STEP_LIMIT (steps + count) then Some TooManySteps else None
 command_fault machine steps (Set address word) = port_fault (place_of machine.ports.inputs address)
-command_fault machine steps ShowReg = None
-command_fault machine steps (ShowCell address) = None
 command_fault machine steps (ShowOut address) = port_fault (place_of machine.ports.outputs address)
+command_fault machine steps _ = None
 
 -- the fault of a reading there
 abbrev pub fault_after : Machine → ℕ → LineReading → Option ScriptKind

@@ -6,26 +6,20 @@ ghost use Rattle.ags_ports.specs.declared.events.Event.{Event};
 ghost use Rattle.ags_ports.specs.declared.machines.Machine.{Machine};
 ghost use Rattle.ags_ports.specs.Machine.{IsMachine};
 ghost use Rattle.ags_ports.specs.State.{State};
-ghost use Rattle.ags_ports.specs.Run.{Moment, Run, last_state};
+ghost use Rattle.ags_ports.specs.Run.{Moment, Run};
 ghost use Rattle.ags_run.specs.declared.plain.Plain.{Plain};
-ghost use Rattle.ags_run.specs.Played.{Plays};
+ghost use Rattle.ags_run.specs.Played.{Plays, PlaysInTurn};
 
 /// Wherever a play is cut, what stands before the cut is a play whose events make one run from the first state, and what
 /// stands behind it is played from the state that this run ends in. So each state that is shown is one that the run of
 /// all events has come to, and what comes later doesn't change it.
 pub fn what_is_shown_lies_on_one_run()
     ensures split { (machine : Machine) (s : State) (first second : List Plain) (events : List Event) (text : List ℕ)
-        → Plays machine s (first ++ second) events text
-        → (before later : List Event) × (moments : List Moment) × (front rest : List ℕ)
-        × (events ≡ before ++ later) × (text ≡ front ++ rest) × Plays machine s first before front
-        × Run machine s before moments × Plays machine (last_state s moments) second later rest }
+        → Plays machine s (first ++ second) events text → PlaysInTurn machine s first second events text }
     // A run of all the events has that run as its front.
     ensures along { (machine : Machine) (s : State) (first second : List Plain) (events : List Event) (text : List ℕ)
         (all : List Moment) → IsMachine machine → Plays machine s (first ++ second) events text → Run machine s events all
-        → (before later : List Event) × (moments further : List Moment) × (front rest : List ℕ)
-        × (events ≡ before ++ later) × (all ≡ moments ++ further) × (text ≡ front ++ rest)
-        × Plays machine s first before front × Run machine s before moments
-        × Plays machine (last_state s moments) second later rest }
+        → (cut : PlaysInTurn machine s first second events text) × (further : List Moment) × (all ≡ cut.moments ++ further) }
 {}
 
 /// From each state, each script has one list of events and one text.

@@ -4,14 +4,13 @@ ghost use Rattle.std.specs.Prelude.{◌≡◌, ◌+◌, ◌<◌, ◌≤◌, ◌^
 ghost use Rattle.ags_ports.specs.declared.events.Event.{Event};
 ghost use Rattle.ags_ports.specs.declared.events.Event.TheVariants as event;
 ghost use Rattle.ags_ports.specs.Port.{place_of, register_at};
-ghost use Rattle.ags_ports.specs.Run.{Moment, Run, last_state};
+ghost use Rattle.ags_ports.specs.Run.{RunsTo};
 ghost use Rattle.ags_core.specs.Core.{start_state};
 ghost use Rattle.ags_outside.specs.Count.{Rose};
 ghost use Rattle.ags_outside.specs.Send.{IsCleanSend};
 ghost use Rattle.ags_outside.specs.Sink.{appended, WroteFront};
-ghost use Rattle.ags_run.specs.Playable.{IsPlayable, IsPlayableCommand, step_count};
-ghost use Rattle.ags_run.specs.Played.{shown_text, PlayedWhole, PlayedInPart, IsCleanPlay};
-ghost use Rattle.ags_run.specs.Made.{put_count, RunsTo, CommandRunsTo};
+ghost use Rattle.ags_run.specs.Playable.{IsPlayable, IsPlayableCommand, step_count, put_count};
+ghost use Rattle.ags_run.specs.Played.{shown_text, CommandRunsTo, PlayedWhole, PlayedInPart, IsCleanPlay};
 
 use crate::plain::Plain;
 use crate::shown_lines::{cell_line, output_line, reg_line};
@@ -22,7 +21,6 @@ use ags_ports::{Event, Machine};
 use ags_word::Word;
 use arrayvec::ArrayVec;
 use std::alloc::Global;
-use thiserror::Error;
 
 /// The location of the first order, 4000 octal.
 const START: u16 = 2048;
@@ -37,13 +35,11 @@ pub struct Played {
 }
 
 /// Why a script wasn't played to its end.
-#[derive(Clone, Copy, Debug, PartialEq, Eq, Error)]
+#[derive(Clone, Copy, Debug, PartialEq, Eq)]
 pub enum PlayError {
     /// The output failed in this call.
-    #[error("the output could not be written")]
     WriteFault,
     /// There was too little memory.
-    #[error("out of memory")]
     NoMemory,
 }
 

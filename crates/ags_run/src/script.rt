@@ -1,6 +1,6 @@
 //! A script: its lines as commands, or its first fault.
 
-ghost use Rattle.std.specs.Prelude.{◌≡◌, ◌≤◌, ◌+◌, ◌⊎◌, ℕ, List, Option, Some, None, length, IfOk, IfErr, IsOkAnd, IsErrOf};
+ghost use Rattle.std.specs.Prelude.{◌≡◌, ◌≤◌, ◌<◌, ◌+◌, ◌⊎◌, ℕ, List, Option, Some, None, length, IfOk, IfErr, IsOkAnd, IsErrOf};
 ghost use Rattle.ags_run.specs.declared.script_error.ScriptKind.{ScriptKind};
 ghost use Rattle.ags_run.specs.Playable.{IsPlayable, step_count};
 ghost use Rattle.ags_run.specs.Reading.{IsReading, command_of, reading_steps};
@@ -13,16 +13,19 @@ use ags_ports::Machine;
 use ags_text::Lines;
 use std::alloc::Global;
 
+/// The most bytes of a script.
+pub const SCRIPT_LIMIT: usize = 4_194_304;
+
 /// The most steps of a script.
-const MOST_STEPS: u32 = 100_000_000;
+pub const STEP_LIMIT: u32 = 100_000_000;
 
 /// The steps so far and so many more, where they are not too many.
 fn add_steps(steps: u32, count: u32) -> Result<u32, ScriptKind>
-    requires { steps ≤ 100000000 }
-    ensures fine { IfOk result (λ now. (steps + count ≤ 100000000) × (now ≡ steps + count)) }
-    ensures faulty { IfErr result (λ kind. (100000001 ≤ steps + count) × (kind ≡ ScriptKind.TooManySteps)) }
+    requires { steps ≤ STEP_LIMIT }
+    ensures fine { IfOk result (λ now. (steps + count ≤ STEP_LIMIT) × (now ≡ steps + count)) }
+    ensures faulty { IfErr result (λ kind. (STEP_LIMIT < steps + count) × (kind ≡ ScriptKind.TooManySteps)) }
 {
-    if count > MOST_STEPS - steps {
+    if count > STEP_LIMIT - steps {
         Err(ScriptKind::TooManySteps)
     } else {
         Ok(steps + count)
@@ -42,7 +45,7 @@ fn check_port(steps: u32, found: Option<usize>) -> Result<u32, ScriptKind>
 
 /// The steps so far with those of a command, where the command has no fault.
 fn check_command(machine: &Machine, steps: u32, command: &Plain) -> Result<u32, ScriptKind>
-    requires { steps ≤ 100000000 }
+    requires { steps ≤ STEP_LIMIT }
     ensures fine { IfOk result (λ now. (command_fault machine.now steps command.now ≡ None) × (now ≡ steps + step_count command.now)) }
     ensures faulty { IfErr result (λ kind. command_fault machine.now steps command.now ≡ Some kind) }
 {
@@ -60,7 +63,7 @@ fn check_line(
     steps: u32,
     line: &[u8],
 ) -> Result<(Option<Plain>, u32), ScriptKind>
-    requires { steps ≤ 100000000 }
+    requires { steps ≤ STEP_LIMIT }
     ensures fine { IfOk result (λ read. (reading : LineReading) × IsReading line.now reading
         × (fault_after machine.now steps reading ≡ None)
         × (read.0 ≡ command_of reading) × (read.1 ≡ steps + reading_steps reading)) }
@@ -79,7 +82,7 @@ fn check_line(
 
 /// Reads the lines of a script, one after the other.
 fn read_lines(alloc: Global, bytes: &[u8], machine: &Machine) -> Result<Vec<Plain>, ScriptError>
-    requires { length bytes.now ≤ 4194304 }
+    requires { length bytes.now ≤ SCRIPT_LIMIT }
     ensures read { IfOk result (λ commands. IsScript machine.now bytes.now commands.items) }
     ensures refused { IfErr result (IsRefused machine.now bytes.now) }
     ensures suits { IfOk result (λ commands. IsPlayable machine.now commands.items) }
@@ -108,7 +111,7 @@ fn read_lines(alloc: Global, bytes: &[u8], machine: &Machine) -> Result<Vec<Plai
 /// fault. A line's number counts every line, skipped ones too. On one line the fault of the least number comes.
 /// `NoMemory` may come at any script, and says nothing of it.
 pub fn read_plain(alloc: Global, bytes: &[u8], machine: &Machine) -> Result<Vec<Plain>, ScriptError>
-    requires { length bytes.now ≤ 4194304 }
+    requires { length bytes.now ≤ SCRIPT_LIMIT }
     // It is a script without a fault, and these are its commands; or its first fault is this one.
     ensures read { IfOk result (λ commands. IsScript machine.now bytes.now commands.items) }
     ensures refused { IfErr result (IsRefused machine.now bytes.now) }

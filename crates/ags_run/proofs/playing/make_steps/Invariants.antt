@@ -1,6 +1,6 @@
 use Rattle.std.proofs.Common.{◌≡◌, length, replicate}
 use Rattle.ags_ports.specs.declared.events.Event.TheVariants as event
-use Rattle.ags_run.specs.Made.{RunsTo}
+use Rattle.ags_ports.specs.Run.{RunsTo}
 use Rattle.ags_run.proofs.playing.make_steps.Given as goal
 
 abbrev pub invariant-loop : goal.invariant-loop

@@ -1,5 +1,5 @@
 use Rattle.ags_ports.proofs.RunLemmas.{some_run, one_run, run_keeps}
-use Rattle.ags_ports.proofs.laws.each_list_of_events_has_one_run.Goals as goal
+use Rattle.ags_ports.proofs.run_laws.each_list_of_events_has_one_run.Goals as goal
 
 pub returns-clause-some : goal.returns-clause-some
 returns-clause-some c = some_run

@@ -1,5 +1,5 @@
 use Rattle.ags_ports.proofs.RunLemmas.{run-append, last-append}
-use Rattle.ags_ports.proofs.laws.runs_join.Goals as goal
+use Rattle.ags_ports.proofs.run_laws.runs_join.Goals as goal
 
 pub returns-clause-run : goal.returns-clause-run
 returns-clause-run c = run-append
