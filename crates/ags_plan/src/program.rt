@@ -35,6 +35,9 @@ pub trait Program {
     /// A work without where it lies in memory.
     ghost work_of: { Self.Work → definition.Work };
 
+    /// What is so of a work that was loaded, beyond what its parts say.
+    ghost ready: { Self.Work → Type 0 };
+
     /// The line of a refusal, with its line feed.
     ghost line_of: { Self.Refusal → List ℕ };
 
@@ -61,6 +64,7 @@ pub trait Program {
     ) -> Result<Self::Work, Unloaded<'a, Self::Refusal>>
         ensures loads { Loads definition (S.told shelf.old) (plan_of (map string_bytes arguments.now))
             (result_map_both work_of (end_of definition line_of status_of) result) }
+        ensures made_ready { IfOk result ready }
         ensures faults { HasCause (S.faults shelf.old) (S.faults shelf.new) (is_read_fault result) }
         ensures absences { HasCause (S.absences shelf.old) (S.absences shelf.new) (is_absence result) };
 
@@ -70,6 +74,7 @@ pub trait Program {
         work: &Self::Work,
         out: &mut K,
     ) -> Result<Self::Status, SendError>
+        requires { ready work.now }
         ensures performs { Says definition (WorkAt (work_of work.now)) (K.told out.old) (K.told out.new) result }
         ensures faults { HasCause (K.faults out.old) (K.faults out.new) (is_write_fault result) };
 

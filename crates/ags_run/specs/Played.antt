@@ -97,8 +97,7 @@ pub record PlayedInPart (machine : Machine) (s : State) (commands : List Plain) 
   pub plays : Plays machine s commands events text
   pub front : WroteFront old new text
 
--- a play leaves the sink's count of faults as it was, unless it met a fault
-abbrev pub IsCleanPlay : (answer : Result Played PlayError) (faults_stayed : Type 0) → Type 0
-IsCleanPlay (Ok played) faults_stayed = faults_stayed
-IsCleanPlay (Err WriteFault) faults_stayed = Unit {0}
-IsCleanPlay (Err NoMemory) faults_stayed = faults_stayed
+-- whether a play met a fault of the sink, which its count of faults counts
+abbrev pub is_play_fault : Result Played PlayError → Bool
+is_play_fault (Err WriteFault) = true
+is_play_fault _ = false

@@ -6,11 +6,11 @@ ghost use Rattle.ags_ports.specs.declared.events.Event.TheVariants as event;
 ghost use Rattle.ags_ports.specs.Port.{place_of, register_at};
 ghost use Rattle.ags_ports.specs.Run.{RunsTo};
 ghost use Rattle.ags_core.specs.Core.{start_state};
-ghost use Rattle.ags_outside.specs.Count.{Rose};
-ghost use Rattle.ags_outside.specs.Send.{IsCleanSend};
+ghost use Rattle.ags_outside.specs.Count.{HasCause, Rose};
+ghost use Rattle.ags_outside.specs.Send.{is_write_fault};
 ghost use Rattle.ags_outside.specs.Sink.{appended, WroteFront};
 ghost use Rattle.ags_run.specs.Playable.{IsPlayable, IsPlayableCommand, step_count, put_count};
-ghost use Rattle.ags_run.specs.Played.{shown_text, CommandRunsTo, PlayedWhole, PlayedInPart, IsCleanPlay};
+ghost use Rattle.ags_run.specs.Played.{shown_text, CommandRunsTo, PlayedWhole, PlayedInPart, is_play_fault};
 
 use crate::plain::Plain;
 use crate::shown_lines::{cell_line, output_line, reg_line};
@@ -115,9 +115,7 @@ fn send_line<K: Sink>(out: &mut K, line: &[u8]) -> Result<(), SendError>
     requires { length line.now ≤ 34 }
     ensures sent { OnOk result (K.told out.new ≡ appended (K.told out.old) (line.now ++ codes "\n")) }
     ensures front { OnErr result (WroteFront (K.told out.old) (K.told out.new) (line.now ++ codes "\n")) }
-    ensures faults_stay { K.faults out.old ≤ K.faults out.new }
-    ensures write_fault { IsErrOf result SendError.WriteFault → Rose (K.faults out.old) (K.faults out.new) }
-    ensures clean { IsCleanSend result (K.faults out.new ≡ K.faults out.old) }
+    ensures faults { HasCause (K.faults out.old) (K.faults out.new) (is_write_fault result) }
 {
     let mut whole: ArrayVec<u8, 35> = ArrayVec::new();
     let _ = whole.try_extend_from_slice(line);
@@ -136,9 +134,7 @@ fn show<K: Sink>(
     requires outputs { length core.now.outputs ≡ length machine.now.ports.outputs }
     ensures sent { OnOk result (K.told out.new ≡ appended (K.told out.old) (shown_text machine.now command.now core.now)) }
     ensures front { OnErr result (WroteFront (K.told out.old) (K.told out.new) (shown_text machine.now command.now core.now)) }
-    ensures faults_stay { K.faults out.old ≤ K.faults out.new }
-    ensures write_fault { IsErrOf result SendError.WriteFault → Rose (K.faults out.old) (K.faults out.new) }
-    ensures clean { IsCleanSend result (K.faults out.new ≡ K.faults out.old) }
+    ensures faults { HasCause (K.faults out.old) (K.faults out.new) (is_write_fault result) }
 {
     match *command {
         Plain::ShowReg => send_line(out, &reg_line(core)),
@@ -166,9 +162,7 @@ fn play_command<K: Sink>(
     ensures outputs { length core.new.outputs ≡ length core.old.outputs }
     ensures sent { OnOk result (K.told out.new ≡ appended (K.told out.old) (shown_text machine.now command.now core.new)) }
     ensures front { OnErr result (WroteFront (K.told out.old) (K.told out.new) (shown_text machine.now command.now core.new)) }
-    ensures faults_stay { K.faults out.old ≤ K.faults out.new }
-    ensures write_fault { IsErrOf result SendError.WriteFault → Rose (K.faults out.old) (K.faults out.new) }
-    ensures clean { IsCleanSend result (K.faults out.new ≡ K.faults out.old) }
+    ensures faults { HasCause (K.faults out.old) (K.faults out.new) (is_write_fault result) }
 {
     make_events(machine, core, command);
     show(machine, core, command, out)
@@ -186,9 +180,7 @@ fn play_from<K: Sink>(
     requires playable { IsPlayable machine.now script.now }
     ensures played { IfOk result (PlayedWhole machine.now core.old script.now (K.told out.old) (K.told out.new)) }
     ensures front { OnErr result (PlayedInPart machine.now core.old script.now (K.told out.old) (K.told out.new)) }
-    ensures faults_stay { K.faults out.old ≤ K.faults out.new }
-    ensures write_fault { IsErrOf result SendError.WriteFault → Rose (K.faults out.old) (K.faults out.new) }
-    ensures clean { IsCleanSend result (K.faults out.new ≡ K.faults out.old) }
+    ensures faults { HasCause (K.faults out.old) (K.faults out.new) (is_write_fault result) }
 {
     let mut played = Played { steps: 0, puts: 0 };
     for command in script.iter() {
@@ -211,9 +203,8 @@ pub fn play_plain<K: Sink>(
     requires { IsPlayable machine.now script.now }
     ensures played { IfOk result (PlayedWhole machine.now (start_state machine.now image.now 2048) script.now (K.told out.old) (K.told out.new)) }
     ensures front { OnErr result (PlayedInPart machine.now (start_state machine.now image.now 2048) script.now (K.told out.old) (K.told out.new)) }
-    ensures faults_stay { K.faults out.old ≤ K.faults out.new }
     ensures write_fault { IsErrOf result PlayError.WriteFault → Rose (K.faults out.old) (K.faults out.new) }
-    ensures clean { IsCleanPlay result (K.faults out.new ≡ K.faults out.old) }
+    ensures faults { HasCause (K.faults out.old) (K.faults out.new) (is_play_fault result) }
 {
     let Ok(mut core) = Core::new(alloc, machine, image, START) else {
         return Err(PlayError::NoMemory);

@@ -1,10 +1,5 @@
-pub mod AnswerExists
-pub mod AnswerLemmas
-pub mod CleanLemmas
-pub mod CommandLemmas
-pub mod EndingLemmas
-pub mod FileLemmas
 pub mod FillingLemmas
 pub mod ListingLemmas
-pub mod RunningLemmas
-pub mod StatusLemmas
+pub mod FilesLemmas
+pub mod MainLemmas
+pub mod CommandLemmas

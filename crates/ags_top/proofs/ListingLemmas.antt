@@ -1,17 +1,23 @@
 -- The listing, a card further, and by the lines of its source.
-use Rattle.std.proofs.Common.{◌≡◌, ℕ, ◌+◌, ◌<◌, ◌≤◌, List, [], ◌∷◌, ◌++◌, length, take, drop, get_or, Option, Some, None, refl, sym, ap, ◌∙◌, arith, inr}
+use Rattle.std.proofs.Common.{◌≡◌, ℕ, ◌+◌, ◌<◌, ◌≤◌, List, [], ◌∷◌, ◌++◌, length, take, drop, get_or, Option, Some, None, map, refl, sym, ap, ◌∙◌, arith}
 use Rattle.std.proofs.lemmas.List.{drop_more, drop_all}
 use Rattle.ags_text.specs.Line.{LineAt, LiesIn, Follow, lines_of}
+use Rattle.ags_text.proofs.FollowLemmas.{lines_follow}
 use Rattle.ags_outside.specs.Sink.{appended, Wrote, WroteFront, wrote_nothing, wrote_piece, wrote_all, wrote_front}
 use Rattle.ags_asm.specs.declared.placed.Placed.{Placed}
 use Rattle.ags_asm.specs.Phase.{defined}
 use Rattle.ags_asm.specs.Source.{AreSpans, IsAssembled, placed_at, placed_cards}
+use Rattle.ags_asm.proofs.MeaningLemmas.{one_meaning}
+use Rattle.ags_image.specs.Image.{PlacedWord}
+use Rattle.ags_plan.specs.Plan.{WorkAt}
+use Rattle.ags_plan.specs.Saying.{SaidWhole, SaidInPart}
+use Rattle.ags_top.specs.declared.files.SourceFile.{SourceFile}
 use Rattle.ags_top.specs.declared.status.Status.TheVariants.{Done}
-use Rattle.ags_top.specs.Answer.{ListsSource}
 use Rattle.ags_top.specs.Listing.{listing_line, listing_from, listing}
-use Rattle.ags_top.specs.Outcome.{Answered}
-use Rattle.ags_top.specs.PartOutcome.{Stopped}
 use Rattle.ags_top.specs.PlacedListing.{card_text, placed_line, placed_listing}
+use Rattle.ags_top.specs.Program.{program}
+use Rattle.ags_top.specs.Views.{IsSourceRead, assembly_of}
+use Rattle.ags_top.specs.Work.{ListSource}
 
 -- ---- a card further
 
@@ -77,20 +83,20 @@ Sending-all old now source placed i so past =
 
 -- ---- by the lines
 
-defined-placed_at : (line : LineAt) (one : Option (ℕ × ℕ)) → defined (placed_at line one) ≡ one
+defined-placed_at : (line : LineAt) (one : Option PlacedWord) → defined (placed_at line one) ≡ one
 defined-placed_at line None = refl
 defined-placed_at line (Some definition) = refl
 
-card_text-placed_at : (source : List ℕ) (line : LineAt) (one : Option (ℕ × ℕ)) → LiesIn source line → card_text source (placed_at line one) ≡ line.bytes
+card_text-placed_at : (source : List ℕ) (line : LineAt) (one : Option PlacedWord) → LiesIn source line → card_text source (placed_at line one) ≡ line.bytes
 card_text-placed_at source line None lies = ap (λ (n : ℕ). take n (drop line.start source)) (omega arith) ∙ lies.bytes_are
 card_text-placed_at source line (Some definition) lies = ap (λ (n : ℕ). take n (drop line.start source)) (omega arith) ∙ lies.bytes_are
 
-placed_line-line : (source : List ℕ) (number : ℕ) (line : LineAt) (one : Option (ℕ × ℕ)) → LiesIn source line → placed_line source number (placed_at line one) ≡ listing_line number line one
+placed_line-line : (source : List ℕ) (number : ℕ) (line : LineAt) (one : Option PlacedWord) → LiesIn source line → placed_line source number (placed_at line one) ≡ listing_line number line one
 unfolding placed_line listing_line
 placed_line-line source number line one lies = rw (defined-placed_at line one, card_text-placed_at source line one lies) refl
 
 -- the cards' listing is that of the lines
-pub listing_by_lines : (source : List ℕ) (from number : ℕ) (lines : List LineAt) (ds : List (Option (ℕ × ℕ))) → Follow source from lines
+pub listing_by_lines : (source : List ℕ) (from number : ℕ) (lines : List LineAt) (ds : List (Option PlacedWord)) → Follow source from lines
     → placed_listing source number (placed_cards lines ds) ≡ listing_from number lines ds
 unfolding placed_listing listing_from
 listing_by_lines source from number [] ds follow = refl
@@ -98,19 +104,30 @@ listing_by_lines source from number (line ∷ lines) [] follow = refl
 listing_by_lines source from number (line ∷ lines) (d ∷ ds) follow =
     rw (placed_line-line source number line d follow.1, listing_by_lines source (line.start + length line.bytes + 1) (number + 1) lines ds follow.2) refl
 
--- ---- what was sent of a listing is the answer's
+-- ---- of a source that was read
 
 -- the cards' listing is the listing of what the source defines
-listing_is : (bytes : List ℕ) (placed : List Placed) (so : IsAssembled bytes placed) → Follow bytes 0 (lines_of bytes) → placed_listing bytes 1 placed ≡ listing bytes so.defined
-listing_is bytes placed so follow = ap (placed_listing bytes 1) so.cards ∙ listing_by_lines bytes 0 1 (lines_of bytes) so.defined follow
+pub listing_is : (bytes : List ℕ) (placed : List Placed) → IsSourceRead bytes placed → placed_listing bytes 1 placed ≡ listing bytes (map defined placed)
+listing_is bytes placed read =
+    let so = read.assembled in
+    ap (placed_listing bytes 1) so.cards ∙ listing_by_lines bytes 0 1 (lines_of bytes) so.defined (lines_follow bytes)
+    ∙ ap (listing bytes) (one_meaning bytes so.defined (map defined placed) so.defines read.defines)
 
-is_listed : (bytes : List ℕ) (placed : List Placed) → IsAssembled bytes placed → Follow bytes 0 (lines_of bytes) → ListsSource bytes (placed_listing bytes 1 placed) Done
-is_listed bytes placed so follow = inr (record { defined = so.defined; defines = so.defines; text_is = listing_is bytes placed so follow; status_is = refl })
+-- what was sent of it is said of the work
+pub listed : (source : SourceFile) (old new : Option (List ℕ)) → IsSourceRead source.bytes.items source.placed.items
+    → new ≡ appended old (placed_listing source.bytes.items 1 source.placed.items) → SaidWhole program (WorkAt (ListSource (assembly_of source))) old new Done
+listed source old new read sent = record {
+  text = placed_listing source.bytes.items 1 source.placed.items;
+  comes = (listing_is source.bytes.items source.placed.items read, refl);
+  sent = sent;
+}
 
-pub listed : (bytes : List ℕ) (old new : Option (List ℕ)) (placed : List Placed) → IsAssembled bytes placed → Follow bytes 0 (lines_of bytes) → new ≡ appended old (placed_listing bytes 1 placed)
-    → Answered (ListsSource bytes) old new Done
-listed bytes old new placed so follow sent = record { text = placed_listing bytes 1 placed; answer = is_listed bytes placed so follow; sent = sent }
-
-pub listed_in_part : (bytes : List ℕ) (old new : Option (List ℕ)) (placed : List Placed) → IsAssembled bytes placed → Follow bytes 0 (lines_of bytes) → WroteFront old new (placed_listing bytes 1 placed)
-    → Stopped (ListsSource bytes) old new
-listed_in_part bytes old new placed so follow front = inr (record { status = Done; text = placed_listing bytes 1 placed; answer = is_listed bytes placed so follow; front = front })
+-- and so is a prefix
+pub listed_in_part : (source : SourceFile) (old new : Option (List ℕ)) → IsSourceRead source.bytes.items source.placed.items
+    → WroteFront old new (placed_listing source.bytes.items 1 source.placed.items) → SaidInPart program (WorkAt (ListSource (assembly_of source))) old new
+listed_in_part source old new read prefix = record {
+  text = placed_listing source.bytes.items 1 source.placed.items;
+  status = Done;
+  comes = (listing_is source.bytes.items source.placed.items read, refl);
+  prefix = prefix;
+}

@@ -1,10 +1,13 @@
-pub mod Answer
+-- what the public contracts cite
 pub mod Command
-pub mod CommandView
-pub mod File
+pub mod Files
 pub mod Listing
-pub mod Number
 pub mod Outcome
-pub mod PartOutcome
-pub mod PlacedListing
+pub mod Program
+pub mod Status
 pub mod Text
+pub mod Work
+-- what serves inside
+pub mod PlacedListing
+pub mod ProgramLaws
+pub mod Views

@@ -1,18 +1,34 @@
-//! Laws of answers: what words and files come to. Behind each clause is a lemma of `proofs/`.
+//! Laws of answers: what command lines and files come to.
 
-ghost use Rattle.std.specs.Prelude.{◌≡◌, ℕ, List};
-ghost use Rattle.ags_top.specs.Answer.{IsAnswer, TellsFiles};
-ghost use Rattle.ags_top.specs.File.{Told};
+ghost use Rattle.std.specs.Prelude.{◌≡◌, ℕ, List, Some};
+ghost use Rattle.ags_plan.specs.Answer.{IsAnswer, TellsFiles};
+ghost use Rattle.ags_plan.specs.Walk.{Told};
+ghost use Rattle.ags_top.specs.Command.{Command, arguments_of, command_of};
+ghost use Rattle.ags_top.specs.Program.{plan_of, program};
 
+use crate::program::Ags;
 use crate::status::Status;
+use ags_plan::{command_lines_have_one_answer, each_command_line_has_an_answer};
 
-/// Words have an answer, whatever a shelf tells of files.
+/// A command line has an answer, whatever a shelf tells of files.
 pub fn each_command_has_an_answer()
-    ensures { (told : Told) (words : List (List ℕ)) → (text : List ℕ) × (status : Status) × IsAnswer told words text status }
-{}
+    ensures { (told : Told) (arguments : List (List ℕ))
+        → (text : List ℕ) × (status : Status) × IsAnswer program told (plan_of arguments) text status }
+{
+    each_command_line_has_an_answer::<Ags>();
+}
 
-/// Where a shelf tells of each file that the words' command fetches, the words have one answer.
-pub fn words_have_one_answer()
-    ensures { (told : Told) (words : List (List ℕ)) (text other : List ℕ) (status ended : Status) → TellsFiles told words
-        → IsAnswer told words text status → IsAnswer told words other ended → (text ≡ other) × (status ≡ ended) }
+/// Where a shelf tells of each file that is fetched, a command line has one answer.
+pub fn arguments_have_one_answer()
+    ensures { (told : Told) (arguments : List (List ℕ)) (text other : List ℕ) (status ended : Status)
+        → TellsFiles program told (plan_of arguments) → IsAnswer program told (plan_of arguments) text status
+        → IsAnswer program told (plan_of arguments) other ended → (text ≡ other) × (status ≡ ended) }
+{
+    command_lines_have_one_answer::<Ags>();
+}
+
+/// A command's arguments ask for it, and no others do.
+pub fn arguments_ask_for_one_command()
+    ensures form { (command : Command) → command_of (arguments_of command) ≡ Some command }
+    ensures only { (arguments : List (List ℕ)) (command : Command) → command_of arguments ≡ Some command → arguments ≡ arguments_of command }
 {}

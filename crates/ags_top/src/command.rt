@@ -1,11 +1,12 @@
-//! What the words of a command line ask for.
+//! What the arguments of a command line ask for.
 
-ghost use Rattle.std.specs.Prelude.{◌≡◌, List, ℕ, map, IfSome, IfNone};
+ghost use Rattle.std.specs.Prelude.{◌≡◌, List, ℕ, map};
+ghost use Rattle.std.specs.Option.{option_map};
 ghost use Rattle.std.specs.String.{string_bytes};
-ghost use Rattle.ags_top.specs.Command.{words_of, AreNoForm};
-ghost use Rattle.ags_top.specs.CommandView.{command_of};
+ghost use Rattle.ags_top.specs.Command.{assemble_of, command_named, command_of, run_of};
+ghost use Rattle.ags_top.specs.Views.{command_view};
 
-/// What the words ask for.
+/// What a command line asks for.
 #[derive(Clone, Copy)]
 pub(crate) enum Command<'a> {
     /// The listing of the source of this name.
@@ -19,17 +20,46 @@ pub(crate) enum Command<'a> {
     },
 }
 
-/// The command that the words are a form of.
-pub(crate) fn read_command(words: &[String]) -> Option<Command<'_>>
-    ensures form { IfSome result (λ command. map string_bytes words.now ≡ words_of (command_of command)) }
-    ensures no_form { IfNone result (AreNoForm (map string_bytes words.now)) }
+/// The command of `assemble` and these names.
+fn read_assemble(names: &[String]) -> Option<Command<'_>>
+    ensures { option_map command_view result ≡ assemble_of (map string_bytes names.now) }
 {
-    match words {
-        [verb, source] if verb.as_str() == "assemble" => Some(Command::Assemble(source.as_str())),
-        [verb, source, script] if verb.as_str() == "run" => Some(Command::Run {
+    match names {
+        [source] => Some(Command::Assemble(source.as_str())),
+        _ => None,
+    }
+}
+
+/// The command of `run` and these names.
+fn read_run(names: &[String]) -> Option<Command<'_>>
+    ensures { option_map command_view result ≡ run_of (map string_bytes names.now) }
+{
+    match names {
+        [source, script] => Some(Command::Run {
             source: source.as_str(),
             script: script.as_str(),
         }),
         _ => None,
+    }
+}
+
+/// The command of a verb and the names behind it.
+fn read_names<'a>(verb: &str, names: &'a [String]) -> Option<Command<'a>>
+    ensures { option_map command_view result ≡ command_named verb.now (map string_bytes names.entry.now) }
+{
+    match verb {
+        "assemble" => read_assemble(names),
+        "run" => read_run(names),
+        _ => None,
+    }
+}
+
+/// The command that a command line asks for, by its arguments.
+pub(crate) fn read_command(arguments: &[String]) -> Option<Command<'_>>
+    ensures { option_map command_view result ≡ command_of (map string_bytes arguments.now) }
+{
+    match arguments {
+        [verb, names @ ..] => read_names(verb.as_str(), names),
+        [] => None,
     }
 }

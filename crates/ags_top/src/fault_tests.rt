@@ -1,6 +1,7 @@
 //! The program over outsides that fail. The expected answers are typed by hand from the README's table of statuses.
 
 ghost use Rattle.std.specs.Prelude.{None};
+ghost use Rattle.ags_outside.specs.ToldFile.{Untold};
 
 use super::*;
 use ags_outside::{Pull, PutDone, Shelf, Sink, SteadyShelf, SteadySink};
@@ -18,7 +19,7 @@ struct FailingShelf {
 }
 
 impl Shelf for FailingShelf {
-    ghost told = { λ _ _. None };
+    ghost told = { λ _ _. Untold };
 
     ghost faults = { λ shelf. shelf.faults };
 
@@ -71,13 +72,13 @@ impl Sink for FailingSink {
     }
 }
 
-/// The words of a command line.
-fn words_of(alloc: Global, line: &str) -> Result<Vec<String>, Fail> {
-    let mut words = Vec::new(alloc);
-    for word in line.split_whitespace() {
-        words.push(String::from_str(alloc, word)?)?;
+/// The arguments of a command line.
+fn arguments_of(alloc: Global, line: &str) -> Result<Vec<String>, Fail> {
+    let mut arguments = Vec::new(alloc);
+    for argument in line.split_whitespace() {
+        arguments.push(String::from_str(alloc, argument)?)?;
     }
-    Ok(words)
+    Ok(arguments)
 }
 
 /// Runs a command line where the file of one name can't be read, and compares what comes.
@@ -91,8 +92,8 @@ fn compare(
     let alloc = rt.alloc();
     let mut shelf = FailingShelf::new(alloc, failing)?;
     let mut out = SteadySink::new(alloc, 7);
-    let words = words_of(alloc, line)?;
-    let ended = ags_main(alloc, &words, &mut shelf, &mut out);
+    let arguments = arguments_of(alloc, line)?;
+    let ended = ags_main(alloc, &arguments, &mut shelf, &mut out);
     assert!(rt; ended == status, "{line}");
     assert_eq!(rt; str::from_utf8(out.bytes())?, text);
     Ok(())
@@ -132,8 +133,8 @@ fn count_puts(
         puts: 0,
         faults: 0,
     };
-    let words = words_of(alloc, line)?;
-    let ended = ags_main(alloc, &words, &mut shelf, &mut out);
+    let arguments = arguments_of(alloc, line)?;
+    let ended = ags_main(alloc, &arguments, &mut shelf, &mut out);
     assert!(rt; ended == status, "{line}, put {at}");
     assert!(rt; out.puts == puts, "{line}, put {at}");
     Ok(())

@@ -1,12 +1,13 @@
 //! The writer of the listing.
 
-ghost use Rattle.std.specs.Prelude.{◌≡◌, ◌+◌, ◌≤◌, ◌<◌, ◌^◌, ◌++◌, length, OnOk, OnErr, IsErrOf};
-ghost use Rattle.ags_outside.specs.Count.{Rose};
-ghost use Rattle.ags_outside.specs.Send.{IsCleanSend};
+ghost use Rattle.std.specs.Prelude.{◌≡◌, ◌+◌, ◌≤◌, ◌<◌, ◌^◌, ◌++◌, length, OnOk, OnErr};
+ghost use Rattle.ags_outside.specs.Count.{HasCause};
+ghost use Rattle.ags_outside.specs.Send.{is_write_fault};
 ghost use Rattle.ags_outside.specs.Sink.{appended, WroteFront};
 ghost use Rattle.ags_asm.specs.Phase.{defined};
 ghost use Rattle.ags_asm.specs.Source.{AreSpans};
 ghost use Rattle.ags_top.specs.Listing.{columns};
+ghost use Rattle.ags_top.specs.declared.files.TheConstants.{SOURCE_LIMIT};
 ghost use Rattle.ags_top.specs.PlacedListing.{placed_line, placed_listing};
 
 use ags_asm::Placed;
@@ -59,9 +60,7 @@ fn send_line<K: Sink>(
     requires within { card.now.end ≤ length source.now }
     ensures sent { OnOk result (K.told out.new ≡ appended (K.told out.old) (placed_line source.now number card.now)) }
     ensures front { OnErr result (WroteFront (K.told out.old) (K.told out.new) (placed_line source.now number card.now)) }
-    ensures faults_stay { K.faults out.old ≤ K.faults out.new }
-    ensures write_fault { IsErrOf result SendError.WriteFault → Rose (K.faults out.old) (K.faults out.new) }
-    ensures clean_sink { IsCleanSend result (K.faults out.new ≡ K.faults out.old) }
+    ensures faults { HasCause (K.faults out.old) (K.faults out.new) (is_write_fault result) }
 {
     line.clear();
     if push_line(line, source, number, card).is_err() {
@@ -77,13 +76,11 @@ pub(crate) fn send_listing<K: Sink>(
     source: &[u8],
     placed: &[Placed],
 ) -> Result<(), SendError>
-    requires short { length source.now ≤ 4194304 }
+    requires short { length source.now ≤ SOURCE_LIMIT }
     requires spans { AreSpans 0 (length source.now) placed.now }
     ensures sent { OnOk result (K.told out.new ≡ appended (K.told out.old) (placed_listing source.now 1 placed.now)) }
     ensures front { OnErr result (WroteFront (K.told out.old) (K.told out.new) (placed_listing source.now 1 placed.now)) }
-    ensures faults_stay { K.faults out.old ≤ K.faults out.new }
-    ensures write_fault { IsErrOf result SendError.WriteFault → Rose (K.faults out.old) (K.faults out.new) }
-    ensures clean_sink { IsCleanSend result (K.faults out.new ≡ K.faults out.old) }
+    ensures faults { HasCause (K.faults out.old) (K.faults out.new) (is_write_fault result) }
 {
     let mut line = Vec::new(alloc);
     for (index, card) in placed.iter().enumerate() {

@@ -1,6 +1,6 @@
 //! How a run of the program ends.
 
-ghost use Rattle.ags_top.specs.Number.{number_of};
+ghost use Rattle.ags_top.specs.Status.{number_of};
 ghost use Rattle.std.specs.Prelude.{◌≡◌};
 
 /// How a run of the program ends.

@@ -7,13 +7,13 @@ use std::alloc::Global;
 use std::process::Abort;
 use std::test::Fail;
 
-/// The words of a command line.
-fn words_of(alloc: Global, line: &str) -> Result<Vec<String>, Fail> {
-    let mut words = Vec::new(alloc);
-    for word in line.split_whitespace() {
-        words.push(String::from_str(alloc, word)?)?;
+/// The arguments of a command line.
+fn arguments_of(alloc: Global, line: &str) -> Result<Vec<String>, Fail> {
+    let mut arguments = Vec::new(alloc);
+    for argument in line.split_whitespace() {
+        arguments.push(String::from_str(alloc, argument)?)?;
     }
-    Ok(words)
+    Ok(arguments)
 }
 
 /// Runs a command line over these files, into a sink that takes so many bytes at once, and compares what comes.
@@ -31,8 +31,8 @@ fn compare_over(
         shelf.add(name, bytes)?;
     }
     let mut out = SteadySink::new(alloc, most.max(1));
-    let words = words_of(alloc, line)?;
-    let ended = ags_main(alloc, &words, &mut shelf, &mut out);
+    let arguments = arguments_of(alloc, line)?;
+    let ended = ags_main(alloc, &arguments, &mut shelf, &mut out);
     assert!(rt; ended == status, "{line}");
     assert_eq!(rt; str::from_utf8(out.bytes())?, text);
     Ok(())
@@ -82,7 +82,7 @@ fn says_the_first_fault(rt: HostRuntime) -> Result<(), Fail> {
 }
 
 #[test]
-fn refuses_words_and_files(rt: HostRuntime) -> Result<(), Fail> {
+fn refuses_arguments_and_files(rt: HostRuntime) -> Result<(), Fail> {
     let lines = [
         "",
         "assemble",
@@ -115,7 +115,8 @@ fn refuses_words_and_files(rt: HostRuntime) -> Result<(), Fail> {
 #[test]
 fn laws_can_be_called() {
     each_command_has_an_answer();
-    words_have_one_answer();
+    arguments_have_one_answer();
+    arguments_ask_for_one_command();
 }
 
 #[test]

@@ -25,7 +25,7 @@ loop-command-preserved g c = record {
       c.loop-command.invariant.playing c.loop-command-test.true c.command-item.is c.play_command.ensures.run c.in_ok-play_command.ensures.sent c.add.ensures.steps c.add.ensures.puts;
   inputs = c.play_command.ensures.inputs ∙ c.loop-command.invariant.inputs;
   outputs = c.play_command.ensures.outputs ∙ c.loop-command.invariant.outputs;
-  faults = c.in_ok-play_command.ensures.clean ∙ c.loop-command.invariant.faults;
+  faults = c.in_ok-play_command.ensures.faults.clean refl ∙ c.loop-command.invariant.faults;
 }
 
 pub returns-clause-played : goal.returns-clause-played

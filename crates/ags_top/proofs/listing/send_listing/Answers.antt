@@ -1,4 +1,4 @@
-use Rattle.std.proofs.Common.{◌∙◌}
+use Rattle.std.proofs.Common.{◌∙◌, refl}
 use Rattle.std.proofs.lemmas.Result.{err_from_is_err_and}
 use Rattle.ags_top.proofs.ListingLemmas.{Sending-more, Sending-front, Sending-all}
 use Rattle.ags_top.proofs.listing.send_listing.Goals as goal
@@ -13,7 +13,7 @@ pub loop-index-preserved : goal.loop-index-preserved
 loop-index-preserved g c = record {
   sending = Sending-more (g.K.Sink.told c.args.out.now) (g.K.Sink.told c.loop-index.out) (g.K.Sink.told c.send_line.new.out) c.args.source.now c.args.placed.now c.loop-index.index c.index-placed-index.result
       c.loop-index.invariant.sending c.loop-index-test.true c.index-placed-index.is c.in_ok-send_line.ensures.sent;
-  faults = c.in_ok-send_line.ensures.clean_sink ∙ c.loop-index.invariant.faults;
+  faults = c.in_ok-send_line.ensures.faults.clean refl ∙ c.loop-index.invariant.faults;
 }
 
 pub returns-clause-sent : goal.returns-clause-sent

@@ -1,0 +1,68 @@
+-- The kinds of files that commands read: how long each may be, what it holds, and when it is refused, with which line and status.
+use Rattle.std.specs.Prelude.{◌≡◌, ℕ, List, Option}
+use Rattle.ags_asm.specs.declared.source_error.SourceError.{SourceError}
+use Rattle.ags_asm.specs.Source.{Defines, IsFaulty}
+use Rattle.ags_image.specs.Image.{PlacedWord}
+use Rattle.ags_ports.specs.declared.machines.Machine.{Machine}
+use Rattle.ags_run.specs.declared.plain.Plain.{Plain}
+use Rattle.ags_run.specs.declared.script_error.ScriptKind.{ScriptKind}
+use Rattle.ags_run.specs.declared.script_error.ScriptError.TheVariants.{At}
+use Rattle.ags_run.specs.Script.{IsScript, IsFaultyScript}
+use Rattle.ags_run.specs.declared.script.TheConstants.{SCRIPT_LIMIT}
+use Rattle.ags_top.specs.declared.files.TheConstants.{SOURCE_LIMIT}
+use Rattle.ags_top.specs.declared.status.Status.{Status}
+use Rattle.ags_top.specs.declared.status.Status.TheVariants.{BadSource, BadText}
+use Rattle.ags_top.specs.Text.{fault_line, script_fault_line}
+
+-- a source; or a script for a machine
+pub data Kind : Type 0 where
+  Source : Kind
+  Script : (machine : Machine) → Kind
+
+-- a source that was read: its bytes, and the places and the words of its cards
+pub record Assembly : Type 0 where
+  pub bytes : List ℕ
+  pub defined : List (Option PlacedWord)
+
+-- what a file of a kind holds
+abbrev pub Value : Kind → Type 0
+Value Source = Assembly
+Value (Script machine) = List Plain
+
+-- how many bytes a file of a kind has at most
+abbrev pub limit_of : Kind → ℕ
+limit_of Source = SOURCE_LIMIT
+limit_of (Script machine) = SCRIPT_LIMIT
+
+-- the bytes are a source without a fault, and this is what was read of it
+pub record HoldsSource (bytes : List ℕ) (assembly : Assembly) : Type 0 where
+  pub bytes_are : assembly.bytes ≡ bytes
+  pub defines : Defines bytes assembly.defined
+
+-- the bytes hold this value
+abbrev pub Holds : (kind : Kind) → (bytes : List ℕ) → Value kind → Type 0
+Holds Source bytes assembly = HoldsSource bytes assembly
+Holds (Script machine) bytes commands = IsScript machine bytes commands
+
+-- the bytes are a source with a fault, and this is the line of its first one
+pub record RefusesSource (bytes line : List ℕ) : Type 0 where
+  pub error : SourceError
+  pub faulty : IsFaulty bytes error
+  pub line_is : line ≡ fault_line error
+
+-- the bytes are a script with a fault for the machine, and this is the line of its first one
+pub record RefusesScript (machine : Machine) (bytes line : List ℕ) : Type 0 where
+  pub number : ℕ
+  pub kind : ScriptKind
+  pub faulty : IsFaultyScript machine bytes number kind
+  pub line_is : line ≡ script_fault_line (At number kind)
+
+-- the bytes are refused with this line
+abbrev pub Refuses : (kind : Kind) → (bytes line : List ℕ) → Type 0
+Refuses Source bytes line = RefusesSource bytes line
+Refuses (Script machine) bytes line = RefusesScript machine bytes line
+
+-- the status of a refused file
+abbrev pub refused_status : Kind → Status
+refused_status Source = BadSource
+refused_status (Script machine) = BadText

@@ -1,0 +1,40 @@
+-- The program: its definition, and the plan of each command.
+use Rattle.std.specs.Prelude.{ℕ, List, Option, Some, None}
+use Rattle.ags_plan.specs.Plan.{Definition, Plan, Do, Read}
+use Rattle.ags_ports.specs.declared.machines.Machine.{Machine}
+use Rattle.ags_ports.specs.Machine.{standard_machine}
+use Rattle.ags_top.specs.declared.status.Status.{Status}
+use Rattle.ags_top.specs.Command.{Command, Assemble, Run, command_of}
+use Rattle.ags_top.specs.Files.{Kind, Source, Script, Value, limit_of, Holds, Refuses, refused_status}
+use Rattle.ags_top.specs.Status.{cause_of, stop_status}
+use Rattle.ags_top.specs.Work.{Work, NoForm, ListSource, PlayScript, Makes}
+
+-- the program's kinds of files, its works and its statuses
+abbrev pub program : Definition Status
+program = record {
+  Kind = Kind;
+  Value = Value;
+  limit = limit_of;
+  Holds = Holds;
+  Refuses = Refuses;
+  refused = refused_status;
+  Work = Work;
+  Makes = Makes;
+  status_of = stop_status;
+  cause = cause_of;
+}
+
+-- what a command reads, in this order, and does, on a machine
+abbrev pub command_plan : Machine → Command → Plan program
+command_plan machine (Assemble source) = Read Source source (λ assembly. Do (ListSource assembly))
+command_plan machine (Run source script) =
+    Read Source source (λ assembly. Read (Script machine) script (λ commands. Do (PlayScript machine assembly.defined commands)))
+
+-- what is asked for, on the standard machine: where it is no command, that is said
+abbrev pub asked_plan : Option Command → Plan program
+asked_plan None = Do NoForm
+asked_plan (Some command) = command_plan standard_machine command
+
+-- what a command line asks for, by its arguments
+abbrev pub plan_of : List (List ℕ) → Plan program
+plan_of arguments = asked_plan (command_of arguments)

@@ -1,0 +1,193 @@
+-- That the program's definition is lawful: its files mean one thing each, and its works make one text each.
+use Rattle.std.specs.Prelude.{◌≡◌, ◌≢◌, ◌⊎◌, ℕ, ◌≤◌, List, length, Option, Some, None}
+use Rattle.std.proofs.Common.{refl, sym, ap, subst, ◌∙◌, inl, inr}
+use Rattle.ags_plan.specs.declared.causes.Cause.TheVariants as cause
+use Rattle.ags_plan.specs.Plan.{AbsentAt, LongAt, RefusedAt, WorkAt}
+use Rattle.ags_plan.specs.Walk.{Told, Agrees, EndsAt}
+use Rattle.ags_plan.specs.Lawful.{AreReadable, AreDoable, AreApart, IsLawful}
+use Rattle.ags_asm.specs.declared.source_error.SourceError.{SourceError}
+use Rattle.ags_asm.specs.Source.{Defines, placed_words}
+use Rattle.ags_asm.proofs.ApartLemmas.{each_place_once}
+use Rattle.ags_asm.proofs.MeaningLemmas as source
+use Rattle.ags_asm.proofs.MemoryLemmas.{words_of_memory}
+use Rattle.ags_image.specs.Image.{PlacedWord, IsImageOf}
+use Rattle.ags_image.proofs.ImageLaws.{one_image, one_word_a_place, some_image}
+use Rattle.ags_ports.specs.declared.machines.Machine.{Machine}
+use Rattle.ags_ports.specs.declared.events.Event.{Event}
+use Rattle.ags_ports.specs.Machine.{IsMachine, standard_machine}
+use Rattle.ags_ports.proofs.MachineLemmas.{IsMachine-standard}
+use Rattle.ags_core.specs.Core.{start_state}
+use Rattle.ags_run.specs.declared.plain.Plain.{Plain}
+use Rattle.ags_run.specs.declared.script_error.ScriptKind.{ScriptKind}
+use Rattle.ags_run.specs.declared.script_error.ScriptError.TheVariants.{At}
+use Rattle.ags_run.specs.Played.{Plays}
+use Rattle.ags_run.proofs.PlayLemmas.{one_play, play_runs, some_play}
+use Rattle.ags_run.proofs.ScriptLemmas as script
+use Rattle.ags_top.specs.declared.status.Status.{Status}
+use Rattle.ags_top.specs.declared.status.Status.TheVariants.{Done, BadSource, BadWords, BadText, LongFile}
+use Rattle.ags_top.specs.Command.{Command, Assemble, Run, command_of}
+use Rattle.ags_top.specs.Files.{Kind, Source, Script, Assembly, Value, HoldsSource, Holds, RefusesSource, RefusesScript, Refuses, refused_status}
+use Rattle.ags_top.specs.Listing.{listing}
+use Rattle.ags_top.specs.Program.{program, command_plan, asked_plan, plan_of}
+use Rattle.ags_top.specs.Status.{cause_of}
+use Rattle.ags_top.specs.Text.{words_line, fault_line, script_fault_line}
+use Rattle.ags_top.specs.Work.{Work, NoForm, ListSource, PlayScript, IsPlayOf, Makes}
+
+-- ---- files
+
+-- a file of a kind holds something, or is refused
+some_reading : (kind : Kind) (bytes : List ℕ) → ((value : Value kind) × Holds kind bytes value) ⊎ ((line : List ℕ) × Refuses kind bytes line)
+some_reading Source bytes = elim (source.each_means bytes) [
+  | inl (defined, defines) ↦ inl (record { bytes = bytes; defined = defined }, record { bytes_are = refl; defines = defines })
+  | inr (error, faulty) ↦ inr (fault_line error, record { error = error; faulty = faulty; line_is = refl })
+]
+some_reading (Script machine) bytes = elim (script.script_or_faulty machine bytes) [
+  | inl (commands, is) ↦ inl (commands, is)
+  | inr (number, kind, faulty) ↦ inr (script_fault_line (At number kind), record { number = number; kind = kind; faulty = faulty; line_is = refl })
+]
+
+-- what was read of a source is one thing
+one_assembly : (bytes : List ℕ) (one other : Assembly) → HoldsSource bytes one → HoldsSource bytes other → one ≡ other
+one_assembly bytes one other first second =
+    ap (λ (b : List ℕ). record { bytes = b; defined = one.defined }) (first.bytes_are ∙ sym second.bytes_are)
+    ∙ ap (λ (d : List (Option PlacedWord)). record { bytes = other.bytes; defined = d }) (source.one_meaning bytes one.defined other.defined first.defines second.defines)
+
+one_reading : (kind : Kind) (bytes : List ℕ) (one other : Value kind) → Holds kind bytes one → Holds kind bytes other → one ≡ other
+one_reading Source bytes one other first second = one_assembly bytes one other first second
+one_reading (Script machine) bytes one other first second = script.one_script machine bytes one other first second
+
+-- the lines of two faults that are one
+same_line : (line other : ℕ) (kind another : ScriptKind) → line ≡ other → kind ≡ another → script_fault_line (At line kind) ≡ script_fault_line (At other another)
+same_line line other kind another lines kinds = ap (λ (n : ℕ). script_fault_line (At n kind)) lines ∙ ap (λ (k : ScriptKind). script_fault_line (At other k)) kinds
+
+one_refusal : (kind : Kind) (bytes line other : List ℕ) → Refuses kind bytes line → Refuses kind bytes other → line ≡ other
+one_refusal Source bytes line other first second =
+    first.line_is ∙ ap (λ (e : SourceError). fault_line e) (source.one_fault bytes first.error second.error first.faulty second.faulty) ∙ sym second.line_is
+one_refusal (Script machine) bytes line other first second =
+    let same = script.one_fault machine bytes first.number second.number first.kind second.kind first.faulty second.faulty in
+    first.line_is ∙ same_line first.number second.number first.kind second.kind same.0 same.1 ∙ sym second.line_is
+
+not_both : (kind : Kind) (bytes line : List ℕ) (value : Value kind) → Holds kind bytes value → Refuses kind bytes line → ⊥
+not_both Source bytes line assembly holds refuses = source.not_both bytes assembly.defined refuses.error holds.defines refuses.faulty
+not_both (Script machine) bytes line commands is refuses = script.not_faulty machine bytes commands refuses.number refuses.kind is refuses.faulty
+
+are_readable : AreReadable program
+are_readable = record {
+  some = λ kind bytes short. some_reading kind bytes;
+  one_value = λ kind bytes one other short first second. one_reading kind bytes one other first second;
+  one_line = one_refusal;
+  not_both = not_both;
+}
+
+-- ---- works
+
+-- what is so of a work in which a walk ends: its machine is one, and its words are a source's
+IsAskedFor : Work → Type 0
+IsAskedFor NoForm = Unit {0}
+IsAskedFor (ListSource assembly) = Unit {0}
+IsAskedFor (PlayScript machine defined commands) = IsMachine machine × ((bytes : List ℕ) × Defines bytes defined)
+
+-- of a command's plan
+asked_by_command : (told : Told) (machine : Machine) (command : Command) (work : Work) → IsMachine machine → EndsAt program Agrees told (command_plan machine command) (WorkAt work) → IsAskedFor work
+unfolding IsAskedFor
+asked_by_command told machine (Assemble name) work is (inl (inl (agrees, end))) = absurd cc
+asked_by_command told machine (Assemble name) work is (inl (inr (bytes, agrees, inl (long, end)))) = absurd cc
+asked_by_command told machine (Assemble name) work is (inl (inr (bytes, agrees, inr (line, refuses, end)))) = absurd cc
+asked_by_command told machine (Assemble name) work is (inr (assembly, sees, end)) =
+    let same : work ≡ ListSource assembly = cc in subst IsAskedFor (sym same) tt
+asked_by_command told machine (Run name script) work is (inl (inl (agrees, end))) = absurd cc
+asked_by_command told machine (Run name script) work is (inl (inr (bytes, agrees, inl (long, end)))) = absurd cc
+asked_by_command told machine (Run name script) work is (inl (inr (bytes, agrees, inr (line, refuses, end)))) = absurd cc
+asked_by_command told machine (Run name script) work is (inr (assembly, sees, inl (inl (agrees, end)))) = absurd cc
+asked_by_command told machine (Run name script) work is (inr (assembly, sees, inl (inr (bytes, agrees, inl (long, end))))) = absurd cc
+asked_by_command told machine (Run name script) work is (inr (assembly, sees, inl (inr (bytes, agrees, inr (line, refuses, end))))) = absurd cc
+asked_by_command told machine (Run name script) work is (inr (assembly, (bytes, agrees, holds), inr (commands, seen, end))) =
+    let same : work ≡ PlayScript machine assembly.defined commands = cc in
+    subst IsAskedFor (sym same) (is, (bytes, holds.holds.defines))
+
+asked_by : (told : Told) (asked : Option Command) (work : Work) → EndsAt program Agrees told (asked_plan asked) (WorkAt work) → IsAskedFor work
+unfolding IsAskedFor
+asked_by told None work end = let same : work ≡ NoForm = cc in subst IsAskedFor (sym same) tt
+asked_by told (Some command) work ends = asked_by_command told standard_machine command work IsMachine-standard ends
+
+-- words of a source have an image
+some_image_of : (bytes : List ℕ) (defined : List (Option PlacedWord)) → Defines bytes defined → (image : List (Option ℕ)) × IsImageOf (placed_words defined) image
+some_image_of bytes defined defines =
+    some_image (placed_words defined) (words_of_memory bytes defined defines) (one_word_a_place (placed_words defined) (each_place_once bytes defined defines))
+
+some_making : (work : Work) → IsAskedFor work → (text : List ℕ) × (status : Status) × Makes work text status
+unfolding IsAskedFor
+some_making NoForm asked = (words_line, BadWords, (refl, refl))
+some_making (ListSource assembly) asked = (listing assembly.bytes assembly.defined, Done, (refl, refl))
+some_making (PlayScript machine defined commands) (is, (bytes, defines)) =
+    let (image, image_is) = some_image_of bytes defined defines in
+    let (events, text, plays) = some_play machine (start_state machine image 0o4000) commands in
+    let (moments, run) = play_runs machine (start_state machine image 0o4000) commands events text plays in
+    (text, Done, (record { image = image; image_is = image_is; events = events; moments = moments; run = run; plays = plays }, refl))
+
+-- a script has one play on the words of a source
+one_play_of : (machine : Machine) (defined : List (Option PlacedWord)) (commands : List Plain) (text other : List ℕ) → IsMachine machine
+    → IsPlayOf machine defined commands text → IsPlayOf machine defined commands other → text ≡ other
+one_play_of machine defined commands text other is first second =
+    let same = one_image (placed_words defined) first.image second.image first.image_is second.image_is in
+    let plays : Plays machine (start_state machine first.image 0o4000) commands second.events other =
+    subst (λ (i : List (Option ℕ)). Plays machine (start_state machine i 0o4000) commands second.events other) (sym same) second.plays in
+    (one_play machine (start_state machine first.image 0o4000) commands first.events second.events text other is first.plays plays).1
+
+one_making : (work : Work) (text other : List ℕ) (status ended : Status) → IsAskedFor work → Makes work text status → Makes work other ended → (text ≡ other) × (status ≡ ended)
+unfolding IsAskedFor
+one_making NoForm text other status ended asked first second = (first.0 ∙ sym second.0, first.1 ∙ sym second.1)
+one_making (ListSource assembly) text other status ended asked first second = (first.0 ∙ sym second.0, first.1 ∙ sym second.1)
+one_making (PlayScript machine defined commands) text other status ended asked first second =
+    (one_play_of machine defined commands text other asked.0 first.0 second.0, first.1 ∙ sym second.1)
+
+are_doable : AreDoable program plan_of
+are_doable = record {
+  some = λ told arguments work ends. some_making work (asked_by told (command_of arguments) work ends);
+  one = λ told arguments work text other status ended ends first second. one_making work text other status ended (asked_by told (command_of arguments) work ends) first second;
+}
+
+-- ---- statuses
+
+made_of_content : (work : Work) (text : List ℕ) (status : Status) → Makes work text status → cause_of status ≡ cause.Content
+made_of_content NoForm text status made = ap cause_of made.1
+made_of_content (ListSource assembly) text status made = ap cause_of made.1
+made_of_content (PlayScript machine defined commands) text status made = ap cause_of made.1
+
+made_not_long : (work : Work) (text : List ℕ) → Makes work text LongFile → ⊥
+made_not_long NoForm text made = let is = made.1 in cc
+made_not_long (ListSource assembly) text made = let is = made.1 in cc
+made_not_long (PlayScript machine defined commands) text made = let is = made.1 in cc
+
+made_not_refused : (work : Work) (text : List ℕ) (kind : Kind) → Makes work text (refused_status kind) → ⊥
+made_not_refused NoForm text Source made = let is = made.1 in cc
+made_not_refused NoForm text (Script machine) made = let is = made.1 in cc
+made_not_refused (ListSource assembly) text Source made = let is = made.1 in cc
+made_not_refused (ListSource assembly) text (Script machine) made = let is = made.1 in cc
+made_not_refused (PlayScript machine defined commands) text Source made = let is = made.1 in cc
+made_not_refused (PlayScript machine defined commands) text (Script other) made = let is = made.1 in cc
+
+refused_of_content : (kind : Kind) → cause_of (refused_status kind) ≡ cause.Content
+refused_of_content Source = refl
+refused_of_content (Script machine) = refl
+
+refused_not_long : (kind : Kind) → refused_status kind ≢ LongFile
+refused_not_long Source = λ is. absurd cc
+refused_not_long (Script machine) = λ is. absurd cc
+
+are_apart : AreApart program
+are_apart = record {
+  absent = refl;
+  long = refl;
+  read_fault = refl;
+  write_fault = refl;
+  memory = refl;
+  refused = refused_of_content;
+  refused_not_long = refused_not_long;
+  made = made_of_content;
+  made_not_long = made_not_long;
+  made_not_refused = made_not_refused;
+}
+
+pub lawful_program : IsLawful program plan_of
+lawful_program = record { readable = are_readable; doable = are_doable; apart = are_apart }

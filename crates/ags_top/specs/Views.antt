@@ -1,0 +1,73 @@
+-- What clauses see of the program's own values.
+use Rattle.std.specs.Prelude.{◌≡◌, ℕ, ◌≤◌, List, All, length, map, Option}
+use Rattle.ags_asm.specs.declared.placed.Placed.{Placed}
+use Rattle.ags_asm.specs.Phase.{IsInMemory, defined}
+use Rattle.ags_asm.specs.Source.{AreSpans, IsAssembled, IsFaulty, Defines, placed_words}
+use Rattle.ags_image.specs.Image.{EachPlaceOnce}
+use Rattle.ags_plan.specs.declared.unloaded.Unloaded.{Unloaded}
+use Rattle.ags_plan.specs.declared.unloaded.Unloaded.TheVariants.{Refused, NoMemory}
+use Rattle.ags_run.specs.Playable.{IsPlayable}
+use Rattle.ags_top.specs.declared.command.Command.{Command}
+use Rattle.ags_top.specs.declared.command.Command.TheVariants as named
+use Rattle.ags_top.specs.declared.files.SourceFile.{SourceFile}
+use Rattle.ags_top.specs.declared.files.TheConstants.{SOURCE_LIMIT}
+use Rattle.ags_top.specs.declared.refusal.Refusal.{Refusal}
+use Rattle.ags_top.specs.declared.refusal.Refusal.TheVariants as refusal
+use Rattle.ags_top.specs.declared.status.Status.{Status}
+use Rattle.ags_top.specs.declared.status.Status.TheVariants.{BadSource, BadText}
+use Rattle.ags_top.specs.declared.works.Work.{Work}
+use Rattle.ags_top.specs.declared.works.Work.TheVariants as loaded
+use Rattle.ags_top.specs.Command as asked
+use Rattle.ags_top.specs.Files.{Assembly}
+use Rattle.ags_top.specs.Text.{fault_line, script_fault_line}
+use Rattle.ags_top.specs.Work as work
+
+-- a command without where its names lie in memory
+abbrev pub command_view : Command → asked.Command
+command_view (named.Assemble source) = asked.Assemble source.now
+command_view (named.Run source script) = asked.Run source.now script.now
+
+-- a source that was read, as its bytes and what its cards define
+abbrev pub assembly_of : SourceFile → Assembly
+assembly_of source = record { bytes = source.bytes.items; defined = map defined source.placed.items }
+
+-- a work without where it lies in memory
+abbrev pub work_of : Work → work.Work
+work_of loaded.NoForm = work.NoForm
+work_of (loaded.ListSource source) = work.ListSource (assembly_of source)
+work_of (loaded.PlayScript machine placed commands) = work.PlayScript machine (map defined placed.items) commands.items
+
+-- The cards are those of the source, which is within its limit.
+pub record IsSourceRead (bytes : List ℕ) (placed : List Placed) : Type 0 where
+  pub short : length bytes ≤ SOURCE_LIMIT
+  pub assembled : IsAssembled bytes placed
+  pub defines : Defines bytes (map defined placed)
+  pub spans : AreSpans 0 (length bytes) placed
+  pub within : All IsInMemory placed
+
+-- Why the bytes are no source that was read: its first fault, or want of memory.
+abbrev pub IsSourceUnread : (bytes : List ℕ) → Unloaded Refusal → Type 0
+IsSourceUnread bytes (Refused (refusal.Source error)) = IsFaulty bytes error
+IsSourceUnread bytes NoMemory = Unit {0}
+IsSourceUnread bytes _ = ⊥
+
+-- the cards' words are at places of the memory, no two at one
+pub record AreWordsApart (placed : List Placed) : Type 0 where
+  pub within : All IsInMemory placed
+  pub once : EachPlaceOnce (placed_words (map defined placed))
+
+-- what is so of a work that was loaded
+abbrev pub IsReady : Work → Type 0
+IsReady loaded.NoForm = Unit {0}
+IsReady (loaded.ListSource source) = IsSourceRead source.bytes.items source.placed.items
+IsReady (loaded.PlayScript machine placed commands) = AreWordsApart placed.items × IsPlayable machine commands.items
+
+-- the line of a refusal
+abbrev pub line_of : Refusal → List ℕ
+line_of (refusal.Source error) = fault_line error
+line_of (refusal.Script error) = script_fault_line error
+
+-- the status of a refusal
+abbrev pub status_of : Refusal → Status
+status_of (refusal.Source error) = BadSource
+status_of (refusal.Script error) = BadText

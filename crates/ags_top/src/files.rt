@@ -1,0 +1,83 @@
+//! The files that commands read, each fetched whole and then read.
+
+ghost use Rattle.std.specs.Prelude.{◌≡◌, ◌≤◌, IfOk, IfErr, false, length};
+ghost use Rattle.std.specs.Result.{result_map_both};
+ghost use Rattle.ags_outside.specs.Count.{HasCause};
+ghost use Rattle.ags_plan.specs.Loading.{LoadsFile, end_of, is_absence, is_read_fault};
+ghost use Rattle.ags_run.specs.Playable.{IsPlayable};
+ghost use Rattle.ags_top.specs.Files as file;
+ghost use Rattle.ags_top.specs.Program.{program};
+ghost use Rattle.ags_top.specs.Views.{IsSourceRead, IsSourceUnread, assembly_of, line_of, status_of};
+
+use crate::refusal::Refusal;
+use ags_asm::{AssembleError, Placed, assemble};
+use ags_outside::Shelf;
+use ags_plan::{Unloaded, fetch_file};
+use ags_ports::Machine;
+use ags_run::{Plain, SCRIPT_LIMIT, ScriptError, read_plain};
+use std::alloc::Global;
+
+/// The most bytes of a source.
+pub(crate) const SOURCE_LIMIT: usize = 4_194_304;
+
+/// A source that was read: its bytes, and its cards as they are placed.
+#[derive(Drop)]
+pub(crate) struct SourceFile {
+    /// The bytes of the file.
+    pub(crate) bytes: Vec<u8>,
+    /// A card for each of its lines.
+    pub(crate) placed: Vec<Placed>,
+}
+
+/// Reads a source's bytes.
+fn read_source<'a>(alloc: Global, bytes: Vec<u8>) -> Result<SourceFile, Unloaded<'a, Refusal>>
+    requires { length bytes.items ≤ SOURCE_LIMIT }
+    ensures ready { IfOk result (λ source. IsSourceRead source.bytes.items source.placed.items) }
+    ensures bytes { IfOk result (λ source. source.bytes.items ≡ bytes.items) }
+    ensures unread { IfErr result (IsSourceUnread bytes.items) }
+    ensures no_fault { is_read_fault result ≡ false }
+    ensures no_absence { is_absence result ≡ false }
+{
+    match assemble(alloc, &bytes) {
+        Ok(placed) => Ok(SourceFile { bytes, placed }),
+        Err(AssembleError::Source(error)) => Err(Unloaded::Refused(Refusal::Source(error))),
+        Err(AssembleError::NoMemory) => Err(Unloaded::NoMemory),
+    }
+}
+
+/// Loads the source of a name.
+pub(crate) fn load_source<'a, S: Shelf>(
+    alloc: Global,
+    name: &'a str,
+    shelf: &mut S,
+) -> Result<SourceFile, Unloaded<'a, Refusal>>
+    ensures same { S.told shelf.new ≡ S.told shelf.old }
+    ensures loads { LoadsFile program (S.told shelf.old) file.Source name.entry.now (result_map_both assembly_of (end_of program line_of status_of) result) }
+    ensures ready { IfOk result (λ source. IsSourceRead source.bytes.items source.placed.items) }
+    ensures faults { HasCause (S.faults shelf.old) (S.faults shelf.new) (is_read_fault result) }
+    ensures absences { HasCause (S.absences shelf.old) (S.absences shelf.new) (is_absence result) }
+{
+    let bytes = fetch_file(alloc, shelf, name, SOURCE_LIMIT as u64)?;
+    read_source(alloc, bytes)
+}
+
+/// Loads the script of a name, for a machine.
+pub(crate) fn load_script<'a, S: Shelf>(
+    alloc: Global,
+    machine: &Machine,
+    name: &'a str,
+    shelf: &mut S,
+) -> Result<Vec<Plain>, Unloaded<'a, Refusal>>
+    ensures same { S.told shelf.new ≡ S.told shelf.old }
+    ensures loads { LoadsFile program (S.told shelf.old) (file.Script machine.now) name.entry.now (result_map_both (λ commands. commands.items) (end_of program line_of status_of) result) }
+    ensures ready { IfOk result (λ commands. IsPlayable machine.now commands.items) }
+    ensures faults { HasCause (S.faults shelf.old) (S.faults shelf.new) (is_read_fault result) }
+    ensures absences { HasCause (S.absences shelf.old) (S.absences shelf.new) (is_absence result) }
+{
+    let bytes = fetch_file(alloc, shelf, name, SCRIPT_LIMIT as u64)?;
+    match read_plain(alloc, &bytes, machine) {
+        Ok(commands) => Ok(commands),
+        Err(ScriptError::NoMemory) => Err(Unloaded::NoMemory),
+        Err(error) => Err(Unloaded::Refused(Refusal::Script(error))),
+    }
+}

@@ -1,0 +1,105 @@
+//! The program as the walk along its plans sees it: how the files of a command line are loaded, and how a work is done.
+
+ghost use Rattle.std.specs.Prelude.{◌≡◌, IfOk, map};
+ghost use Rattle.std.specs.Result.{result_map_both};
+ghost use Rattle.std.specs.String.{string_bytes};
+ghost use Rattle.ags_outside.specs.Count.{HasCause};
+ghost use Rattle.ags_outside.specs.Send.{is_write_fault};
+ghost use Rattle.ags_plan.specs.Loading.{Loads, end_of, is_absence, is_read_fault};
+ghost use Rattle.ags_plan.specs.Plan.{WorkAt};
+ghost use Rattle.ags_plan.specs.Saying.{Says};
+ghost use Rattle.ags_top.specs.Program as definition;
+ghost use Rattle.ags_top.specs.Status as status;
+ghost use Rattle.ags_top.specs.Views as views;
+ghost use Rattle.ags_top.specs.Work as work;
+
+use crate::assemble_command::{list_source, load_listing};
+use crate::command::{Command, read_command};
+use crate::refusal::Refusal;
+use crate::run_command::{load_play, play_script};
+use crate::status::Status;
+use crate::works::Work;
+use ags_outside::{SendError, Shelf, Sink, send};
+use ags_plan::{Program, Stop, Unloaded};
+use ags_ports::Machine;
+use std::alloc::{AllocError, Global};
+
+/// The program `ags`.
+pub(crate) struct Ags;
+
+/// Says that the arguments are none of the forms.
+fn say_forms<K: Sink>(out: &mut K) -> Result<Status, SendError>
+    ensures says { Says definition.program (WorkAt work.NoForm) (K.told out.old) (K.told out.new) result }
+    ensures faults { HasCause (K.faults out.old) (K.faults out.new) (is_write_fault result) }
+{
+    send(out, b"WORDS\n")?;
+    Ok(Status::BadWords)
+}
+
+impl Program for Ags {
+    type Status = Status;
+
+    type Refusal = Refusal;
+
+    type Work = Work;
+
+    ghost definition = { definition.program };
+
+    ghost plan_of = { definition.plan_of };
+
+    ghost work_of = { views.work_of };
+
+    ghost ready = { views.IsReady };
+
+    ghost line_of = { views.line_of };
+
+    ghost status_of = { views.status_of };
+
+    fn stop_status(stop: Stop) -> Status {
+        match stop {
+            Stop::Absent => Status::AbsentFile,
+            Stop::TooLong => Status::LongFile,
+            Stop::ReadFault => Status::ReadFault,
+            Stop::WriteFault => Status::WriteFault,
+            Stop::NoMemory => Status::NoMemory,
+        }
+    }
+
+    fn refusal_status(refusal: &Refusal) -> Status {
+        refusal.status()
+    }
+
+    fn refusal_line(alloc: Global, refusal: &Refusal) -> Result<String, AllocError> {
+        refusal.line(alloc)
+    }
+
+    fn load<'a, S: Shelf>(
+        alloc: Global,
+        arguments: &'a [String],
+        shelf: &mut S,
+    ) -> Result<Work, Unloaded<'a, Refusal>> {
+        match read_command(arguments) {
+            Some(Command::Assemble(source)) => load_listing(alloc, source, shelf),
+            Some(Command::Run { source, script }) => {
+                load_play(alloc, Machine::standard(), source, script, shelf)
+            }
+            None => Ok(Work::NoForm),
+        }
+    }
+
+    fn perform<K: Sink>(alloc: Global, work: &Work, out: &mut K) -> Result<Status, SendError> {
+        match work {
+            Work::NoForm => say_forms(out),
+            Work::ListSource(source) => list_source(alloc, source, out),
+            Work::PlayScript {
+                machine,
+                placed,
+                commands,
+            } => play_script(alloc, machine, placed, commands, out),
+        }
+    }
+
+    ghost use Rattle.ags_top.specs.ProgramLaws.{lawful_program};
+
+    ghost lawful = { lawful_program };
+}

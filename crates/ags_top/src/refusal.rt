@@ -1,0 +1,41 @@
+//! Why a file is refused.
+
+ghost use Rattle.std.specs.Prelude.{◌≡◌, IfOk};
+ghost use Rattle.std.specs.String.{string_bytes};
+ghost use Rattle.ags_top.specs.Views.{line_of, status_of};
+
+use crate::status::Status;
+use ags_asm::SourceError;
+use ags_run::ScriptError;
+use std::alloc::{AllocError, Global};
+
+/// Why a file is refused: the first fault of its text.
+#[derive(Clone, Copy)]
+pub(crate) enum Refusal {
+    /// A source has this fault.
+    Source(SourceError),
+    /// A script has this fault.
+    Script(ScriptError),
+}
+
+impl Refusal {
+    /// Its status.
+    pub(crate) fn status(&self) -> Status
+        ensures { result ≡ status_of self.now }
+    {
+        match self {
+            Refusal::Source(_) => Status::BadSource,
+            Refusal::Script(_) => Status::BadText,
+        }
+    }
+
+    /// Its line.
+    pub(crate) fn line(&self, alloc: Global) -> Result<String, AllocError>
+        ensures { IfOk result (λ line. string_bytes line ≡ line_of self.now) }
+    {
+        match *self {
+            Refusal::Source(error) => format!(in alloc; "{error}\n"),
+            Refusal::Script(error) => format!(in alloc; "{error}\n"),
+        }
+    }
+}
