@@ -5,10 +5,11 @@ ghost use Rattle.std.specs.Io.KnownBytes.{ReadConsumes};
 ghost use Rattle.std.specs.IoError.{error_kind};
 ghost use Rattle.std.specs.Result.{result_ok};
 ghost use Rattle.std.specs.String.{string_bytes};
-ghost use Rattle.ags.specs.Answers.{count_of, faults_after};
-ghost use Rattle.ags.specs.Held.{IsAtItsEnd, ReadsOn, StaysOpen};
-ghost use Rattle.ags_outside.specs.Count.{Rose};
-ghost use Rattle.ags_outside.specs.Shelf.{GotWithin, IsCleanPull, absences_after};
+ghost use Rattle.ags_process.specs.Answers.{count_of, faults_after};
+ghost use Rattle.ags_process.specs.Held.{IsAtItsEnd, IsBroughtTo, ReadsOn, ReadsWhatStood, StaysOpen, StoodAt};
+ghost use Rattle.ags_outside.specs.Count.{HasCause, Rose};
+ghost use Rattle.ags_outside.specs.Shelf.{GotWithin, absences_after, is_absent_pull, is_failed_pull};
+ghost use Rattle.ags_outside.specs.ToldFile.{Untold};
 
 use ags_outside::{Pull, Shelf};
 use std::alloc::Global;
@@ -38,6 +39,7 @@ pub(crate) struct FileShelf<'a, R: Files> {
 fn go_to<F: Seek + Drop>(file: F, from: u64) -> io::Result<F>
     ensures there { IfOk result (λ there. F.stream_position file ≡ Some 0 → F.stream_position there ≡ Some from) }
     ensures start { from ≡ 0 → result ≡ Ok file }
+    ensures brought { IfOk result (IsBroughtTo F.stream_position F.stream_bytes file from) }
 {
     let mut file = file;
     if from != 0 {
@@ -62,6 +64,8 @@ fn read_more<F: Read>(file: &mut OpenFile<F>, into: &mut [u8]) -> io::Result<usi
 fn open_at<R: Files>(rt: &R, alloc: Global, name: &str, from: u64) -> io::Result<OpenFile<R::File>>
     ensures name { IfOk result (λ file. string_bytes file.name ≡ name.now) }
     ensures place { IfOk result (λ file. file.at ≡ from) }
+    // What is read on was opened, and then brought to the place.
+    ensures opened { IfOk result (λ file. (opened : R.File) × IsBroughtTo R.File.stream_position R.File.stream_bytes opened from file.file) }
 {
     let name = String::from_str(alloc, name)?;
     let file = go_to(fs::open(rt, name.as_str())?, from)?;
@@ -83,6 +87,7 @@ fn file_at<R: Files>(
     ensures name { IfOk result (λ file. string_bytes file.name ≡ name.now) }
     ensures place { IfOk result (λ file. file.at ≡ from) }
     ensures kept { IfSome held (λ file. file.at ≡ from → string_bytes file.name ≡ name.now → result ≡ Ok file) }
+    ensures stood { IfOk result (λ file. StoodAt R.File.stream_position R.File.stream_bytes held from file.file) }
 {
     match held {
         Some(file) if file.at == from && file.name.as_str() == name => Ok(file),
@@ -136,6 +141,7 @@ impl<'a, R: Files> FileShelf<'a, R> {
         ensures open { StaysOpen self.new.held name.now from (result_ok result) }
         ensures end { 0 < length into.old → IsAtItsEnd R.File.remaining self.new.held (result_ok result) }
         ensures bytes { ReadsOn R.File.remaining self.old.held self.new.held name.now from into.new (result_ok result) }
+        ensures source { ReadsWhatStood R.File.remaining R.File.stream_position R.File.stream_bytes self.old.held self.new.held from into.new (result_ok result) }
         ensures closed { OnErr result (self.new.held ≡ None) }
     {
         let mut file = file_at(self.rt, self.alloc, self.held.take(), name, from)?;
@@ -161,7 +167,7 @@ impl<'a, R: Files> FileShelf<'a, R> {
 }
 
 impl<R: Files> Shelf for FileShelf<'_, R> {
-    ghost told = { λ _ _. None };
+    ghost told = { λ _ _. Untold };
 
     ghost faults = { λ shelf. shelf.faults };
 
@@ -170,17 +176,18 @@ impl<R: Files> Shelf for FileShelf<'_, R> {
     fn pull(&mut self, name: &str, from: u64, into: &mut [u8]) -> Pull
         requires { 0 < length into.old }
         ensures got { GotWithin (length into.old) result }
-        ensures faults { self.new.faults ≡ faults_after self.old.faults result }
-        ensures absences { self.new.absences ≡ absences_after self.old.absences result }
-        ensures faults_stay { self.old.faults ≤ self.new.faults }
-        ensures absences_stay { self.old.absences ≤ self.new.absences }
+        ensures faults_counted { self.new.faults ≡ faults_after self.old.faults result }
+        ensures absences_counted { self.new.absences ≡ absences_after self.old.absences result }
         ensures absent { result ≡ Pull.Absent → Rose self.old.absences self.new.absences }
         ensures failed { result ≡ Pull.Failed → Rose self.old.faults self.new.faults }
-        ensures clean { IsCleanPull result (self.new.faults ≡ self.old.faults) (self.new.absences ≡ self.old.absences) }
+        ensures faults { HasCause self.old.faults self.new.faults (is_failed_pull result) }
+        ensures absences { HasCause self.old.absences self.new.absences (is_absent_pull result) }
         // Bytes and an end are those of a file of that name, and what is known of it bears them out.
         ensures open { StaysOpen self.new.held name.now from (count_of result) }
         ensures end { IsAtItsEnd R.File.remaining self.new.held (count_of result) }
         ensures bytes { ReadsOn R.File.remaining self.old.held self.new.held name.now from into.new (count_of result) }
+        // The first bytes of a file that was opened are those of what was opened, at the place that it was brought to.
+        ensures source { ReadsWhatStood R.File.remaining R.File.stream_position R.File.stream_bytes self.old.held self.new.held from into.new (count_of result) }
     {
         let answer = answer_to(self.read_on(name, from, into));
         self.count(answer);

@@ -4,9 +4,9 @@ ghost use Rattle.std.specs.Prelude.{◌≡◌, ◌≢◌, ◌<◌, ◌≤◌, []
 ghost use Rattle.std.specs.Io.Buffered.{writer_buffer, writer_contents, writer_inner};
 ghost use Rattle.std.specs.Io.KnownBytes.{Keeps};
 ghost use Rattle.std.specs.IoError.{error_kind};
-ghost use Rattle.ags.specs.Answers.{PutAppends};
-ghost use Rattle.ags_outside.specs.Count.{Rose};
-ghost use Rattle.ags_outside.specs.Sink.{IsCleanPut, TookWithin};
+ghost use Rattle.ags_process.specs.Answers.{PutAppends};
+ghost use Rattle.ags_outside.specs.Count.{HasCause, Rose};
+ghost use Rattle.ags_outside.specs.Sink.{TookWithin, is_failed_put};
 
 use ags_outside::{PutDone, Sink};
 use std::alloc::Global;
@@ -74,9 +74,8 @@ impl<W: Write + Drop> Sink for OutSink<W> {
         requires { 0 < length piece.now }
         ensures took { TookWithin (length piece.now) result }
         ensures bytes { PutAppends (writer_contents W.contents self.old.out) (writer_contents W.contents self.new.out) piece.now result }
-        ensures faults_stay { self.old.faults ≤ self.new.faults }
         ensures failed { result ≡ PutDone.Failed → Rose self.old.faults self.new.faults }
-        ensures clean { IsCleanPut result (self.new.faults ≡ self.old.faults) }
+        ensures faults { HasCause self.old.faults self.new.faults (is_failed_put result) }
     {
         let answer = answer_to(self.out.write(piece));
         if answer == PutDone::Failed {
