@@ -4,3 +4,4 @@ pub mod AnswerLemmas
 pub mod RunLemmas
 pub mod StatusLemmas
 pub mod LoadingLemmas
+mod TinyLemmas
