@@ -11,4 +11,5 @@ pub mod HaltLemmas
 pub mod ChangeLemmas
 pub mod IndicatorLemmas
 pub mod RunLemmas
+pub mod ExactLemmas
 pub mod Examples

@@ -6,3 +6,4 @@ pub mod Change
 pub mod Effect
 pub mod Step
 pub mod Run
+pub mod Exact

@@ -5,12 +5,13 @@
 #![tactic(auto)]
 
 mod events;
+pub mod exact_laws;
 pub mod laws;
 mod machines;
 mod registers;
 mod time_tables;
 
-pub use events::{Report, Event, Phase, Stored};
+pub use events::{Event, Phase, Report, Stored};
 pub use machines::Machine;
 pub use registers::{Port, Ports};
 pub use time_tables::Times;
