@@ -110,6 +110,7 @@ abbrev pub effective : State → Order → Bool → ℕ → ℕ
 effective s order indexed y = effective_at s.index order indexed y
 
 -- What an order does at an address y, where e is the address that it acts on and m the word of the cell there.
+-- Where a row names an operation, the new A and whether it overflows are the operation's.
 abbrev pub effect : Machine → State → Order → ℕ → ℕ → Effect
 -- A = m.
 effect machine s Cla e y = loads s (cell s e)
