@@ -1,10 +1,10 @@
 //! The orders that multiply and divide, and those that shift the pair of A and Q.
 
-ghost use Rattle.std.specs.Prelude.{◌≡◌, ◌<◌, ◌%◌, ◌^◌, false, not, pos, ◌*ℤ◌};
-ghost use Rattle.ags_word.specs.Word.{val};
-ghost use Rattle.ags_word.specs.Long.{long, shifted_right, fits_long, wrap_long, divided};
+ghost use Rattle.std.specs.Prelude.{◌≡◌, ◌<◌, ◌%◌};
+ghost use Rattle.ags_word.specs.Long.{long, shifted_right, wrap_long};
+ghost use Rattle.ags_word.specs.Operation.{product, product_high, quotient, shifted_left, long_left_high, long_right_high};
 ghost use Rattle.ags_ports.specs.State.{cell, next_location};
-ghost use Rattle.ags_ports.specs.Effect.{divides, overflowing, rounds_product, sets_pair, then_clears};
+ghost use Rattle.ags_ports.specs.Effect.{computes, overflowing, rounds_product, sets_pair, then_clears};
 ghost use Rattle.ags_core.specs.OrderReport.{Does};
 
 use crate::cores::Core;
@@ -15,8 +15,8 @@ impl Core {
     /// MPY: the pair becomes the product with the cell.
     pub(crate) fn mpy(&mut self, e: u16) -> OrderReport
         requires { e < 4096 }
-        ensures { let product = val self.old.a *ℤ val (cell self.old e) in
-            Does (sets_pair self.old product (not (fits_long product))) self.new result }
+        ensures { let m = cell self.old e in
+            Does (sets_pair product_high self.old m (product self.old.a m)) self.new result }
     {
         let (a, q, over) = self.a().multiply(self.cell(e));
         self.set_pair(a, q, over)
@@ -41,18 +41,19 @@ impl Core {
         OrderReport::of_store(reported.overflow, e, Word::ZERO)
     }
 
-    /// DVP: A becomes the quotient by the cell, if there is one.
+    /// DVP: A becomes the quotient by the cell; where there is none, A stays, and the order overflows.
     pub(crate) fn dvp(&mut self, e: u16) -> OrderReport
         requires { e < 4096 }
-        ensures { Does (divides self.old (divided (long self.old.a self.old.q) (cell self.old e))) self.new result }
+        ensures { Does (computes quotient self.old (cell self.old e)) self.new result }
     {
         let quotient = self.pair().divide(self.cell(e));
-        self.set_quotient(quotient)
+        self.set_a(quotient.unwrap_or(self.a), quotient.is_none())
     }
 
     /// LRS: the pair is shifted right.
     pub(crate) fn lrs(&mut self, y: u16) -> OrderReport
-        ensures { Does (sets_pair self.old (shifted_right (long self.old.a self.old.q) (y % 64)) false) self.new result }
+        ensures { let shifted = shifted_right (long self.old.a self.old.q) (y % 64) in
+            Does (sets_pair (long_right_high (y % 64)) self.old 0 shifted) self.new result }
     {
         let (a, q) = self.pair().lrs(u32::from(y % 64)).split();
         self.set_pair(a, q, false)
@@ -60,8 +61,8 @@ impl Core {
 
     /// LLS: the pair is shifted left.
     pub(crate) fn lls(&mut self, y: u16) -> OrderReport
-        ensures { let shifted = long self.old.a self.old.q *ℤ pos (2 ^ (y % 64)) in
-            Does (sets_pair self.old (wrap_long shifted) (not (fits_long shifted))) self.new result }
+        ensures { let left = wrap_long (shifted_left (y % 64) self.old.a self.old.q) in
+            Does (sets_pair (long_left_high (y % 64)) self.old 0 left) self.new result }
     {
         let (shifted, over) = self.pair().lls(u32::from(y % 64));
         let (a, q) = shifted.split();
@@ -83,19 +84,5 @@ impl Core {
         self.q = q;
         self.move_on();
         self.overflow(over)
-    }
-
-    /// Sets A to a quotient; where there is none, the order overflows.
-    fn set_quotient(&mut self, quotient: Option<Word>) -> OrderReport
-        ensures { Does (divides self.old quotient) self.new result }
-    {
-        self.move_on();
-        match quotient {
-            Some(word) => {
-                self.a = word;
-                OrderReport::of(false)
-            }
-            None => self.overflow(true),
-        }
     }
 }

@@ -1,9 +1,9 @@
 //! The orders that compute A alone.
 
-ghost use Rattle.std.specs.Prelude.{◌<◌, ◌%◌, ◌^◌, pos, ◌*ℤ◌, neg_ℤ, unsigned_abs};
-ghost use Rattle.ags_word.specs.Word.{val};
+ghost use Rattle.std.specs.Prelude.{◌<◌, ◌%◌};
+ghost use Rattle.ags_word.specs.Operation.{sum, difference, negative, size, left_shift};
 ghost use Rattle.ags_ports.specs.State.{cell, next_location};
-ghost use Rattle.ags_ports.specs.Effect.{adds, computes, overflowing, subtracts, then_clears};
+ghost use Rattle.ags_ports.specs.Effect.{computes, overflowing, then_clears};
 ghost use Rattle.ags_core.specs.OrderReport.{Does};
 
 use crate::cores::Core;
@@ -14,7 +14,7 @@ impl Core {
     /// ADD: the sum with the cell.
     pub(crate) fn add(&mut self, e: u16) -> OrderReport
         requires { e < 4096 }
-        ensures { Does (adds self.old (cell self.old e)) self.new result }
+        ensures { Does (computes sum self.old (cell self.old e)) self.new result }
     {
         let (word, over) = self.a().add(self.cell(e));
         self.set_a(word, over)
@@ -23,7 +23,7 @@ impl Core {
     /// SUB: A less the cell.
     pub(crate) fn sub(&mut self, e: u16) -> OrderReport
         requires { e < 4096 }
-        ensures { Does (subtracts self.old (cell self.old e)) self.new result }
+        ensures { Does (computes difference self.old (cell self.old e)) self.new result }
     {
         let (word, over) = self.a().sub(self.cell(e));
         self.set_a(word, over)
@@ -32,7 +32,7 @@ impl Core {
     /// ADZ: as ADD, and then the cell is cleared.
     pub(crate) fn adz(&mut self, e: u16) -> OrderReport
         requires { e < 4096 }
-        ensures { Does (then_clears (adds self.old (cell self.old e)) e) self.new result }
+        ensures { Does (then_clears (computes sum self.old (cell self.old e)) e) self.new result }
     {
         let reported = self.add(e);
         self.store(e, Word::ZERO);
@@ -42,7 +42,7 @@ impl Core {
     /// SUZ: as SUB, and then the cell is cleared.
     pub(crate) fn suz(&mut self, e: u16) -> OrderReport
         requires { e < 4096 }
-        ensures { Does (then_clears (subtracts self.old (cell self.old e)) e) self.new result }
+        ensures { Does (then_clears (computes difference self.old (cell self.old e)) e) self.new result }
     {
         let reported = self.sub(e);
         self.store(e, Word::ZERO);
@@ -51,7 +51,7 @@ impl Core {
 
     /// COM: the negative.
     pub(crate) fn com(&mut self) -> OrderReport
-        ensures { Does (computes self.old (neg_ℤ (val self.old.a))) self.new result }
+        ensures { Does (computes negative self.old 0) self.new result }
     {
         let (word, over) = self.a().com();
         self.set_a(word, over)
@@ -59,7 +59,7 @@ impl Core {
 
     /// ABS: the absolute value.
     pub(crate) fn abs(&mut self) -> OrderReport
-        ensures { Does (computes self.old (pos (unsigned_abs (val self.old.a)))) self.new result }
+        ensures { Does (computes size self.old 0) self.new result }
     {
         let (word, over) = self.a().abs();
         self.set_a(word, over)
@@ -67,14 +67,14 @@ impl Core {
 
     /// ALS: the left shift.
     pub(crate) fn als(&mut self, y: u16) -> OrderReport
-        ensures { Does (computes self.old (val self.old.a *ℤ pos (2 ^ (y % 64)))) self.new result }
+        ensures { Does (computes (left_shift (y % 64)) self.old 0) self.new result }
     {
         let (word, over) = self.a().als(u32::from(y % 64));
         self.set_a(word, over)
     }
 
     /// Sets A, and the indicator where the order overflowed.
-    fn set_a(&mut self, word: Word, over: bool) -> OrderReport
+    pub(crate) fn set_a(&mut self, word: Word, over: bool) -> OrderReport
         ensures { Does (overflowing over (record self.old { a = word; location = next_location self.old })) self.new result }
     {
         self.a = word;

@@ -4,7 +4,6 @@ use Rattle.std.specs.Prelude.{Bool, Option, Some, None, nat_eq, nat_lt, int_lt, 
 use Rattle.std.proofs.lemmas.Bool.Decides.{nat_tests}
 use Rattle.std.proofs.lemmas.List.{get_or-set_other}
 use Rattle.ags_word.specs.Word.{val}
-use Rattle.ags_word.specs.Long.{divided, long}
 use Rattle.ags_isa.specs.declared.orders.Order.{Order}
 use Rattle.ags_isa.specs.declared.orders.Order.TheVariants.{Abs, Add, Adz, Als, Axt, Cla, Clz, Com, Dly, Dvp, Inp, Ldq, Lls, Lrs, Mpr, Mpy, Mpz, Out, Sto, Stq, Sub, Suz, Tix, Tmi, Tov, Tra, Tsq}
 use Rattle.ags_isa.specs.declared.decoding.Decoded.{Decoded}
@@ -15,7 +14,7 @@ use Rattle.ags_ports.specs.declared.events.Event.TheVariants.{Step, Pulse, Put}
 use Rattle.ags_ports.specs.declared.events.Report.{Report}
 use Rattle.ags_ports.specs.declared.machines.Machine.{Machine}
 use Rattle.ags_ports.specs.State.{State, cell, written}
-use Rattle.ags_ports.specs.Effect.{effect, divides}
+use Rattle.ags_ports.specs.Effect.{effect}
 use Rattle.ags_ports.specs.Step.{Obeys, StepsIn, Steps}
 
 fixed_choice : (low : Bool) (cells : List ℕ) (address word at : ℕ) → (low ≡ true → at ≢ address)
@@ -33,10 +32,6 @@ chosen_cells : (b : Bool) (t u : State) (word at : ℕ) → cell t at ≡ word �
 chosen_cells true t u word at p r = p
 chosen_cells false t u word at p r = r
 
-divides_cells : (s : State) (quotient : Option ℕ) (at : ℕ) → cell ((divides s quotient).after) at ≡ cell s at
-divides_cells s None at = refl
-divides_cells s (Some w) at = refl
-
 effect_fixed : (machine : Machine) (s : State) (order : Order) (e y at : ℕ) → 2048 ≤ at → cell ((effect machine s order e y).after) at ≡ cell s at
 effect_fixed machine s Cla e y at fixed = refl
 effect_fixed machine s Ldq e y at fixed = refl
@@ -53,7 +48,7 @@ effect_fixed machine s Als e y at fixed = refl
 effect_fixed machine s Mpy e y at fixed = refl
 effect_fixed machine s Mpr e y at fixed = refl
 effect_fixed machine s Mpz e y at fixed = written_fixed s.cells e 0 at fixed
-effect_fixed machine s Dvp e y at fixed = divides_cells s (divided (long s.a s.q) (cell s e)) at
+effect_fixed machine s Dvp e y at fixed = refl
 effect_fixed machine s Lrs e y at fixed = refl
 effect_fixed machine s Lls e y at fixed = refl
 effect_fixed machine s Tra e y at fixed = refl

@@ -2,7 +2,6 @@
 use Rattle.std.proofs.Common.{◌≡◌, ℕ, true, false, refl, sym, ap, ◌∙◌}
 use Rattle.std.specs.Prelude.{Bool, Option, Some, None, nat_eq, int_lt, pos, if◌then◌else◌}
 use Rattle.ags_word.specs.Word.{val}
-use Rattle.ags_word.specs.Long.{divided, long}
 use Rattle.ags_isa.specs.declared.orders.Order.{Order}
 use Rattle.ags_isa.specs.declared.orders.Order.TheVariants.{Abs, Add, Adz, Als, Axt, Cla, Clz, Com, Dly, Dvp, Inp, Ldq, Lls, Lrs, Mpr, Mpy, Mpz, Out, Sto, Stq, Sub, Suz, Tix, Tmi, Tov, Tra, Tsq}
 use Rattle.ags_isa.specs.declared.decoding.Decoded.{Decoded}
@@ -13,8 +12,8 @@ use Rattle.ags_ports.specs.declared.events.Event.{Event}
 use Rattle.ags_ports.specs.declared.events.Event.TheVariants.{Step, Pulse, Put}
 use Rattle.ags_ports.specs.declared.events.Report.{Report}
 use Rattle.ags_ports.specs.declared.machines.Machine.{Machine}
-use Rattle.ags_ports.specs.State.{State, cell, word_here}
-use Rattle.ags_ports.specs.Effect.{Effect, effect, effective, divides, leaves}
+use Rattle.ags_ports.specs.State.{State, word_here}
+use Rattle.ags_ports.specs.Effect.{Effect, effect, effective, leaves}
 use Rattle.ags_ports.specs.Change.{stored_in, taken_from, given_to}
 use Rattle.ags_ports.specs.Step.{Obeys, StepsIn, Steps, Reads, idle_report}
 
@@ -28,10 +27,6 @@ told_choice : (machine : Machine) (s : State) (b : Bool) (t u : State) → IsTol
     → IsTold machine s (leaves (if b then t else u))
 told_choice machine s true t u p r = p
 told_choice machine s false t u p r = r
-
-told_quotient : (machine : Machine) (s : State) (quotient : Option ℕ) → IsTold machine s (divides s quotient)
-told_quotient machine s None = record { cells = refl; inputs = refl; outputs = refl }
-told_quotient machine s (Some w) = record { cells = refl; inputs = refl; outputs = refl }
 
 effect_told : (machine : Machine) (s : State) (order : Order) (e y : ℕ) → IsTold machine s (effect machine s order e y)
 effect_told machine s Cla e y = record { cells = refl; inputs = refl; outputs = refl }
@@ -49,7 +44,7 @@ effect_told machine s Als e y = record { cells = refl; inputs = refl; outputs = 
 effect_told machine s Mpy e y = record { cells = refl; inputs = refl; outputs = refl }
 effect_told machine s Mpr e y = record { cells = refl; inputs = refl; outputs = refl }
 effect_told machine s Mpz e y = record { cells = refl; inputs = refl; outputs = refl }
-effect_told machine s Dvp e y = told_quotient machine s (divided (long s.a s.q) (cell s e))
+effect_told machine s Dvp e y = record { cells = refl; inputs = refl; outputs = refl }
 effect_told machine s Lrs e y = record { cells = refl; inputs = refl; outputs = refl }
 effect_told machine s Lls e y = record { cells = refl; inputs = refl; outputs = refl }
 effect_told machine s Tra e y = record { cells = refl; inputs = refl; outputs = refl }

@@ -2,7 +2,6 @@
 use Rattle.std.proofs.Common.{◌≡◌, ◌≢◌, ℕ, refl, sym, ap, subst, ◌∙◌, ◌⊎◌, ⊎_elim, inl, inr}
 use Rattle.std.specs.Prelude.{Bool, true, false, Option, Some, None, nat_eq, int_lt, pos, if◌then◌else◌}
 use Rattle.ags_word.specs.Word.{val}
-use Rattle.ags_word.specs.Long.{divided, long}
 use Rattle.ags_isa.specs.declared.orders.Order.{Order}
 use Rattle.ags_isa.specs.declared.orders.Order.TheVariants.{Abs, Add, Adz, Als, Axt, Cla, Clz, Com, Dly, Dvp, Inp, Ldq, Lls, Lrs, Mpr, Mpy, Mpz, Out, Sto, Stq, Sub, Suz, Tix, Tmi, Tov, Tra, Tsq}
 use Rattle.ags_isa.specs.declared.decoding.Decoded.{Decoded}
@@ -13,17 +12,13 @@ use Rattle.ags_ports.specs.declared.events.Event.{Event}
 use Rattle.ags_ports.specs.declared.events.Event.TheVariants.{Step, Pulse, Put}
 use Rattle.ags_ports.specs.declared.events.Report.{Report}
 use Rattle.ags_ports.specs.declared.machines.Machine.{Machine}
-use Rattle.ags_ports.specs.State.{State, cell, word_here}
-use Rattle.ags_ports.specs.Effect.{effect, effective, divides}
+use Rattle.ags_ports.specs.State.{State, word_here}
+use Rattle.ags_ports.specs.Effect.{effect, effective}
 use Rattle.ags_ports.specs.Step.{Obeys, StepsIn, Steps, Reads, NamesNone, idle_report, phase_after_pulse}
 
 chosen_phase : (b : Bool) (t u : State) (phase : Phase) → t.phase ≡ phase → u.phase ≡ phase → (if b then t else u).phase ≡ phase
 chosen_phase true t u phase p r = p
 chosen_phase false t u phase p r = r
-
-divides_phase : (s : State) (quotient : Option ℕ) → (divides s quotient).after.phase ≡ s.phase
-divides_phase s None = refl
-divides_phase s (Some w) = refl
 
 -- an order lets the phase be, or it is DLY
 effect_phase : (machine : Machine) (s : State) (order : Order) (e y : ℕ)
@@ -43,7 +38,7 @@ effect_phase machine s Als e y = inl refl
 effect_phase machine s Mpy e y = inl refl
 effect_phase machine s Mpr e y = inl refl
 effect_phase machine s Mpz e y = inl refl
-effect_phase machine s Dvp e y = inl (divides_phase s (divided (long s.a s.q) (cell s e)))
+effect_phase machine s Dvp e y = inl refl
 effect_phase machine s Lrs e y = inl refl
 effect_phase machine s Lls e y = inl refl
 effect_phase machine s Tra e y = inl refl

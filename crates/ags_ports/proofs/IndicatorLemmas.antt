@@ -2,7 +2,6 @@
 use Rattle.std.proofs.Common.{◌≡◌, ◌≢◌, ℕ, true, false, refl, sym, ap, subst, ◌∙◌, ◌⊎◌, ⊎_elim, inl, inr}
 use Rattle.std.specs.Prelude.{Bool, Option, Some, None, nat_eq, int_lt, pos, ◌||◌, if◌then◌else◌}
 use Rattle.ags_word.specs.Word.{val}
-use Rattle.ags_word.specs.Long.{divided, long}
 use Rattle.ags_isa.specs.declared.orders.Order.{Order}
 use Rattle.ags_isa.specs.declared.orders.Order.TheVariants.{Abs, Add, Adz, Als, Axt, Cla, Clz, Com, Dly, Dvp, Inp, Ldq, Lls, Lrs, Mpr, Mpy, Mpz, Out, Sto, Stq, Sub, Suz, Tix, Tmi, Tov, Tra, Tsq}
 use Rattle.ags_isa.specs.declared.decoding.Decoded.{Decoded}
@@ -13,8 +12,8 @@ use Rattle.ags_ports.specs.declared.events.Event.{Event}
 use Rattle.ags_ports.specs.declared.events.Event.TheVariants.{Step, Pulse, Put}
 use Rattle.ags_ports.specs.declared.events.Report.{Report}
 use Rattle.ags_ports.specs.declared.machines.Machine.{Machine}
-use Rattle.ags_ports.specs.State.{State, cell, word_here}
-use Rattle.ags_ports.specs.Effect.{Effect, effect, effective, divides}
+use Rattle.ags_ports.specs.State.{State, word_here}
+use Rattle.ags_ports.specs.Effect.{Effect, effect, effective}
 use Rattle.ags_ports.specs.Step.{Obeys, StepsIn, Steps, Reads}
 
 -- the indicator stays where it was set, and is set where the order overflows
@@ -28,10 +27,6 @@ or_nothing false = refl
 chosen_indicator : (b : Bool) (t u : State) (indicator : Bool) → t.indicator ≡ indicator → u.indicator ≡ indicator → (if b then t else u).indicator ≡ (indicator || false)
 chosen_indicator true t u indicator p r = p ∙ or_nothing indicator
 chosen_indicator false t u indicator p r = r ∙ or_nothing indicator
-
-divides_indicator : (s : State) (quotient : Option ℕ) → Keeps s (divides s quotient)
-divides_indicator s None = refl
-divides_indicator s (Some w) = or_nothing s.indicator
 
 effect_indicator : (machine : Machine) (s : State) (order : Order) (e y : ℕ) → order ≢ Tov → Keeps s (effect machine s order e y)
 effect_indicator machine s Cla e y other = or_nothing s.indicator
@@ -49,7 +44,7 @@ effect_indicator machine s Als e y other = refl
 effect_indicator machine s Mpy e y other = refl
 effect_indicator machine s Mpr e y other = refl
 effect_indicator machine s Mpz e y other = refl
-effect_indicator machine s Dvp e y other = divides_indicator s (divided (long s.a s.q) (cell s e))
+effect_indicator machine s Dvp e y other = refl
 effect_indicator machine s Lrs e y other = refl
 effect_indicator machine s Lls e y other = refl
 effect_indicator machine s Tra e y other = or_nothing s.indicator

@@ -12,4 +12,5 @@ pub mod ChangeLemmas
 pub mod IndicatorLemmas
 pub mod OrderTimeLemmas
 pub mod RunLemmas
+pub mod ExactLemmas
 pub mod Examples

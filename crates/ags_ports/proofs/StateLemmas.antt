@@ -1,7 +1,7 @@
 -- A step keeps a state in its ranges. The crates above cite:
 --     step_keeps    a step keeps each part of a state in its range
 use Rattle.std.proofs.Common.{◌≡◌, ℕ, ◌-◌, ◌%◌, ◌<◌, ◌^◌, true, false, refl, sym, subst, ◌∙◌, ⊎_elim, arith, List, length, get_or, set, All}
-use Rattle.std.specs.Prelude.{Bool, Option, Some, None, IfSome, nat_lt, bit_or, int_div, ℤ, pos, ◌||◌, ◌&&◌, slice_get, if◌then◌else◌}
+use Rattle.std.specs.Prelude.{Bool, Option, Some, None, IfSome, unwrap_or, nat_lt, bit_or, int_div, ℤ, pos, ◌&&◌, slice_get, if◌then◌else◌}
 use Rattle.std.specs.Ordering.{int_eq}
 use Rattle.std.proofs.lemmas.Bool.{cases_lt}
 use Rattle.std.proofs.lemmas.Nat.{or_lt}
@@ -10,6 +10,7 @@ use Rattle.std.proofs.Math.ListN.{get_or-eq_default}
 use Rattle.std.proofs.lemmas.List.Elements.{All-set}
 use Rattle.ags_word.specs.Word.{val, fits, wrap, word_of_value}
 use Rattle.ags_word.specs.Long.{divided, long}
+use Rattle.ags_word.specs.Operation.{sum, difference}
 use Rattle.ags_word.proofs.WordLaws.{wrap_below}
 use Rattle.ags_word.proofs.LongLaws.{pair_a_below, pair_q_below}
 use Rattle.ags_isa.specs.declared.orders.Order.{Order}
@@ -27,7 +28,7 @@ use Rattle.ags_ports.specs.declared.machines.Machine.{Machine}
 use Rattle.ags_ports.specs.Machine.{IsMachine}
 use Rattle.ags_ports.specs.Port.{place_of, register_at, set_at, read_at, is_once}
 use Rattle.ags_ports.specs.State.{State, IsState, cell, word_here, next_location, written}
-use Rattle.ags_ports.specs.Effect.{Effect, effect, effective, counts_index, divides, then_stores, leaves, moved_on, loads, adds, subtracts, rounds_product}
+use Rattle.ags_ports.specs.Effect.{Effect, effect, effective, counts_index, then_stores, leaves, moved_on, loads, computes, rounds_product}
 use Rattle.ags_ports.specs.Step.{IsEvent, Obeys, StepsIn, Steps, phase_after_pulse}
 
 -- ---- lists of words
@@ -109,10 +110,6 @@ module _ (machine : Machine) (s : State) (is : IsState machine s) where
   chosen true t u p r = p
   chosen false t u p r = r
 
-  divides_keeps : (quotient : Option ℕ) → IfSome quotient (λ w. w < 2 ^ 18) → IsState machine ((divides s quotient).after)
-  divides_keeps None h = sets_a s.a (s.indicator || true) is.a
-  divides_keeps (Some w) h = sets_a w s.indicator h
-
 -- a store after an order
 stores_keeps : (machine : Machine) (report : Effect) (address word : ℕ) → IsState machine report.after → word < 2 ^ 18 → IsState machine ((then_stores report address word).after)
 stores_keeps machine report address word is below = record { a = is.a; q = is.q; index = is.index; location = is.location; cells_count = written_length report.after.cells address word ∙ is.cells_count; cells = written_words report.after.cells address word is.cells below; inputs_count = is.inputs_count; inputs = is.inputs; outputs_count = is.outputs_count; outputs = is.outputs }
@@ -127,6 +124,10 @@ divided_below : (n : ℤ) (m : ℕ) → IfSome (divided n m) (λ w. w < 2 ^ 18)
 unfolding divided word_of_value
 divided_below n m = chosen_word (int_eq (val m) (pos 0)) (fits (int_div n (val m))) (wrap (int_div n (val m))) (wrap_below (int_div n (val m)))
 
+quotient_below : (found : Option ℕ) (a : ℕ) → IfSome found (λ w. w < 2 ^ 18) → a < 2 ^ 18 → unwrap_or found a < 2 ^ 18
+quotient_below None a h below = below
+quotient_below (Some w) a h below = h
+
 -- ---- each order keeps a state
 
 effect_keeps : (machine : Machine) (s : State) (order : Order) (e y : ℕ) → IsMachine machine → IsState machine s → e < 4096 → y < 4096 → IsState machine ((effect machine s order e y).after)
@@ -137,15 +138,15 @@ effect_keeps machine s Stq e y h is e_below y_below = stores_keeps machine (leav
 effect_keeps machine s Add e y h is e_below y_below = sets_a machine s is _ _ (wrap_below _)
 effect_keeps machine s Sub e y h is e_below y_below = sets_a machine s is _ _ (wrap_below _)
 effect_keeps machine s Clz e y h is e_below y_below = stores_keeps machine (loads s (cell s e)) e 0 (sets_a machine s is (cell s e) s.indicator (cell_below machine s is e)) (omega arith)
-effect_keeps machine s Adz e y h is e_below y_below = stores_keeps machine (adds s (cell s e)) e 0 (sets_a machine s is _ _ (wrap_below _)) (omega arith)
-effect_keeps machine s Suz e y h is e_below y_below = stores_keeps machine (subtracts s (cell s e)) e 0 (sets_a machine s is _ _ (wrap_below _)) (omega arith)
+effect_keeps machine s Adz e y h is e_below y_below = stores_keeps machine (computes sum s (cell s e)) e 0 (sets_a machine s is _ _ (wrap_below _)) (omega arith)
+effect_keeps machine s Suz e y h is e_below y_below = stores_keeps machine (computes difference s (cell s e)) e 0 (sets_a machine s is _ _ (wrap_below _)) (omega arith)
 effect_keeps machine s Com e y h is e_below y_below = sets_a machine s is _ _ (wrap_below _)
 effect_keeps machine s Abs e y h is e_below y_below = sets_a machine s is _ _ (wrap_below _)
 effect_keeps machine s Als e y h is e_below y_below = sets_a machine s is _ _ (wrap_below _)
 effect_keeps machine s Mpy e y h is e_below y_below = goes_on machine s is _ _ _ (pair_a_below _) (pair_q_below _)
 effect_keeps machine s Mpr e y h is e_below y_below = goes_on machine s is _ _ _ (wrap_below _) (pair_q_below _)
 effect_keeps machine s Mpz e y h is e_below y_below = stores_keeps machine (rounds_product s (cell s e)) e 0 (goes_on machine s is _ _ _ (wrap_below _) (pair_q_below _)) (omega arith)
-effect_keeps machine s Dvp e y h is e_below y_below = divides_keeps machine s is (divided (long s.a s.q) (cell s e)) (divided_below (long s.a s.q) (cell s e))
+effect_keeps machine s Dvp e y h is e_below y_below = sets_a machine s is _ _ (quotient_below (divided (long s.a s.q) (cell s e)) s.a (divided_below (long s.a s.q) (cell s e)) is.a)
 effect_keeps machine s Lrs e y h is e_below y_below = goes_on machine s is _ _ _ (pair_a_below _) (pair_q_below _)
 effect_keeps machine s Lls e y h is e_below y_below = goes_on machine s is _ _ _ (pair_a_below _) (pair_q_below _)
 effect_keeps machine s Tra e y h is e_below y_below = goes_to machine s is s.indicator e e_below

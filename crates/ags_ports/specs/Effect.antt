@@ -1,7 +1,8 @@
 -- What each order does: one equation for each of the 27.
-use Rattle.std.specs.Prelude.{ℕ, ◌-◌, ◌%◌, ◌^◌, Bool, true, false, not, ◌&&◌, ◌||◌, ℤ, pos, ◌+ℤ◌, ◌-ℤ◌, ◌*ℤ◌, neg_ℤ, int_lt, unsigned_abs, nat_eq, bit_or, Option, Some, None, if◌then◌else◌}
-use Rattle.ags_word.specs.Word.{val, fits, wrap}
-use Rattle.ags_word.specs.Long.{long, pair, shifted_right, fits_long, wrap_long, divided}
+use Rattle.std.specs.Prelude.{ℕ, ◌-◌, ◌%◌, Bool, true, false, ◌&&◌, ◌||◌, ℤ, pos, int_lt, nat_eq, bit_or, Option, Some, None, if◌then◌else◌}
+use Rattle.ags_word.specs.Word.{val}
+use Rattle.ags_word.specs.Long.{long, pair, shifted_right, wrap_long}
+use Rattle.ags_word.specs.Operation.{Operation, sum, difference, negative, size, left_shift, product, product_high, product_rounded, quotient, shifted_left, long_left_high, long_right_high}
 use Rattle.ags_isa.specs.declared.orders.Order.{Order}
 use Rattle.ags_isa.specs.declared.orders.Order.TheVariants.{Abs, Add, Adz, Als, Axt, Cla, Clz, Com, Dly, Dvp, Inp, Ldq, Lls, Lrs, Mpr, Mpy, Mpz, Out, Sto, Stq, Sub, Suz, Tix, Tmi, Tov, Tra, Tsq}
 use Rattle.ags_isa.specs.Naming.{order_word}
@@ -44,14 +45,17 @@ overflowing over after = record {
   gave = None;
 }
 
--- A becomes the word of a number, and it overflows where the number doesn't fit
-abbrev pub computes : State → ℤ → Effect
-computes s number = overflowing (not (fits number)) (record s { a = wrap number; location = next_location s })
+-- an operation is made on A with a word m, and Q stays; an operation that takes no cell is handed the word 0
+abbrev pub computes : Operation → State → ℕ → Effect
+computes operation s m = overflowing (operation.overflows s.a s.q m) (record s {
+  a = operation.new_a s.a s.q m;
+  location = next_location s;
+})
 
--- the pair of A and Q is set to a number, and it overflows or not
-abbrev pub sets_pair : State → ℤ → Bool → Effect
-sets_pair s number over = overflowing over (record s {
-  a = (pair number).0;
+-- so it is, and Q becomes that of the pair that a number sets
+abbrev pub sets_pair : Operation → State → ℕ → ℤ → Effect
+sets_pair operation s m number = overflowing (operation.overflows s.a s.q m) (record s {
+  a = operation.new_a s.a s.q m;
   q = (pair number).1;
   location = next_location s;
 })
@@ -76,27 +80,9 @@ then_clears done address = then_stores done address 0
 abbrev pub loads : State → ℕ → Effect
 loads s m = leaves (record s { a = m; location = next_location s })
 
--- A becomes the word of val A plus val m, and it overflows where that doesn't fit
-abbrev pub adds : State → ℕ → Effect
-adds s m = computes s (val s.a +ℤ val m)
-
--- A becomes the word of val A less val m, and it overflows where that doesn't fit
-abbrev pub subtracts : State → ℕ → Effect
-subtracts s m = computes s (val s.a -ℤ val m)
-
--- A becomes the word of the product over 2 ^ 17, to the nearest whole number and a half upward; Q becomes that of the
--- pair that the product sets, and it overflows where the product is no number of a pair
+-- A becomes the rounded product with m, and Q is that of the pair that the product sets
 abbrev pub rounds_product : State → ℕ → Effect
-rounds_product s m = let product = val s.a *ℤ val m in overflowing (not (fits_long product)) (record s {
-  a = wrap (shifted_right (product +ℤ pos (2 ^ 16)) 17);
-  q = (pair product).1;
-  location = next_location s;
-})
-
--- A is the quotient, where there is one; where there is none it stays, and it overflows
-abbrev pub divides : State → Option ℕ → Effect
-divides s None = overflowing true (moved_on s)
-divides s (Some quotient) = leaves (record s { a = quotient; location = next_location s })
+rounds_product s m = sets_pair product_rounded s m (product s.a m)
 
 -- ---- the table
 
@@ -116,10 +102,15 @@ counts_index _ = true
 
 -- The address that an order acts on: its own one, and where the index bit is set and counts, the bits of that address
 -- and of the index register together.
+abbrev pub effective_at : (index : ℕ) → Order → Bool → ℕ → ℕ
+effective_at index order indexed y = if indexed && counts_index order then bit_or y index else y
+
+-- the address that an order acts on in a state
 abbrev pub effective : State → Order → Bool → ℕ → ℕ
-effective s order indexed y = if indexed && counts_index order then bit_or y s.index else y
+effective s order indexed y = effective_at s.index order indexed y
 
 -- What an order does at an address y, where e is the address that it acts on and m the word of the cell there.
+-- Where a row names an operation, the new A and whether it overflows are the operation's.
 abbrev pub effect : Machine → State → Order → ℕ → ℕ → Effect
 -- A = m.
 effect machine s Cla e y = loads s (cell s e)
@@ -128,32 +119,30 @@ effect machine s Ldq e y = leaves (record s { q = cell s e; location = next_loca
 -- The cell becomes A, or Q.
 effect machine s Sto e y = then_stores (leaves (moved_on s)) e s.a
 effect machine s Stq e y = then_stores (leaves (moved_on s)) e s.q
--- A = the word of val A plus val m, or less it; it overflows where that doesn't fit.
-effect machine s Add e y = adds s (cell s e)
-effect machine s Sub e y = subtracts s (cell s e)
+-- A = the sum of A and m, or A less m.
+effect machine s Add e y = computes sum s (cell s e)
+effect machine s Sub e y = computes difference s (cell s e)
 -- As CLA, ADD and SUB with the old m; then the cell becomes 0.
 effect machine s Clz e y = then_clears (loads s (cell s e)) e
-effect machine s Adz e y = then_clears (adds s (cell s e)) e
-effect machine s Suz e y = then_clears (subtracts s (cell s e)) e
--- A = the word of the negative of val A, or of its size.
-effect machine s Com e y = computes s (neg_ℤ (val s.a))
-effect machine s Abs e y = computes s (pos (unsigned_abs (val s.a)))
--- A = the word of val A times 2 to the count, which is y modulo 64.
-effect machine s Als e y = computes s (val s.a *ℤ pos (2 ^ (y % 64)))
--- The pair is set to val A times val m; it overflows where that is no number of a pair.
-effect machine s Mpy e y = let product = val s.a *ℤ val (cell s e) in
-    sets_pair s product (not (fits_long product))
+effect machine s Adz e y = then_clears (computes sum s (cell s e)) e
+effect machine s Suz e y = then_clears (computes difference s (cell s e)) e
+-- A = the negative of A, or its size.
+effect machine s Com e y = computes negative s 0
+effect machine s Abs e y = computes size s 0
+-- A = A shifted to the left by the count, which is y modulo 64.
+effect machine s Als e y = computes (left_shift (y % 64)) s 0
+-- The pair is set to the product of A and m.
+effect machine s Mpy e y = sets_pair product_high s (cell s e) (product s.a (cell s e))
 -- A = the rounded product, Q as MPY leaves it; it overflows as MPY.
 effect machine s Mpr e y = rounds_product s (cell s e)
 -- As MPR with the old m; then the cell becomes 0.
 effect machine s Mpz e y = then_clears (rounds_product s (cell s e)) e
--- A = the pair's number over val m, cut off toward zero; by 0, or where that doesn't fit, A stays and it overflows.
-effect machine s Dvp e y = divides s (divided (long s.a s.q) (cell s e))
+-- A = the quotient of the pair by m, cut off toward zero; where there is none, A stays.
+effect machine s Dvp e y = computes quotient s (cell s e)
 -- The pair is set to its number over 2 to the count, rounded down.
-effect machine s Lrs e y = sets_pair s (shifted_right (long s.a s.q) (y % 64)) false
--- The pair is set to what is left of its number times 2 to the count; it overflows where that is no number of a pair.
-effect machine s Lls e y = let shifted = long s.a s.q *ℤ pos (2 ^ (y % 64)) in
-    sets_pair s (wrap_long shifted) (not (fits_long shifted))
+effect machine s Lrs e y = sets_pair (long_right_high (y % 64)) s 0 (shifted_right (long s.a s.q) (y % 64))
+-- The pair is set to what is left of its number times 2 to the count.
+effect machine s Lls e y = sets_pair (long_left_high (y % 64)) s 0 (wrap_long (shifted_left (y % 64) s.a s.q))
 -- Goes to e.
 effect machine s Tra e y = leaves (gone_to s e)
 -- Goes to e where val A is negative.

@@ -8,3 +8,4 @@ pub mod Effect
 pub mod Step
 pub mod OrderTime
 pub mod Run
+pub mod Exact
