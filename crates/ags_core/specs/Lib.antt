@@ -1,2 +1,5 @@
+-- what the public contracts cite
 pub mod Core
+
+-- what serves inside
 pub mod OrderReport

@@ -14,7 +14,7 @@ use Rattle.ags_ports.specs.declared.events.Event.{Event}
 use Rattle.ags_ports.specs.declared.events.Event.TheVariants.{Step, Pulse, Put}
 use Rattle.ags_ports.specs.declared.events.Report.{Report}
 use Rattle.ags_ports.specs.declared.machines.Machine.{Machine}
-use Rattle.ags_ports.specs.State.{State, cell, written}
+use Rattle.ags_ports.specs.State.{State, cell, cells_with_word}
 use Rattle.ags_ports.specs.Effect.{effect, divides}
 use Rattle.ags_ports.specs.Step.{Obeys, StepsIn, Steps}
 
@@ -26,7 +26,7 @@ fixed_choice false cells address word at differ = refl
 below_half : (address at : ℕ) → 2048 ≤ at → nat_lt address 2048 ≡ true → at ≢ address
 below_half address at fixed low same = grind (arith, nat_tests)
 
-pub written_fixed : (cells : List ℕ) (address word at : ℕ) → 2048 ≤ at → get_or (written cells address word) at 0 ≡ get_or cells at 0
+pub written_fixed : (cells : List ℕ) (address word at : ℕ) → 2048 ≤ at → get_or (cells_with_word cells address word) at 0 ≡ get_or cells at 0
 written_fixed cells address word at fixed = fixed_choice (nat_lt address 2048) cells address word at (below_half address at fixed)
 
 chosen_cells : (b : Bool) (t u : State) (word at : ℕ) → cell t at ≡ word → cell u at ≡ word → cell (if b then t else u) at ≡ word

@@ -15,14 +15,14 @@ use Rattle.ags_ports.specs.declared.events.Report.{Report}
 use Rattle.ags_ports.specs.declared.machines.Machine.{Machine}
 use Rattle.ags_ports.specs.State.{State, cell, word_here}
 use Rattle.ags_ports.specs.Effect.{Effect, effect, effective, divides, leaves}
-use Rattle.ags_ports.specs.Change.{stored_in, taken_from, given_to}
+use Rattle.ags_ports.specs.Change.{cells_after_store, inputs_after_take, outputs_after_give}
 use Rattle.ags_ports.specs.Step.{Obeys, StepsIn, Steps, Reads, idle_report}
 
 -- an effect changes the cells and the registers as it tells
 record IsTold (machine : Machine) (s : State) (does : Effect) : Type 0 where
-  cells : does.after.cells ≡ stored_in s.cells does.stored
-  inputs : does.after.inputs ≡ taken_from machine.ports.inputs s.inputs does.took
-  outputs : does.after.outputs ≡ given_to machine.ports.outputs s.outputs does.gave
+  cells : does.after.cells ≡ cells_after_store s.cells does.stored
+  inputs : does.after.inputs ≡ inputs_after_take machine.ports.inputs s.inputs does.took
+  outputs : does.after.outputs ≡ outputs_after_give machine.ports.outputs s.outputs does.gave
 
 told_choice : (machine : Machine) (s : State) (b : Bool) (t u : State) → IsTold machine s (leaves t) → IsTold machine s (leaves u)
     → IsTold machine s (leaves (if b then t else u))
@@ -69,25 +69,25 @@ effect_told machine s Dly e y = record { cells = refl; inputs = refl; outputs = 
 
 -- what is told and what is left are those of an effect that tells what it changes
 record Tells (machine : Machine) (s : State) (report : Report) (after : State) : Type 0 where
-  cells : after.cells ≡ stored_in s.cells report.stored
-  inputs : after.inputs ≡ taken_from machine.ports.inputs s.inputs report.took
-  outputs : after.outputs ≡ given_to machine.ports.outputs s.outputs report.gave
+  cells : after.cells ≡ cells_after_store s.cells report.stored
+  inputs : after.inputs ≡ inputs_after_take machine.ports.inputs s.inputs report.took
+  outputs : after.outputs ≡ outputs_after_give machine.ports.outputs s.outputs report.gave
 
 unchanged_told : (machine : Machine) (s : State) (report : Report) (after : State) → report ≡ idle_report s → after.cells ≡ s.cells → after.inputs ≡ s.inputs
     → after.outputs ≡ s.outputs → Tells machine s report after
 unchanged_told machine s report after told cells inputs outputs = record {
-  cells = cells ∙ sym (ap (λ (v : Report). stored_in s.cells v.stored) told);
-  inputs = inputs ∙ sym (ap (λ (v : Report). taken_from machine.ports.inputs s.inputs v.took) told);
-  outputs = outputs ∙ sym (ap (λ (v : Report). given_to machine.ports.outputs s.outputs v.gave) told);
+  cells = cells ∙ sym (ap (λ (v : Report). cells_after_store s.cells v.stored) told);
+  inputs = inputs ∙ sym (ap (λ (v : Report). inputs_after_take machine.ports.inputs s.inputs v.took) told);
+  outputs = outputs ∙ sym (ap (λ (v : Report). outputs_after_give machine.ports.outputs s.outputs v.gave) told);
 }
 
 obeys_told : (machine : Machine) (s : State) (named : Option Decoded) (report : Report) (after : State) → Obeys machine s named report after → Tells machine s report after
 obeys_told machine s (Some d) report after p =
     let told = effect_told machine s d.order (effective s d.order d.indexed d.address) d.address in
     record {
-      cells = ap (λ (v : State). v.cells) p.1 ∙ told.cells ∙ sym (ap (λ (v : Report). stored_in s.cells v.stored) p.0);
-      inputs = ap (λ (v : State). v.inputs) p.1 ∙ told.inputs ∙ sym (ap (λ (v : Report). taken_from machine.ports.inputs s.inputs v.took) p.0);
-      outputs = ap (λ (v : State). v.outputs) p.1 ∙ told.outputs ∙ sym (ap (λ (v : Report). given_to machine.ports.outputs s.outputs v.gave) p.0);
+      cells = ap (λ (v : State). v.cells) p.1 ∙ told.cells ∙ sym (ap (λ (v : Report). cells_after_store s.cells v.stored) p.0);
+      inputs = ap (λ (v : State). v.inputs) p.1 ∙ told.inputs ∙ sym (ap (λ (v : Report). inputs_after_take machine.ports.inputs s.inputs v.took) p.0);
+      outputs = ap (λ (v : State). v.outputs) p.1 ∙ told.outputs ∙ sym (ap (λ (v : Report). outputs_after_give machine.ports.outputs s.outputs v.gave) p.0);
     }
 obeys_told machine s None report after p = unchanged_told machine s report after p.0 (ap (λ (v : State). v.cells) p.1) (ap (λ (v : State). v.inputs) p.1) (ap (λ (v : State). v.outputs) p.1)
 
@@ -97,20 +97,20 @@ step_in_told Waiting machine s report after p = unchanged_told machine s report 
 step_in_told Halted machine s report after p = unchanged_told machine s report after p.0 (ap (λ (v : State). v.cells) p.1) (ap (λ (v : State). v.inputs) p.1) (ap (λ (v : State). v.outputs) p.1)
 
 pub cells_told : (machine : Machine) (s : State) (event : Event) (report : Report) (after : State) → Steps machine s event report after
-    → after.cells ≡ stored_in s.cells report.stored
+    → after.cells ≡ cells_after_store s.cells report.stored
 cells_told machine s Step report after p = (step_in_told s.phase machine s report after p).cells
-cells_told machine s Pulse report after p = ap (λ (v : State). v.cells) p.1 ∙ sym (ap (λ (v : Report). stored_in s.cells v.stored) p.0)
-cells_told machine s (Put address word) report after p = ap (λ (v : State). v.cells) p.1 ∙ sym (ap (λ (v : Report). stored_in s.cells v.stored) p.0)
+cells_told machine s Pulse report after p = ap (λ (v : State). v.cells) p.1 ∙ sym (ap (λ (v : Report). cells_after_store s.cells v.stored) p.0)
+cells_told machine s (Put address word) report after p = ap (λ (v : State). v.cells) p.1 ∙ sym (ap (λ (v : Report). cells_after_store s.cells v.stored) p.0)
 
 pub inputs_told : (machine : Machine) (s : State) (report : Report) (after : State) → Steps machine s Step report after
-    → after.inputs ≡ taken_from machine.ports.inputs s.inputs report.took
+    → after.inputs ≡ inputs_after_take machine.ports.inputs s.inputs report.took
 inputs_told machine s report after p = (step_in_told s.phase machine s report after p).inputs
 
 pub outputs_told : (machine : Machine) (s : State) (event : Event) (report : Report) (after : State) → Steps machine s event report after
-    → after.outputs ≡ given_to machine.ports.outputs s.outputs report.gave
+    → after.outputs ≡ outputs_after_give machine.ports.outputs s.outputs report.gave
 outputs_told machine s Step report after p = (step_in_told s.phase machine s report after p).outputs
-outputs_told machine s Pulse report after p = ap (λ (v : State). v.outputs) p.1 ∙ sym (ap (λ (v : Report). given_to machine.ports.outputs s.outputs v.gave) p.0)
-outputs_told machine s (Put address word) report after p = ap (λ (v : State). v.outputs) p.1 ∙ sym (ap (λ (v : Report). given_to machine.ports.outputs s.outputs v.gave) p.0)
+outputs_told machine s Pulse report after p = ap (λ (v : State). v.outputs) p.1 ∙ sym (ap (λ (v : Report). outputs_after_give machine.ports.outputs s.outputs v.gave) p.0)
+outputs_told machine s (Put address word) report after p = ap (λ (v : State). v.outputs) p.1 ∙ sym (ap (λ (v : Report). outputs_after_give machine.ports.outputs s.outputs v.gave) p.0)
 
 -- ---- when an order runs
 
