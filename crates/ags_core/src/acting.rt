@@ -9,7 +9,7 @@ ghost use Rattle.ags_ports.specs.Step.{Steps, StepsIn, idle_report, phase_after_
 use crate::cores::Core;
 use ags_isa::decode;
 use ags_ports::laws::machine_is_made_of_tables;
-use ags_ports::{Report, Event, Machine, Phase};
+use ags_ports::{Event, Machine, Phase, Report};
 use ags_word::Word;
 
 impl Core {

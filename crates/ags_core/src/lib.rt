@@ -10,9 +10,9 @@ mod exchanges;
 pub mod laws;
 mod loads;
 mod obeying;
+mod order_reports;
 mod pairs;
 mod sums;
-mod order_reports;
 mod transfers;
 
 pub use cores::Core;

@@ -5,7 +5,7 @@ ghost use Rattle.ags_ports.specs.State.{IsState};
 
 use crate::cores::Core;
 use ags_image::Image;
-use ags_ports::{Report, Event, Machine, Phase, Stored};
+use ags_ports::{Event, Machine, Phase, Report, Stored};
 use ags_word::Word;
 use std::alloc::Global;
 use std::process::Abort;

@@ -13,3 +13,4 @@ pub mod IndicatorLemmas
 pub mod OrderTimeLemmas
 pub mod RunLemmas
 pub mod Examples
+pub mod TimeExamples

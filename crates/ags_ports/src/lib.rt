@@ -13,7 +13,7 @@ pub mod run_laws;
 pub mod time_laws;
 mod time_tables;
 
-pub use events::{Report, Event, Phase, Stored};
+pub use events::{Event, Phase, Report, Stored};
 pub use machines::Machine;
 pub use registers::{Port, Ports};
 pub use time_tables::Times;

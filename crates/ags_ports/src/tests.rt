@@ -92,7 +92,13 @@ fn ends_of_tables(rt: HostRuntime) {
     assert!(rt; Ports::of(&many[..32], &many[1..]).is_some());
     assert!(rt; Ports::of(&many, &[]).is_none());
     assert!(rt; Ports::of(&[], &many).is_none());
-    assert!(rt; Ports::of(&[held_port(0), held_port(4095)], &[held_port(4095), held_port(0)]).is_some());
+    assert!(rt;
+        Ports::of(
+            &[held_port(0), held_port(4095)],
+            &[held_port(4095), held_port(0)]
+        )
+        .is_some()
+    );
     assert!(rt; Ports::of(&[held_port(4096)], &[]).is_none());
     assert!(rt; Ports::of(&[], &[held_port(5), held_port(4096)]).is_none());
     assert!(rt; Ports::of(&[held_port(5), held_port(6), held_port(5)], &[]).is_none());

@@ -6,6 +6,5 @@ pub mod Reading
 pub mod Script
 pub mod Shown
 pub mod Spelling
-
 -- what serves inside
 pub mod Field
