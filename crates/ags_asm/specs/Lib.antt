@@ -4,7 +4,6 @@ pub mod Phase
 pub mod Place
 pub mod Source
 pub mod Spelling
-
 -- what serves inside
 pub mod CardView
 pub mod Field
