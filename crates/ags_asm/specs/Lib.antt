@@ -1,7 +1,9 @@
-pub mod CardView
+-- what the public contracts cite
 pub mod FaultText
-pub mod Field
 pub mod Phase
 pub mod Place
 pub mod Source
 pub mod Spelling
+-- what serves inside
+pub mod CardView
+pub mod Field

@@ -7,7 +7,7 @@ ghost use Rattle.ags_asm.specs.declared.source_error.SourceError.{SourceError};
 ghost use Rattle.ags_asm.specs.Source.{AreSpans, Defines, IsAssembled, IsFaulty, IsRefused, placed_cards};
 ghost use Rattle.ags_asm.specs.Phase.{IsInMemory, defined};
 
-use crate::cards::read_cards;
+use crate::cards::{SOURCE_LIMIT, read_cards};
 use crate::placed::Placed;
 use crate::places::place_all;
 use crate::source_error::AssembleError;
@@ -16,7 +16,7 @@ use std::alloc::Global;
 
 /// The phases, one after the other, each on what the one before it made.
 fn run_phases(alloc: Global, bytes: &[u8]) -> Result<Vec<Placed>, AssembleError>
-    requires { length bytes.now ≤ 4194304 }
+    requires { length bytes.now ≤ SOURCE_LIMIT }
     ensures assembled { IfOk result (λ placed. IsAssembled bytes.now placed.items) }
     ensures defines { IfOk result (λ placed. Defines bytes.now (map defined placed.items)) }
     ensures refused { IfErr result (IsRefused bytes.now) }
@@ -34,7 +34,7 @@ fn run_phases(alloc: Global, bytes: &[u8]) -> Result<Vec<Placed>, AssembleError>
 /// cards comes first, then one of places, then one of words, and in a phase the first card's. `NoMemory` may come at
 /// any source, and says nothing of it.
 pub fn assemble(alloc: Global, bytes: &[u8]) -> Result<Vec<Placed>, AssembleError>
-    requires { length bytes.now ≤ 4194304 }
+    requires { length bytes.now ≤ SOURCE_LIMIT }
     // It is a source without a fault, and these are its cards, whose places and words are those that it defines; or its
     // first fault is this one.
     ensures assembled { IfOk result (λ placed. IsAssembled bytes.now placed.items) }

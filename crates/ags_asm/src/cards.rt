@@ -13,6 +13,9 @@ use crate::source_error::{AssembleError, SourceKind};
 use ags_text::Lines;
 use std::alloc::Global;
 
+/// The most bytes of a source.
+pub const SOURCE_LIMIT: usize = 4_194_304;
+
 /// What a line asks for, and whether a card with a symbol has come now; nothing where the card is faulty.
 fn read_line(line: &[u8], labelled: bool) -> Option<(Body, bool)>
     ensures found { IfSome result (λ read. (card : Statement) × Spells line.now card
@@ -32,7 +35,7 @@ fn read_line(line: &[u8], labelled: bool) -> Option<(Body, bool)>
 
 /// The cards of a source, one for each line, or the first one that isn't built.
 pub(crate) fn read_cards(alloc: Global, bytes: &[u8]) -> Result<Vec<SourceCard>, AssembleError>
-    requires { length bytes.now ≤ 4194304 }
+    requires { length bytes.now ≤ SOURCE_LIMIT }
     ensures read { IfOk result (λ cards. AreRead (lines_of bytes.now) cards.items) }
     ensures few { IfOk result (λ cards. vec_len cards ≤ length bytes.now + 1) }
     ensures follow { OnOk result (Follow bytes.now 0 (lines_of bytes.now)) }

@@ -20,6 +20,7 @@ mod words;
 
 pub use assembling::assemble;
 pub use card::Body;
+pub use cards::SOURCE_LIMIT;
 pub use placed::Placed;
 pub use reading_laws::{each_line_has_a_reading, no_line_has_two_readings};
 pub use source_error::{AssembleError, SourceError, SourceKind};

@@ -2,7 +2,7 @@
 
 ghost use Rattle.std.specs.Prelude.{◌≡◌, ◌<◌, length, IfOk, bit_or, slice_index, slice_set};
 ghost use Rattle.ags_ports.specs.declared.machines.Machine.{Machine};
-ghost use Rattle.ags_ports.specs.State.{IsState, cell, next_location, written};
+ghost use Rattle.ags_ports.specs.State.{IsState, cell, next_location, cells_with_word};
 ghost use Rattle.ags_ports.specs.Effect.{moved_on, overflowing};
 ghost use Rattle.ags_image.specs.Image.{IsImage};
 ghost use Rattle.ags_core.specs.Core.{IsCore, cells_of, start_state};
@@ -204,7 +204,7 @@ impl Core {
 
     /// Stores a word in the cell at an address, if it isn't fixed.
     pub(crate) fn store(&mut self, address: u16, word: Word)
-        ensures { self.new ≡ record self.old { cells = written self.old.cells address word } }
+        ensures { self.new ≡ record self.old { cells = cells_with_word self.old.cells address word } }
     {
         if address < FIXED {
             self.cells[address as usize] = word;

@@ -1,1 +1,2 @@
+-- what the public contracts cite
 pub mod Image

@@ -1,3 +1,4 @@
+-- what the public contracts cite
 pub mod Order
 pub mod Code
 pub mod Naming

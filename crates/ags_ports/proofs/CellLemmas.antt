@@ -13,7 +13,7 @@ use Rattle.ags_ports.specs.declared.events.Event.{Event}
 use Rattle.ags_ports.specs.declared.events.Event.TheVariants.{Step, Pulse, Put}
 use Rattle.ags_ports.specs.declared.events.Report.{Report}
 use Rattle.ags_ports.specs.declared.machines.Machine.{Machine}
-use Rattle.ags_ports.specs.State.{State, cell, written}
+use Rattle.ags_ports.specs.State.{State, cell, cells_with_word}
 use Rattle.ags_ports.specs.Effect.{effect}
 use Rattle.ags_ports.specs.Step.{Obeys, StepsIn, Steps}
 
@@ -25,7 +25,7 @@ fixed_choice false cells address word at differ = refl
 below_half : (address at : ℕ) → 2048 ≤ at → nat_lt address 2048 ≡ true → at ≢ address
 below_half address at fixed low same = grind (arith, nat_tests)
 
-pub written_fixed : (cells : List ℕ) (address word at : ℕ) → 2048 ≤ at → get_or (written cells address word) at 0 ≡ get_or cells at 0
+pub written_fixed : (cells : List ℕ) (address word at : ℕ) → 2048 ≤ at → get_or (cells_with_word cells address word) at 0 ≡ get_or cells at 0
 written_fixed cells address word at fixed = fixed_choice (nat_lt address 2048) cells address word at (below_half address at fixed)
 
 chosen_cells : (b : Bool) (t u : State) (word at : ℕ) → cell t at ≡ word → cell u at ≡ word → cell (if b then t else u) at ≡ word
@@ -66,16 +66,17 @@ effect_fixed machine s Dly e y at fixed = refl
 along : (t u : State) (at word : ℕ) → t ≡ u → cell u at ≡ word → cell t at ≡ word
 along t u at word e is = ap (λ (v : State). cell v at) e ∙ is
 
-obeys_fixed : (machine : Machine) (s : State) (named : Option Decoded) (report : Report) (after : State) (at : ℕ) → 2048 ≤ at → Obeys machine s named report after → cell after at ≡ cell s at
-obeys_fixed machine s (Some d) report after at fixed p = along after _ at _ p.1 (effect_fixed machine s d.order _ d.address at fixed)
-obeys_fixed machine s None report after at fixed p = along after _ at _ p.1 refl
+module _ (machine : Machine) (s : State) where
+  obeys_fixed : (named : Option Decoded) (report : Report) (after : State) (at : ℕ) → 2048 ≤ at → Obeys machine s named report after → cell after at ≡ cell s at
+  obeys_fixed (Some d) report after at fixed p = along after _ at _ p.1 (effect_fixed machine s d.order _ d.address at fixed)
+  obeys_fixed None report after at fixed p = along after _ at _ p.1 refl
 
-step_in_fixed : (phase : Phase) (machine : Machine) (s : State) (report : Report) (after : State) (at : ℕ) → 2048 ≤ at → StepsIn phase machine s report after → cell after at ≡ cell s at
-step_in_fixed Running machine s report after at fixed p = obeys_fixed machine s p.0 report after at fixed p.2
-step_in_fixed Waiting machine s report after at fixed p = along after s at _ p.1 refl
-step_in_fixed Halted machine s report after at fixed p = along after s at _ p.1 refl
+  step_in_fixed : (phase : Phase) (report : Report) (after : State) (at : ℕ) → 2048 ≤ at → StepsIn phase machine s report after → cell after at ≡ cell s at
+  step_in_fixed Running report after at fixed p = obeys_fixed p.0 report after at fixed p.2
+  step_in_fixed Waiting report after at fixed p = along after s at _ p.1 refl
+  step_in_fixed Halted report after at fixed p = along after s at _ p.1 refl
 
-pub step_fixed : (machine : Machine) (s : State) (event : Event) (report : Report) (after : State) (at : ℕ) → 2048 ≤ at → Steps machine s event report after → cell after at ≡ cell s at
-step_fixed machine s Step report after at fixed p = step_in_fixed s.phase machine s report after at fixed p
-step_fixed machine s Pulse report after at fixed p = along after _ at _ p.1 refl
-step_fixed machine s (Put address word) report after at fixed p = along after _ at _ p.1 refl
+  pub step_fixed : (event : Event) (report : Report) (after : State) (at : ℕ) → 2048 ≤ at → Steps machine s event report after → cell after at ≡ cell s at
+  step_fixed Step report after at fixed p = step_in_fixed s.phase report after at fixed p
+  step_fixed Pulse report after at fixed p = along after _ at _ p.1 refl
+  step_fixed (Put address word) report after at fixed p = along after _ at _ p.1 refl

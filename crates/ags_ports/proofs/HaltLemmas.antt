@@ -63,70 +63,71 @@ waiting_halted h = cc
 halted_waits : Halted ≡ Waiting → ⊥
 halted_waits h = cc
 
--- ---- DLY alone begins waiting
-
-obeys_waits : (machine : Machine) (s : State) (named : Option Decoded) (report : Report) (after : State) → s.phase ≡ Running → IsDecoding machine.codes (word_here s) named
-    → Obeys machine s named report after → after.phase ≡ Waiting → Reads machine s Dly
-obeys_waits machine s (Some d) report after running names p waits = ⊎_elim
-    (λ same. absurd (running_waits (sym running ∙ sym same ∙ sym (ap (λ (v : State). v.phase) p.1) ∙ waits)))
-    (λ dly. record { running = running; indexed = d.indexed; address = d.address; names = subst (λ (o : Order). Names machine.codes (word_here s) o d.indexed d.address) dly.0 names })
-    (effect_phase machine s d.order (effective s d.order d.indexed d.address) d.address)
-obeys_waits machine s None report after running names p waits = absurd (halted_waits (sym (ap (λ (v : State). v.phase) p.1) ∙ waits))
-
-step_in_waits : (phase : Phase) (machine : Machine) (s : State) (report : Report) (after : State) → s.phase ≡ phase → s.phase ≢ Waiting
-    → StepsIn phase machine s report after → after.phase ≡ Waiting → Reads machine s Dly
-step_in_waits Running machine s report after is before p waits = obeys_waits machine s p.0 report after is p.1 p.2 waits
-step_in_waits Waiting machine s report after is before p waits = absurd (before is)
-step_in_waits Halted machine s report after is before p waits = absurd (before (sym (ap (λ (v : State). v.phase) p.1) ∙ waits))
-
 pulsed_waits : (phase : Phase) → phase_after_pulse phase ≡ Waiting → ⊥
 pulsed_waits Running h = running_waits h
 pulsed_waits Waiting h = running_waits h
 pulsed_waits Halted h = halted_waits h
-
-pub dly_waits : (machine : Machine) (s : State) (event : Event) (report : Report) (after : State) → Steps machine s event report after
-    → s.phase ≢ Waiting → after.phase ≡ Waiting → (event ≡ Step) × Reads machine s Dly
-dly_waits machine s Step report after p before waits = (refl, step_in_waits s.phase machine s report after refl before p waits)
-dly_waits machine s Pulse report after p before waits = absurd (pulsed_waits s.phase (sym (ap (λ (v : State). v.phase) p.1) ∙ waits))
-dly_waits machine s (Put address word) report after p before waits = absurd (before (sym (ap (λ (v : State). v.phase) p.1) ∙ waits))
-
--- ---- a word that is no order alone halts
-
-obeys_halts : (machine : Machine) (s : State) (named : Option Decoded) (report : Report) (after : State) → s.phase ≡ Running → IsDecoding machine.codes (word_here s) named
-    → Obeys machine s named report after → after.phase ≡ Halted → NamesNone machine s
-obeys_halts machine s (Some d) report after running names p halts = ⊎_elim
-    (λ same. absurd (running_halted (sym running ∙ sym same ∙ sym (ap (λ (v : State). v.phase) p.1) ∙ halts)))
-    (λ dly. absurd (waiting_halted (sym dly.1 ∙ sym (ap (λ (v : State). v.phase) p.1) ∙ halts)))
-    (effect_phase machine s d.order (effective s d.order d.indexed d.address) d.address)
-obeys_halts machine s None report after running none p halts = none
-
-step_in_halts : (phase : Phase) (machine : Machine) (s : State) (report : Report) (after : State) → s.phase ≡ phase → s.phase ≢ Halted
-    → StepsIn phase machine s report after → after.phase ≡ Halted → (s.phase ≡ Running) × NamesNone machine s
-step_in_halts Running machine s report after is before p halts = (is, obeys_halts machine s p.0 report after is p.1 p.2 halts)
-step_in_halts Waiting machine s report after is before p halts = absurd (before (sym (ap (λ (v : State). v.phase) p.1) ∙ halts))
-step_in_halts Halted machine s report after is before p halts = absurd (before is)
 
 pulsed_halts : (phase : Phase) → phase_after_pulse phase ≡ Halted → phase ≡ Halted
 pulsed_halts Running h = absurd (running_halted h)
 pulsed_halts Waiting h = absurd (running_halted h)
 pulsed_halts Halted h = refl
 
-pub no_order_halts : (machine : Machine) (s : State) (event : Event) (report : Report) (after : State) → Steps machine s event report after
-    → s.phase ≢ Halted → after.phase ≡ Halted → (event ≡ Step) × (s.phase ≡ Running) × NamesNone machine s
-no_order_halts machine s Step report after p before halts =
-    let there = step_in_halts s.phase machine s report after refl before p halts in (refl, there.0, there.1)
-no_order_halts machine s Pulse report after p before halts = absurd (before (pulsed_halts s.phase (sym (ap (λ (v : State). v.phase) p.1) ∙ halts)))
-no_order_halts machine s (Put address word) report after p before halts = absurd (before (sym (ap (λ (v : State). v.phase) p.1) ∙ halts))
+module _ (machine : Machine) (s : State) where
+  -- ---- DLY alone begins waiting
 
--- ---- and there nothing else changes
+  obeys_waits : (named : Option Decoded) (report : Report) (after : State) → s.phase ≡ Running → IsDecoding machine.codes (word_here s) named
+      → Obeys machine s named report after → after.phase ≡ Waiting → Reads machine s Dly
+  obeys_waits (Some d) report after running names p waits = ⊎_elim
+      (λ same. absurd (running_waits (sym running ∙ sym same ∙ sym (ap (λ (v : State). v.phase) p.1) ∙ waits)))
+      (λ dly. record { running = running; indexed = d.indexed; address = d.address; names = subst (λ (o : Order). Names machine.codes (word_here s) o d.indexed d.address) dly.0 names })
+      (effect_phase machine s d.order (effective s d.order d.indexed d.address) d.address)
+  obeys_waits None report after running names p waits = absurd (halted_waits (sym (ap (λ (v : State). v.phase) p.1) ∙ waits))
 
-obeys_none : (machine : Machine) (s : State) (named : Option Decoded) (report : Report) (after : State) → IsDecoding machine.codes (word_here s) named
-    → Obeys machine s named report after → NamesNone machine s → (report ≡ idle_report s) × (after ≡ record s { phase = Halted })
-obeys_none machine s (Some d) report after names p none = absurd (none d.order d.indexed d.address names)
-obeys_none machine s None report after names p none = p
+  step_in_waits : (phase : Phase) (report : Report) (after : State) → s.phase ≡ phase → s.phase ≢ Waiting
+      → StepsIn phase machine s report after → after.phase ≡ Waiting → Reads machine s Dly
+  step_in_waits Running report after is before p waits = obeys_waits p.0 report after is p.1 p.2 waits
+  step_in_waits Waiting report after is before p waits = absurd (before is)
+  step_in_waits Halted report after is before p waits = absurd (before (sym (ap (λ (v : State). v.phase) p.1) ∙ waits))
 
-pub halted_at_no_order : (machine : Machine) (s : State) (report : Report) (after : State) → s.phase ≡ Running → NamesNone machine s
-    → Steps machine s Step report after → (report ≡ idle_report s) × (after ≡ record s { phase = Halted })
-halted_at_no_order machine s report after running none p =
-    let q = subst (λ (phase : Phase). StepsIn phase machine s report after) running p in
-    obeys_none machine s q.0 report after q.1 q.2 none
+  pub dly_waits : (event : Event) (report : Report) (after : State) → Steps machine s event report after
+      → s.phase ≢ Waiting → after.phase ≡ Waiting → (event ≡ Step) × Reads machine s Dly
+  dly_waits Step report after p before waits = (refl, step_in_waits s.phase report after refl before p waits)
+  dly_waits Pulse report after p before waits = absurd (pulsed_waits s.phase (sym (ap (λ (v : State). v.phase) p.1) ∙ waits))
+  dly_waits (Put address word) report after p before waits = absurd (before (sym (ap (λ (v : State). v.phase) p.1) ∙ waits))
+
+  -- ---- a word that is no order alone halts
+
+  obeys_halts : (named : Option Decoded) (report : Report) (after : State) → s.phase ≡ Running → IsDecoding machine.codes (word_here s) named
+      → Obeys machine s named report after → after.phase ≡ Halted → NamesNone machine s
+  obeys_halts (Some d) report after running names p halts = ⊎_elim
+      (λ same. absurd (running_halted (sym running ∙ sym same ∙ sym (ap (λ (v : State). v.phase) p.1) ∙ halts)))
+      (λ dly. absurd (waiting_halted (sym dly.1 ∙ sym (ap (λ (v : State). v.phase) p.1) ∙ halts)))
+      (effect_phase machine s d.order (effective s d.order d.indexed d.address) d.address)
+  obeys_halts None report after running none p halts = none
+
+  step_in_halts : (phase : Phase) (report : Report) (after : State) → s.phase ≡ phase → s.phase ≢ Halted
+      → StepsIn phase machine s report after → after.phase ≡ Halted → (s.phase ≡ Running) × NamesNone machine s
+  step_in_halts Running report after is before p halts = (is, obeys_halts p.0 report after is p.1 p.2 halts)
+  step_in_halts Waiting report after is before p halts = absurd (before (sym (ap (λ (v : State). v.phase) p.1) ∙ halts))
+  step_in_halts Halted report after is before p halts = absurd (before is)
+
+  pub no_order_halts : (event : Event) (report : Report) (after : State) → Steps machine s event report after
+      → s.phase ≢ Halted → after.phase ≡ Halted → (event ≡ Step) × (s.phase ≡ Running) × NamesNone machine s
+  no_order_halts Step report after p before halts =
+      let there = step_in_halts s.phase report after refl before p halts in (refl, there.0, there.1)
+  no_order_halts Pulse report after p before halts = absurd (before (pulsed_halts s.phase (sym (ap (λ (v : State). v.phase) p.1) ∙ halts)))
+  no_order_halts (Put address word) report after p before halts = absurd (before (sym (ap (λ (v : State). v.phase) p.1) ∙ halts))
+
+  -- ---- and there nothing else changes
+
+  obeys_none : (named : Option Decoded) (report : Report) (after : State) → IsDecoding machine.codes (word_here s) named
+      → Obeys machine s named report after → NamesNone machine s → (report ≡ idle_report s) × (after ≡ record s { phase = Halted })
+  obeys_none (Some d) report after names p none = absurd (none d.order d.indexed d.address names)
+  obeys_none None report after names p none = p
+
+  pub halted_at_no_order : (report : Report) (after : State) → s.phase ≡ Running → NamesNone machine s
+      → Steps machine s Step report after → (report ≡ idle_report s) × (after ≡ record s { phase = Halted })
+  halted_at_no_order report after running none p =
+      let q = subst (λ (phase : Phase). StepsIn phase machine s report after) running p in
+      obeys_none q.0 report after q.1 q.2 none

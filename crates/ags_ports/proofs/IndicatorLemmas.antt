@@ -102,21 +102,6 @@ effect_sets machine s order e y over = ⊎_elim
 differ : false ≡ true → ⊥
 differ h = cc
 
-obeys_sets : (machine : Machine) (s : State) (named : Option Decoded) (report : Report) (after : State) → Obeys machine s named report after → report.overflow ≡ true → after.indicator ≡ true
-obeys_sets machine s (Some d) report after p over =
-    ap (λ (v : State). v.indicator) p.1 ∙ effect_sets machine s d.order (effective s d.order d.indexed d.address) d.address (sym (ap (λ (v : Report). v.overflow) p.0) ∙ over)
-obeys_sets machine s None report after p over = absurd (differ (sym (ap (λ (v : Report). v.overflow) p.0) ∙ over))
-
-step_in_sets : (phase : Phase) (machine : Machine) (s : State) (report : Report) (after : State) → StepsIn phase machine s report after → report.overflow ≡ true → after.indicator ≡ true
-step_in_sets Running machine s report after p over = obeys_sets machine s p.0 report after p.2 over
-step_in_sets Waiting machine s report after p over = absurd (differ (sym (ap (λ (v : Report). v.overflow) p.0) ∙ over))
-step_in_sets Halted machine s report after p over = absurd (differ (sym (ap (λ (v : Report). v.overflow) p.0) ∙ over))
-
-pub overflow_sets : (machine : Machine) (s : State) (event : Event) (report : Report) (after : State) → Steps machine s event report after → report.overflow ≡ true → after.indicator ≡ true
-overflow_sets machine s Step report after p over = step_in_sets s.phase machine s report after p over
-overflow_sets machine s Pulse report after p over = absurd (differ (sym (ap (λ (v : Report). v.overflow) p.0) ∙ over))
-overflow_sets machine s (Put address word) report after p over = absurd (differ (sym (ap (λ (v : Report). v.overflow) p.0) ∙ over))
-
 -- ---- TOV alone clears it
 
 or_kept : (a b : Bool) → a ≡ true → (a || b) ≡ true
@@ -124,29 +109,6 @@ or_kept a b h = rw h
 
 still_set : (s after : State) → s.indicator ≡ true → after.indicator ≡ false → after.indicator ≡ s.indicator → ⊥
 still_set s after was now same = differ (sym now ∙ same ∙ was)
-
-obeys_clears : (machine : Machine) (s : State) (named : Option Decoded) (report : Report) (after : State) → s.phase ≡ Running → IsDecoding machine.codes (word_here s) named
-    → Obeys machine s named report after → s.indicator ≡ true → after.indicator ≡ false → Reads machine s Tov
-obeys_clears machine s (Some d) report after running names p was now = ⊎_elim
-    (λ tov. record { running = running; indexed = d.indexed; address = d.address; names = subst (λ (o : Order). Names machine.codes (word_here s) o d.indexed d.address) tov names })
-    (λ other.
-    let e = effective s d.order d.indexed d.address in
-    let set = ap (λ (v : State). v.indicator) p.1 ∙ effect_indicator machine s d.order e d.address other ∙ or_kept s.indicator ((effect machine s d.order e d.address).overflow) was in
-    absurd (differ (sym now ∙ set)))
-    (tov_or_not d.order)
-obeys_clears machine s None report after running names p was now = absurd (still_set s after was now (ap (λ (v : State). v.indicator) p.1))
-
-step_in_clears : (phase : Phase) (machine : Machine) (s : State) (report : Report) (after : State) → s.phase ≡ phase → StepsIn phase machine s report after
-    → s.indicator ≡ true → after.indicator ≡ false → Reads machine s Tov
-step_in_clears Running machine s report after is p was now = obeys_clears machine s p.0 report after is p.1 p.2 was now
-step_in_clears Waiting machine s report after is p was now = absurd (still_set s after was now (ap (λ (v : State). v.indicator) p.1))
-step_in_clears Halted machine s report after is p was now = absurd (still_set s after was now (ap (λ (v : State). v.indicator) p.1))
-
-pub tov_clears : (machine : Machine) (s : State) (event : Event) (report : Report) (after : State) → Steps machine s event report after
-    → s.indicator ≡ true → after.indicator ≡ false → (event ≡ Step) × Reads machine s Tov
-tov_clears machine s Step report after p was now = (refl, step_in_clears s.phase machine s report after refl p was now)
-tov_clears machine s Pulse report after p was now = absurd (still_set s after was now (ap (λ (v : State). v.indicator) p.1))
-tov_clears machine s (Put address word) report after p was now = absurd (still_set s after was now (ap (λ (v : State). v.indicator) p.1))
 
 -- ---- an order that overflows alone sets it
 
@@ -158,33 +120,72 @@ other_chosen : (b : Bool) (t u : State) → b ≡ false → u.indicator ≡ fals
 other_chosen true t u clear h = absurd (differ (sym clear))
 other_chosen false t u clear h = h
 
-effect_set_by : (machine : Machine) (s : State) (order : Order) (e y : ℕ) → s.indicator ≡ false
-    → ((effect machine s order e y).after).indicator ≡ true → (effect machine s order e y).overflow ≡ true
-effect_set_by machine s order e y was now = ⊎_elim
-    (λ tov.
-    let set : ((effect machine s Tov e y).after).indicator ≡ true = subst (λ (o : Order). ((effect machine s o e y).after).indicator ≡ true) tov now in
-    absurd (differ (sym (other_chosen s.indicator _ _ was was) ∙ set)))
-    (λ other. or_second s.indicator _ was (sym (effect_indicator machine s order e y other) ∙ now))
-    (tov_or_not order)
-
 still_clear : (s after : State) → s.indicator ≡ false → after.indicator ≡ true → after.indicator ≡ s.indicator → ⊥
 still_clear s after was now same = differ (sym was ∙ sym same ∙ now)
 
-obeys_set_by : (machine : Machine) (s : State) (named : Option Decoded) (report : Report) (after : State) → Obeys machine s named report after
-    → s.indicator ≡ false → after.indicator ≡ true → report.overflow ≡ true
-obeys_set_by machine s (Some d) report after p was now =
-    ap (λ (v : Report). v.overflow) p.0
-    ∙ effect_set_by machine s d.order (effective s d.order d.indexed d.address) d.address was (sym (ap (λ (v : State). v.indicator) p.1) ∙ now)
-obeys_set_by machine s None report after p was now = absurd (still_clear s after was now (ap (λ (v : State). v.indicator) p.1))
+module _ (machine : Machine) (s : State) where
+  obeys_sets : (named : Option Decoded) (report : Report) (after : State) → Obeys machine s named report after → report.overflow ≡ true → after.indicator ≡ true
+  obeys_sets (Some d) report after p over =
+      ap (λ (v : State). v.indicator) p.1 ∙ effect_sets machine s d.order (effective s d.order d.indexed d.address) d.address (sym (ap (λ (v : Report). v.overflow) p.0) ∙ over)
+  obeys_sets None report after p over = absurd (differ (sym (ap (λ (v : Report). v.overflow) p.0) ∙ over))
 
-step_in_set_by : (phase : Phase) (machine : Machine) (s : State) (report : Report) (after : State) → StepsIn phase machine s report after
-    → s.indicator ≡ false → after.indicator ≡ true → report.overflow ≡ true
-step_in_set_by Running machine s report after p was now = obeys_set_by machine s p.0 report after p.2 was now
-step_in_set_by Waiting machine s report after p was now = absurd (still_clear s after was now (ap (λ (v : State). v.indicator) p.1))
-step_in_set_by Halted machine s report after p was now = absurd (still_clear s after was now (ap (λ (v : State). v.indicator) p.1))
+  step_in_sets : (phase : Phase) (report : Report) (after : State) → StepsIn phase machine s report after → report.overflow ≡ true → after.indicator ≡ true
+  step_in_sets Running report after p over = obeys_sets p.0 report after p.2 over
+  step_in_sets Waiting report after p over = absurd (differ (sym (ap (λ (v : Report). v.overflow) p.0) ∙ over))
+  step_in_sets Halted report after p over = absurd (differ (sym (ap (λ (v : Report). v.overflow) p.0) ∙ over))
 
-pub set_by_overflow : (machine : Machine) (s : State) (event : Event) (report : Report) (after : State) → Steps machine s event report after
-    → s.indicator ≡ false → after.indicator ≡ true → report.overflow ≡ true
-set_by_overflow machine s Step report after p was now = step_in_set_by s.phase machine s report after p was now
-set_by_overflow machine s Pulse report after p was now = absurd (still_clear s after was now (ap (λ (v : State). v.indicator) p.1))
-set_by_overflow machine s (Put address word) report after p was now = absurd (still_clear s after was now (ap (λ (v : State). v.indicator) p.1))
+  pub overflow_sets : (event : Event) (report : Report) (after : State) → Steps machine s event report after → report.overflow ≡ true → after.indicator ≡ true
+  overflow_sets Step report after p over = step_in_sets s.phase report after p over
+  overflow_sets Pulse report after p over = absurd (differ (sym (ap (λ (v : Report). v.overflow) p.0) ∙ over))
+  overflow_sets (Put address word) report after p over = absurd (differ (sym (ap (λ (v : Report). v.overflow) p.0) ∙ over))
+
+  obeys_clears : (named : Option Decoded) (report : Report) (after : State) → s.phase ≡ Running → IsDecoding machine.codes (word_here s) named
+      → Obeys machine s named report after → s.indicator ≡ true → after.indicator ≡ false → Reads machine s Tov
+  obeys_clears (Some d) report after running names p was now = ⊎_elim
+      (λ tov. record { running = running; indexed = d.indexed; address = d.address; names = subst (λ (o : Order). Names machine.codes (word_here s) o d.indexed d.address) tov names })
+      (λ other.
+      let e = effective s d.order d.indexed d.address in
+      let set = ap (λ (v : State). v.indicator) p.1 ∙ effect_indicator machine s d.order e d.address other ∙ or_kept s.indicator ((effect machine s d.order e d.address).overflow) was in
+      absurd (differ (sym now ∙ set)))
+      (tov_or_not d.order)
+  obeys_clears None report after running names p was now = absurd (still_set s after was now (ap (λ (v : State). v.indicator) p.1))
+
+  step_in_clears : (phase : Phase) (report : Report) (after : State) → s.phase ≡ phase → StepsIn phase machine s report after
+      → s.indicator ≡ true → after.indicator ≡ false → Reads machine s Tov
+  step_in_clears Running report after is p was now = obeys_clears p.0 report after is p.1 p.2 was now
+  step_in_clears Waiting report after is p was now = absurd (still_set s after was now (ap (λ (v : State). v.indicator) p.1))
+  step_in_clears Halted report after is p was now = absurd (still_set s after was now (ap (λ (v : State). v.indicator) p.1))
+
+  pub tov_clears : (event : Event) (report : Report) (after : State) → Steps machine s event report after
+      → s.indicator ≡ true → after.indicator ≡ false → (event ≡ Step) × Reads machine s Tov
+  tov_clears Step report after p was now = (refl, step_in_clears s.phase report after refl p was now)
+  tov_clears Pulse report after p was now = absurd (still_set s after was now (ap (λ (v : State). v.indicator) p.1))
+  tov_clears (Put address word) report after p was now = absurd (still_set s after was now (ap (λ (v : State). v.indicator) p.1))
+
+  effect_set_by : (order : Order) (e y : ℕ) → s.indicator ≡ false
+      → ((effect machine s order e y).after).indicator ≡ true → (effect machine s order e y).overflow ≡ true
+  effect_set_by order e y was now = ⊎_elim
+      (λ tov.
+      let set : ((effect machine s Tov e y).after).indicator ≡ true = subst (λ (o : Order). ((effect machine s o e y).after).indicator ≡ true) tov now in
+      absurd (differ (sym (other_chosen s.indicator _ _ was was) ∙ set)))
+      (λ other. or_second s.indicator _ was (sym (effect_indicator machine s order e y other) ∙ now))
+      (tov_or_not order)
+
+  obeys_set_by : (named : Option Decoded) (report : Report) (after : State) → Obeys machine s named report after
+      → s.indicator ≡ false → after.indicator ≡ true → report.overflow ≡ true
+  obeys_set_by (Some d) report after p was now =
+      ap (λ (v : Report). v.overflow) p.0
+      ∙ effect_set_by d.order (effective s d.order d.indexed d.address) d.address was (sym (ap (λ (v : State). v.indicator) p.1) ∙ now)
+  obeys_set_by None report after p was now = absurd (still_clear s after was now (ap (λ (v : State). v.indicator) p.1))
+
+  step_in_set_by : (phase : Phase) (report : Report) (after : State) → StepsIn phase machine s report after
+      → s.indicator ≡ false → after.indicator ≡ true → report.overflow ≡ true
+  step_in_set_by Running report after p was now = obeys_set_by p.0 report after p.2 was now
+  step_in_set_by Waiting report after p was now = absurd (still_clear s after was now (ap (λ (v : State). v.indicator) p.1))
+  step_in_set_by Halted report after p was now = absurd (still_clear s after was now (ap (λ (v : State). v.indicator) p.1))
+
+  pub set_by_overflow : (event : Event) (report : Report) (after : State) → Steps machine s event report after
+      → s.indicator ≡ false → after.indicator ≡ true → report.overflow ≡ true
+  set_by_overflow Step report after p was now = step_in_set_by s.phase report after p was now
+  set_by_overflow Pulse report after p was now = absurd (still_clear s after was now (ap (λ (v : State). v.indicator) p.1))
+  set_by_overflow (Put address word) report after p was now = absurd (still_clear s after was now (ap (λ (v : State). v.indicator) p.1))

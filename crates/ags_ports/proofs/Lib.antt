@@ -14,3 +14,4 @@ pub mod OrderTimeLemmas
 pub mod RunLemmas
 pub mod ExactLemmas
 pub mod Examples
+pub mod TimeExamples

@@ -3,7 +3,7 @@
 --     time-most                          it is at most 1000 microseconds
 --     time-read, time-least              by a step: the time of the order that it reads, at least one microsecond
 --     time-other, time-unread, time-halts    0 at another event, where no order is read, and where the step halts
-use Rattle.std.proofs.Common.{◌≡◌, ◌≢◌, ℕ, ◌≤◌, ◌/◌, ◌^◌, Bool, true, false, List, Option, Some, None, refl, sym, ap, subst, ◌∙◌, ◌⊎◌, inl, inr, arith}
+use Rattle.std.proofs.Common.{◌≡◌, ◌≢◌, ℕ, ◌≤◌, ◌/◌, ◌^◌, Bool, true, false, List, Option, Some, None, refl, sym, subst, ◌∙◌, inl, inr, arith}
 use Rattle.std.specs.Option.{option_map_or}
 use Rattle.std.proofs.lemmas.Bool.{cases_Bool}
 use Rattle.ags_isa.specs.declared.orders.Order.{Order}
@@ -20,7 +20,7 @@ use Rattle.ags_ports.specs.declared.events.Report.{Report}
 use Rattle.ags_ports.specs.declared.machines.Machine.{Machine}
 use Rattle.ags_ports.specs.Time.{AreTimes, time_of}
 use Rattle.ags_ports.specs.Machine.{IsMachine}
-use Rattle.ags_ports.specs.State.{State, word_here}
+use Rattle.ags_ports.specs.State.{State}
 use Rattle.ags_ports.specs.Step.{Steps, Reads}
 use Rattle.ags_ports.specs.OrderTime.{order_time}
 use Rattle.ags_ports.proofs.ChangeLemmas.{ran_reads, reads_ran, place_told}
@@ -54,22 +54,6 @@ time-most machine report is = elim (cases_Bool report.ran) [
   | inr none ↦ rw none (omega arith)
 ]
 
--- ---- by a step
-
-pub time-read : (machine : Machine) (s : State) (order : Order) (report : Report) (after : State) → IsMachine machine → Reads machine s order → Steps machine s Step report after
-    → order_time machine report ≡ time_of machine.times order
-time-read machine s order report after is reads step =
-    let place = place_told machine s Step report after step in
-    let ran = reads_ran machine s order report after reads step in
-    time-named machine report order reads.indexed reads.address is ran
-    (subst (λ (word : ℕ). Names machine.codes word order reads.indexed reads.address) (sym place.1) reads.names)
-
-pub time-least : (machine : Machine) (s : State) (event : Event) (report : Report) (after : State) → IsMachine machine → Steps machine s event report after → report.ran ≡ true → 1 ≤ order_time machine report
-time-least machine s event report after is step ran =
-    let read = ran_reads machine s event report after step ran in
-    let here : Steps machine s Step report after = subst (λ (e : Event). Steps machine s e report after) read.0 step in
-    rw (time-read machine s read.1 report after is read.2 here) (time_above machine.times is.times read.1)
-
 -- where no order can have run
 time_unless : (machine : Machine) (report : Report) → (report.ran ≡ true → ⊥) → order_time machine report ≡ 0
 time_unless machine report never = elim (cases_Bool report.ran) [
@@ -77,17 +61,34 @@ time_unless machine report never = elim (cases_Bool report.ran) [
   | inr none ↦ time-idle machine report none
 ]
 
-pub time-other : (machine : Machine) (s : State) (event : Event) (report : Report) (after : State) → Steps machine s event report after → event ≢ Step → order_time machine report ≡ 0
-time-other machine s event report after step other = time_unless machine report (λ ran. other (ran_reads machine s event report after step ran).0)
-
-pub time-unread : (machine : Machine) (s : State) (event : Event) (report : Report) (after : State) → Steps machine s event report after → ((order : Order) → ¬ Reads machine s order) → order_time machine report ≡ 0
-time-unread machine s event report after step none = time_unless machine report (λ ran. let read = ran_reads machine s event report after step ran in none read.1 read.2)
-
 running_halted : Running ≡ Halted → ⊥
 running_halted same = cc
 
-pub time-halts : (machine : Machine) (s : State) (event : Event) (report : Report) (after : State) → Steps machine s event report after → after.phase ≡ Halted → order_time machine report ≡ 0
-time-halts machine s event report after step halted = time_unless machine report (λ ran.
-    let read = ran_reads machine s event report after step ran in
-    let ran_on : s.phase ≢ Halted = λ was. running_halted (sym read.2.running ∙ was) in
-    (no_order_halts machine s event report after step ran_on halted).2 read.1 read.2.indexed read.2.address read.2.names)
+module _ (machine : Machine) (s : State) where
+  -- ---- by a step
+
+  pub time-read : (order : Order) (report : Report) (after : State) → IsMachine machine → Reads machine s order → Steps machine s Step report after
+      → order_time machine report ≡ time_of machine.times order
+  time-read order report after is reads step =
+      let place = place_told machine s Step report after step in
+      let ran = reads_ran machine s order report after reads step in
+      time-named machine report order reads.indexed reads.address is ran
+      (subst (λ (word : ℕ). Names machine.codes word order reads.indexed reads.address) (sym place.1) reads.names)
+
+  pub time-least : (event : Event) (report : Report) (after : State) → IsMachine machine → Steps machine s event report after → report.ran ≡ true → 1 ≤ order_time machine report
+  time-least event report after is step ran =
+      let read = ran_reads machine s event report after step ran in
+      let here : Steps machine s Step report after = subst (λ (e : Event). Steps machine s e report after) read.0 step in
+      rw (time-read read.1 report after is read.2 here) (time_above machine.times is.times read.1)
+
+  pub time-other : (event : Event) (report : Report) (after : State) → Steps machine s event report after → event ≢ Step → order_time machine report ≡ 0
+  time-other event report after step other = time_unless machine report (λ ran. other (ran_reads machine s event report after step ran).0)
+
+  pub time-unread : (event : Event) (report : Report) (after : State) → Steps machine s event report after → ((order : Order) → ¬ Reads machine s order) → order_time machine report ≡ 0
+  time-unread event report after step none = time_unless machine report (λ ran. let read = ran_reads machine s event report after step ran in none read.1 read.2)
+
+  pub time-halts : (event : Event) (report : Report) (after : State) → Steps machine s event report after → after.phase ≡ Halted → order_time machine report ≡ 0
+  time-halts event report after step halted = time_unless machine report (λ ran.
+      let read = ran_reads machine s event report after step ran in
+      let ran_on : s.phase ≢ Halted = λ was. running_halted (sym read.2.running ∙ was) in
+      (no_order_halts machine s event report after step ran_on halted).2 read.1 read.2.indexed read.2.address read.2.names)

@@ -15,20 +15,21 @@ unchanged s after e = subst (λ (v : State). ChangesInputsAlone s v) (sym e) ref
 inputs_alone : (s after : State) (inputs : List ℕ) → after ≡ record s { inputs = inputs } → ChangesInputsAlone s after
 inputs_alone s after inputs e = subst (λ (v : State). ChangesInputsAlone s v) (sym e) refl
 
-pub waits : (machine : Machine) (s : State) (event : Event) (report : Report) (after : State) → s.phase ≡ Waiting → event ≢ Pulse → Steps machine s event report after → ChangesInputsAlone s after
-waits machine s Step report after waiting other p =
-    let q = subst (λ (phase : Phase). StepsIn phase machine s report after) waiting p in
-    unchanged s after q.1
-waits machine s Pulse report after waiting other p = absurd (other refl)
-waits machine s (Put address word) report after waiting other p = inputs_alone s after _ p.1
+module _ (machine : Machine) (s : State) where
+  pub waits : (event : Event) (report : Report) (after : State) → s.phase ≡ Waiting → event ≢ Pulse → Steps machine s event report after → ChangesInputsAlone s after
+  waits Step report after waiting other p =
+      let q = subst (λ (phase : Phase). StepsIn phase machine s report after) waiting p in
+      unchanged s after q.1
+  waits Pulse report after waiting other p = absurd (other refl)
+  waits (Put address word) report after waiting other p = inputs_alone s after _ p.1
 
-pub wakes : (machine : Machine) (s : State) (report : Report) (after : State) → s.phase ≡ Waiting → Steps machine s Pulse report after → after ≡ record s { phase = Running }
-wakes machine s report after waiting p = p.1 ∙ ap (λ (phase : Phase). record s { phase = phase_after_pulse phase }) waiting
+  pub wakes : (report : Report) (after : State) → s.phase ≡ Waiting → Steps machine s Pulse report after → after ≡ record s { phase = Running }
+  wakes report after waiting p = p.1 ∙ ap (λ (phase : Phase). record s { phase = phase_after_pulse phase }) waiting
 
-pub halts : (machine : Machine) (s : State) (event : Event) (report : Report) (after : State) → s.phase ≡ Halted → Steps machine s event report after → ChangesInputsAlone s after
-halts machine s Step report after halted p =
-    let q = subst (λ (phase : Phase). StepsIn phase machine s report after) halted p in
-    unchanged s after q.1
-halts machine s Pulse report after halted p = unchanged s after
-    (p.1 ∙ ap (λ (phase : Phase). record s { phase = phase_after_pulse phase }) halted ∙ ap (λ (phase : Phase). record s { phase = phase }) (sym halted))
-halts machine s (Put address word) report after halted p = inputs_alone s after _ p.1
+  pub halts : (event : Event) (report : Report) (after : State) → s.phase ≡ Halted → Steps machine s event report after → ChangesInputsAlone s after
+  halts Step report after halted p =
+      let q = subst (λ (phase : Phase). StepsIn phase machine s report after) halted p in
+      unchanged s after q.1
+  halts Pulse report after halted p = unchanged s after
+      (p.1 ∙ ap (λ (phase : Phase). record s { phase = phase_after_pulse phase }) halted ∙ ap (λ (phase : Phase). record s { phase = phase }) (sym halted))
+  halts (Put address word) report after halted p = inputs_alone s after _ p.1

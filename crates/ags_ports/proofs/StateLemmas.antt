@@ -27,7 +27,7 @@ use Rattle.ags_ports.specs.declared.events.Report.{Report}
 use Rattle.ags_ports.specs.declared.machines.Machine.{Machine}
 use Rattle.ags_ports.specs.Machine.{IsMachine}
 use Rattle.ags_ports.specs.Port.{place_of, register_at, set_at, read_at, is_once}
-use Rattle.ags_ports.specs.State.{State, IsState, cell, word_here, next_location, written}
+use Rattle.ags_ports.specs.State.{State, IsState, cell, word_here, next_location, cells_with_word}
 use Rattle.ags_ports.specs.Effect.{Effect, effect, effective, counts_index, then_stores, leaves, moved_on, loads, computes, rounds_product}
 use Rattle.ags_ports.specs.Step.{IsEvent, Obeys, StepsIn, Steps, phase_after_pulse}
 
@@ -54,10 +54,10 @@ choose_length false xs ys n p r = r
 set_words : (words : List ℕ) (place word : ℕ) → AreWords words → word < 2 ^ 18 → AreWords (set words place word)
 set_words words place word are below = All-set (λ w. w < 2 ^ 18) words place word below are
 
-written_words : (cells : List ℕ) (address word : ℕ) → AreWords cells → word < 2 ^ 18 → AreWords (written cells address word)
+written_words : (cells : List ℕ) (address word : ℕ) → AreWords cells → word < 2 ^ 18 → AreWords (cells_with_word cells address word)
 written_words cells address word are below = choose_words (nat_lt address 2048) (set cells address word) cells (set_words cells address word are below) are
 
-written_length : (cells : List ℕ) (address word : ℕ) → length (written cells address word) ≡ length cells
+written_length : (cells : List ℕ) (address word : ℕ) → length (cells_with_word cells address word) ≡ length cells
 written_length cells address word = choose_length (nat_lt address 2048) (set cells address word) cells (length cells) (length-set cells address word) refl
 
 set_at_words : (words : List ℕ) (place : Option ℕ) (word : ℕ) → AreWords words → word < 2 ^ 18 → AreWords (set_at words place word)

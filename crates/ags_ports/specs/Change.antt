@@ -3,19 +3,19 @@ use Rattle.std.specs.Prelude.{ℕ, List, Option, Some, None}
 use Rattle.ags_ports.specs.declared.registers.Port.{Port}
 use Rattle.ags_ports.specs.declared.events.Stored.{Stored}
 use Rattle.ags_ports.specs.Port.{place_of, set_at, read_at}
-use Rattle.ags_ports.specs.State.{written}
+use Rattle.ags_ports.specs.State.{cells_with_word}
 
 -- the cells after the store that was told, if one was told; where it goes to a fixed cell, they stay
-abbrev pub stored_in : List ℕ → Option Stored → List ℕ
-stored_in cells None = cells
-stored_in cells (Some stored) = written cells stored.address stored.word
+abbrev pub cells_after_store : List ℕ → Option Stored → List ℕ
+cells_after_store cells None = cells
+cells_after_store cells (Some stored) = cells_with_word cells stored.address stored.word
 
 -- the input registers' words after the word at the address that was told was taken, if one was told
-abbrev pub taken_from : List Port → List ℕ → Option ℕ → List ℕ
-taken_from ports words None = words
-taken_from ports words (Some address) = read_at ports words (place_of ports address)
+abbrev pub inputs_after_take : List Port → List ℕ → Option ℕ → List ℕ
+inputs_after_take ports words None = words
+inputs_after_take ports words (Some address) = read_at ports words (place_of ports address)
 
 -- the output registers' words after the word that was told was given, if one was told
-abbrev pub given_to : List Port → List ℕ → Option Stored → List ℕ
-given_to ports words None = words
-given_to ports words (Some gave) = set_at words (place_of ports gave.address) gave.word
+abbrev pub outputs_after_give : List Port → List ℕ → Option Stored → List ℕ
+outputs_after_give ports words None = words
+outputs_after_give ports words (Some gave) = set_at words (place_of ports gave.address) gave.word

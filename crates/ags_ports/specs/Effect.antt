@@ -10,7 +10,7 @@ use Rattle.ags_ports.specs.declared.events.Phase.TheVariants.{Waiting}
 use Rattle.ags_ports.specs.declared.events.Stored.{Stored}
 use Rattle.ags_ports.specs.declared.machines.Machine.{Machine}
 use Rattle.ags_ports.specs.Port.{place_of, register_at, set_at, read_at}
-use Rattle.ags_ports.specs.State.{State, cell, next_location, written}
+use Rattle.ags_ports.specs.State.{State, cell, next_location, cells_with_word}
 
 -- What an order does: the state after it, whether it overflows, the store that it makes and the word of it, the address
 -- that it takes an input from, and the address that it gives a word to.
@@ -63,7 +63,7 @@ sets_pair operation s m number = overflowing (operation.overflows s.a s.q m) (re
 -- then a word is stored in the cell at an address: a fixed cell stays, and the store is told all the same
 abbrev pub then_stores : Effect → ℕ → ℕ → Effect
 then_stores done address word = record {
-  after = record (done.after) { cells = written done.after.cells address word };
+  after = record (done.after) { cells = cells_with_word done.after.cells address word };
   overflow = done.overflow;
   stored = Some (record { address = address; word = word });
   took = done.took;

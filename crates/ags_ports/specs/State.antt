@@ -42,5 +42,5 @@ abbrev pub next_location : State → ℕ
 next_location s = (s.location + 1) % 4096
 
 -- the cells after a store of a word: the cells from 4000 octal (2048) on are fixed, and no store changes them
-abbrev pub written : List ℕ → ℕ → ℕ → List ℕ
-written cells address word = if nat_lt address 2048 then slice_set cells address word else cells
+abbrev pub cells_with_word : List ℕ → ℕ → ℕ → List ℕ
+cells_with_word cells address word = if nat_lt address 2048 then slice_set cells address word else cells

@@ -1,7 +1,7 @@
 -- How long each order takes, in microseconds.
 use Rattle.std.specs.Prelude.{◌≡◌, ℕ, ◌≤◌, List, length, All, map, slice_index}
 use Rattle.ags_isa.specs.declared.orders.Order.{Order}
-use Rattle.ags_isa.specs.declared.orders.Order.TheVariants.{Abs, Add, Adz, Als, Axt, Cla, Clz, Com, Dly, Dvp, Inp, Ldq, Lls, Lrs, Mpr, Mpy, Mpz, Out, Sto, Stq, Sub, Suz, Tix, Tmi, Tov, Tra, Tsq}
+use Rattle.ags_isa.specs.declared.orders.Order.TheVariants.{Adz, Als, Clz, Dvp, Inp, Lls, Lrs, Mpr, Mpy, Mpz, Out, Suz, Tsq}
 use Rattle.ags_isa.specs.Order.{order_number, all_orders}
 
 -- a list is a table of times, in the orders' alphabetical order: one time for each, from 1 to 1000
@@ -29,20 +29,7 @@ standard_time Mpr = 70
 standard_time Mpy = 70
 standard_time Mpz = 70
 standard_time Dvp = 73
-standard_time Abs = 10
-standard_time Add = 10
-standard_time Axt = 10
-standard_time Cla = 10
-standard_time Com = 10
-standard_time Dly = 10
-standard_time Ldq = 10
-standard_time Sto = 10
-standard_time Stq = 10
-standard_time Sub = 10
-standard_time Tix = 10
-standard_time Tmi = 10
-standard_time Tov = 10
-standard_time Tra = 10
+standard_time _ = 10
 
 -- the standard machine's table of times
 abbrev pub standard_times : List ℕ

@@ -15,7 +15,7 @@ ghost use Rattle.ags_ports.specs.Port.{AreRegisters, place_of};
 ghost use Rattle.ags_ports.specs.Time.{AreTimes, time_of, standard_time, standard_times};
 ghost use Rattle.ags_ports.specs.Machine.{IsMachine, standard_machine};
 ghost use Rattle.ags_ports.specs.State.{State, IsState, cell, next_location, word_here};
-ghost use Rattle.ags_ports.specs.Change.{stored_in, taken_from, given_to};
+ghost use Rattle.ags_ports.specs.Change.{cells_after_store, inputs_after_take, outputs_after_give};
 ghost use Rattle.ags_ports.specs.Effect.{counts_index, effective, effect, then_clears};
 ghost use Rattle.ags_ports.specs.Step.{IsEvent, Steps, Reads, NamesNone, ChangesInputsAlone, idle_report};
 ghost use Rattle.ags_ports.specs.Run.{Moment, Run, AtEach};
@@ -113,11 +113,11 @@ pub fn only_dly_waits_and_only_no_order_halts()
 /// a word is told to be given to, and by a step, of the input registers the one that a word is told to be taken from.
 pub fn changes_are_told()
     ensures cells { (machine : Machine) (s : State) (event : Event) (report : Report) (after : State)
-        → Steps machine s event report after → after.cells ≡ stored_in s.cells report.stored }
+        → Steps machine s event report after → after.cells ≡ cells_after_store s.cells report.stored }
     ensures inputs { (machine : Machine) (s : State) (report : Report) (after : State)
-        → Steps machine s Step report after → after.inputs ≡ taken_from machine.ports.inputs s.inputs report.took }
+        → Steps machine s Step report after → after.inputs ≡ inputs_after_take machine.ports.inputs s.inputs report.took }
     ensures outputs { (machine : Machine) (s : State) (event : Event) (report : Report) (after : State)
-        → Steps machine s event report after → after.outputs ≡ given_to machine.ports.outputs s.outputs report.gave }
+        → Steps machine s event report after → after.outputs ≡ outputs_after_give machine.ports.outputs s.outputs report.gave }
 {}
 
 /// An order is told to have run exactly where a step reads one; where none ran, nothing is told but the location and

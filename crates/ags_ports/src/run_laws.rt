@@ -7,7 +7,7 @@ ghost use Rattle.ags_ports.specs.declared.events.Report.{Report};
 ghost use Rattle.ags_ports.specs.declared.machines.Machine.{Machine};
 ghost use Rattle.ags_ports.specs.Machine.{IsMachine};
 ghost use Rattle.ags_ports.specs.State.{State, IsState};
-ghost use Rattle.ags_ports.specs.Step.{Steps};
+ghost use Rattle.ags_ports.specs.Step.{IsEvent, Steps};
 ghost use Rattle.ags_ports.specs.Run.{Moment, Run, RunsTo, RunsInTurn, AtEach, AtEachStep, AreEvents, last_state};
 
 /// A fact about one step of a run: about the state before it, its event, and what comes of that. A law over all such facts
@@ -57,19 +57,24 @@ pub fn events_lead_to_one_state()
         → (mid : State) × RunsTo machine s first mid × RunsTo machine mid second after }
 {}
 
-/// A run is a step at each of its events, each from the state that the one before left; so what holds of every step of
-/// the machine holds at each step of every run.
+/// A run is a step at each of its events, each from the state that the one before left. So what holds of every step of the
+/// machine holds at each step of every run, and what holds of every step from a state, at each step of a run from one.
 pub fn run_is_a_step_at_each_event<F: StepFact>()
     ensures steps { (machine : Machine) (s : State) (events : List Event) (moments : List Moment)
         → Run machine s events moments
         ↔ AtEachStep (λ before event moment. Steps machine before event moment.report moment.after) s events moments }
     ensures along { (machine : Machine) (s : State) (events : List Event) (moments : List Moment)
         → ((before : State) (event : Event) (moment : Moment) → Steps machine before event moment.report moment.after
-            → F.holds before event moment)
+        → F.holds before event moment)
+        → Run machine s events moments → AtEachStep F.holds s events moments }
+    ensures kept { (machine : Machine) (s : State) (events : List Event) (moments : List Moment) → IsMachine machine
+        → IsState machine s → AreEvents events
+        → ((before : State) (event : Event) (moment : Moment) → IsState machine before → IsEvent event
+        → Steps machine before event moment.report moment.after → F.holds before event moment)
         → Run machine s events moments → AtEachStep F.holds s events moments }
 {}
 
-/// What holds at each step of a run holds at each step of its front, over the first events, and at each step behind it;
+/// What holds at each step of a run holds at each step of its first part, over the first events, and at each step behind it;
 /// and what holds in both parts holds at each step of the run.
 pub fn steps_of_a_run_are_those_of_its_parts<F: StepFact>()
     ensures front { (machine : Machine) (s : State) (first second : List Event) (moments others : List Moment)

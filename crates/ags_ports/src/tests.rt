@@ -2,6 +2,9 @@
 
 use crate::machines::Machine;
 use crate::registers::{Port, Ports};
+use crate::run_laws::{
+    StepFact, run_is_a_step_at_each_event, steps_of_a_run_are_those_of_its_parts,
+};
 use crate::time_tables::Times;
 use ags_isa::{Codes, Order};
 
@@ -111,4 +114,19 @@ fn ends_of_tables(rt: HostRuntime) {
     assert_eq!(rt; Times::of(&times), None);
     times[26] = 0;
     assert_eq!(rt; Times::of(&times), None);
+}
+
+/// That a step reports the location before it.
+struct ReportsLocation;
+
+impl StepFact for ReportsLocation {
+    ghost use Rattle.std.specs.Prelude.{◌≡◌};
+
+    ghost holds = { λ before event moment. moment.report.location ≡ before.location };
+}
+
+#[test]
+fn laws_of_runs_at_a_fact(_rt: HostRuntime) {
+    run_is_a_step_at_each_event::<ReportsLocation>();
+    steps_of_a_run_are_those_of_its_parts::<ReportsLocation>();
 }

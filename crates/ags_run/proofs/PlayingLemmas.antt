@@ -9,7 +9,7 @@ use Rattle.ags_ports.specs.declared.events.Report.{Report}
 use Rattle.ags_ports.specs.declared.machines.Machine.{Machine}
 use Rattle.ags_ports.specs.State.{State}
 use Rattle.ags_ports.specs.Step.{Steps}
-use Rattle.ags_ports.specs.Run.{Moment, RunsTo}
+use Rattle.ags_ports.specs.Run.{RunsTo}
 use Rattle.ags_ports.proofs.RunLemmas.{end-step, end-append}
 use Rattle.ags_outside.specs.Sink.{appended, appended_nothing, appended_twice, WroteFront, wrote_nothing, front_of_wrote, front_in_first, front_in_second}
 use Rattle.ags_run.specs.declared.script.TheConstants.{STEP_LIMIT}

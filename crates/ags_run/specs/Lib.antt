@@ -1,8 +1,10 @@
+-- what the public contracts cite
 pub mod FaultText
-pub mod Field
+pub mod Played
 pub mod Playable
 pub mod Reading
 pub mod Script
-pub mod Spelling
 pub mod Shown
-pub mod Played
+pub mod Spelling
+-- what serves inside
+pub mod Field

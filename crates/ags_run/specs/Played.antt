@@ -88,7 +88,7 @@ pub record PlayedWhole (machine : Machine) (s : State) (commands : List Plain) (
   pub steps : played.steps ≡ count_by is_step events
   pub puts : played.puts ≡ count_by is_put events
 
--- The commands' events are one run from the first state, and the sink took a front of the text that is shown along it.
+-- The commands' events are one run from the first state, and the sink took a prefix of the text that is shown along it.
 pub record PlayedInPart (machine : Machine) (s : State) (commands : List Plain) (old new : Option (List ℕ)) : Type 0 where
   pub events : List Event
   pub moments : List Moment

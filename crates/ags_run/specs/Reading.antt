@@ -21,11 +21,9 @@ AreReadings lines readings = AreReadingsBy IsReading lines readings
 -- the command of a reading, where it has one
 abbrev pub command_of : LineReading → Option Plain
 command_of (Command command) = Some command
-command_of Skipped = None
-command_of Malformed = None
+command_of _ = None
 
 -- how many steps the line of a reading makes
 abbrev pub reading_steps : LineReading → ℕ
 reading_steps (Command command) = step_count command
-reading_steps Skipped = 0
-reading_steps Malformed = 0
+reading_steps _ = 0

@@ -16,7 +16,7 @@ ghost use Rattle.ags_run.specs.Played.{Plays, PlaysInTurn};
 pub fn what_is_shown_lies_on_one_run()
     ensures split { (machine : Machine) (s : State) (first second : List Plain) (events : List Event) (text : List ℕ)
         → Plays machine s (first ++ second) events text → PlaysInTurn machine s first second events text }
-    // A run of all the events has that run as its front.
+    // A run of all the events begins with that run.
     ensures along { (machine : Machine) (s : State) (first second : List Plain) (events : List Event) (text : List ℕ)
         (all : List Moment) → IsMachine machine → Plays machine s (first ++ second) events text → Run machine s events all
         → (cut : PlaysInTurn machine s first second events text) × (further : List Moment) × (all ≡ cut.moments ++ further) }

@@ -4,7 +4,7 @@ use Rattle.std.specs.Prelude.{codes}
 use Rattle.ags_text.specs.Field.{leading_field, behind_leading_field, behind_blanks, next_field, behind_field, HasFields, AreCut}
 use Rattle.ags_text.specs.Numeral.{IsOctal, IsDecimal}
 
--- the first word of a line, and its next field
+-- the field at the start of a line, and its next field
 first_word : leading_field (codes "A1  OCT 7") ≡ codes "A1"
 unfolding leading_field
 first_word = refl

@@ -14,14 +14,14 @@ use Rattle.ags_text.specs.Field.{is_blank, AreBlanks, HasNoBlank, IsGap, IsField
 use Rattle.ags_text.specs.Numeral.{IsNumber, Writes}
 use Rattle.ags_text.proofs.FrontLemmas.{first_passes, front_passes, rest_stops, prefix_len_cut, first_of_front, no_front}
 
--- Words and gaps.
+-- Fields and gaps.
 
--- a word, and a rest that is empty or begins with a blank
-word_cut : (word rest : List ℕ) → HasNoBlank word → first_passes (λ b. not (is_blank b)) rest ≡ false → (leading_field (word ++ rest) ≡ word) × (behind_leading_field (word ++ rest) ≡ rest)
+-- a field, and a rest that is empty or begins with a blank
+leading_cut : (field rest : List ℕ) → HasNoBlank field → first_passes (λ b. not (is_blank b)) rest ≡ false → (leading_field (field ++ rest) ≡ field) × (behind_leading_field (field ++ rest) ≡ rest)
 unfolding leading_field behind_leading_field
-word_cut word rest no_blank stops =
-    let cut : position_or_len is_blank (word ++ rest) ≡ length word = prefix_len_cut (λ b. not (is_blank b)) word rest no_blank stops in
-    (rw (cut) (take_at word rest (length word) refl), rw (cut) (drop_at word rest (length word) refl))
+leading_cut field rest no_blank stops =
+    let cut : position_or_len is_blank (field ++ rest) ≡ length field = prefix_len_cut (λ b. not (is_blank b)) field rest no_blank stops in
+    (rw (cut) (take_at field rest (length field) refl), rw (cut) (drop_at field rest (length field) refl))
 
 -- blanks, and a rest that does not begin with one
 blanks_cut : (blanks rest : List ℕ) → list_all is_blank blanks ≡ true → first_passes is_blank rest ≡ false → behind_blanks (blanks ++ rest) ≡ rest
@@ -30,17 +30,17 @@ blanks_cut blanks rest all stops =
     let cut : prefix_len is_blank (blanks ++ rest) ≡ length blanks = prefix_len_cut is_blank blanks rest all stops in
     rw (cut) (drop_at blanks rest (length blanks) refl)
 
--- a text is its first word and what stands behind it, which does not begin with a byte that is not blank
-word_parts : (text : List ℕ) → (text ≡ leading_field text ++ behind_leading_field text) × HasNoBlank (leading_field text) × (first_passes (λ b. not (is_blank b)) (behind_leading_field text) ≡ false)
+-- a text is the field at its start and what stands behind it, which does not begin with a byte that is not blank
+leading_parts : (text : List ℕ) → (text ≡ leading_field text ++ behind_leading_field text) × HasNoBlank (leading_field text) × (first_passes (λ b. not (is_blank b)) (behind_leading_field text) ≡ false)
 unfolding leading_field behind_leading_field
-word_parts text = (sym (take-append-drop (position_or_len is_blank text) text), front_passes (λ b. not (is_blank b)) text, rest_stops (λ b. not (is_blank b)) text)
+leading_parts text = (sym (take-append-drop (position_or_len is_blank text) text), front_passes (λ b. not (is_blank b)) text, rest_stops (λ b. not (is_blank b)) text)
 
 -- and blanks and what stands behind them, which does not begin with a blank
 blanks_parts : (text : List ℕ) → (blanks : List ℕ) × (text ≡ blanks ++ behind_blanks text) × (list_all is_blank blanks ≡ true) × (first_passes is_blank (behind_blanks text) ≡ false)
 unfolding behind_blanks
 blanks_parts text = (take (prefix_len is_blank text) text, sym (take-append-drop (prefix_len is_blank text) text), front_passes is_blank text, rest_stops is_blank text)
 
--- What stands at the front of a text.
+-- What stands at the start of a text.
 
 -- a gap begins with a blank
 gap_stops : (gap rest : List ℕ) → IsGap gap → first_passes (λ b. not (is_blank b)) (gap ++ rest) ≡ false
@@ -52,11 +52,11 @@ blanks_stop : (blanks : List ℕ) → AreBlanks blanks → first_passes (λ b. n
 blanks_stop [] are = refl
 blanks_stop (b ∷ blanks) are = let parts = and_parts (is_blank b) (list_all is_blank blanks) are in let blank : is_blank b ≡ true = parts.0 in rw (blank) refl
 
--- a word does not
-word_stops : (word rest : List ℕ) → 0 < length word → HasNoBlank word → first_passes is_blank (word ++ rest) ≡ false
-word_stops [] rest some no_blank = absurd (omega arith)
-word_stops (b ∷ word) rest some no_blank =
-    let parts = and_parts (not (is_blank b)) (list_all (λ x. not (is_blank x)) word) no_blank in
+-- a field does not
+field_stops : (field rest : List ℕ) → 0 < length field → HasNoBlank field → first_passes is_blank (field ++ rest) ≡ false
+field_stops [] rest some no_blank = absurd (omega arith)
+field_stops (b ∷ field) rest some no_blank =
+    let parts = and_parts (not (is_blank b)) (list_all (λ x. not (is_blank x)) field) no_blank in
     elim (cases_Bool (is_blank b)) [
       | inl blank ↦ absurd (true≢false (sym parts.0 ∙ ap not blank))
       | inr mark ↦ mark
@@ -69,8 +69,8 @@ field_cut : (blanks field rest : List ℕ) → AreBlanks blanks → 0 < length f
     → (next_field (blanks ++ (field ++ rest)) ≡ field) × (behind_field (blanks ++ (field ++ rest)) ≡ rest)
 unfolding next_field behind_field
 field_cut blanks field rest are some no_blank stops =
-    let skip : behind_blanks (blanks ++ (field ++ rest)) ≡ field ++ rest = blanks_cut blanks (field ++ rest) are (word_stops field rest some no_blank) in
-    let cut = word_cut field rest no_blank stops in
+    let skip : behind_blanks (blanks ++ (field ++ rest)) ≡ field ++ rest = blanks_cut blanks (field ++ rest) are (field_stops field rest some no_blank) in
+    let cut = leading_cut field rest no_blank stops in
     (rw (skip) cut.0, rw (skip) cut.1)
 
 -- a text is blanks, its next field and what stands behind it
@@ -79,8 +79,8 @@ field_parts : (text : List ℕ) → (blanks : List ℕ) × AreBlanks blanks × (
 unfolding next_field behind_field
 field_parts text =
     let parts = blanks_parts text in
-    let word = word_parts (behind_blanks text) in
-    (parts.0, parts.2, parts.1 ∙ ap (λ (rest : List ℕ). parts.0 ++ rest) word.0, word.1, word.2)
+    let field = leading_parts (behind_blanks text) in
+    (parts.0, parts.2, parts.1 ∙ ap (λ (rest : List ℕ). parts.0 ++ rest) field.0, field.1, field.2)
 
 -- blanks have no field, and nothing behind it
 pub blanks_end : (text : List ℕ) → AreBlanks text → (next_field text ≡ []) × (behind_field text ≡ [])
@@ -93,7 +93,7 @@ blanks_end text are =
 pub blanks_none : (text : List ℕ) → AreBlanks text → (next_field text ≡ []) × AreBlanks (behind_field text)
 blanks_none text are = let end = blanks_end text are in (end.0, rw (end.1) refl)
 
--- a text that does not begin with a blank and has no word is empty
+-- a text that does not begin with a blank and has no field is empty
 empty_word : (text : List ℕ) → first_passes is_blank text ≡ false → leading_field text ≡ [] → text ≡ []
 unfolding leading_field
 empty_word [] stops none = refl
@@ -131,11 +131,11 @@ standing_cut line (field ∷ fields) are has =
     let cut = field_cut has.0 field has.1 has.2 are.0.some are.0.marks (behind_stops fields has.1 has.4) in
     (rw (has.3) cut.0, rw (has.3, cut.1) (behind_cut fields has.1 are.1 has.4))
 
--- and so behind a word
-pub standing_behind : (line word behind : List ℕ) (fields : List (List ℕ)) → HasNoBlank word → AreFields fields → line ≡ word ++ behind → Behind fields behind
-    → (leading_field line ≡ word) × AreCut fields (behind_leading_field line)
-standing_behind line word behind fields marks are whole stand =
-    let cut = word_cut word behind marks (behind_stops fields behind stand) in
+-- and so behind a field
+pub standing_behind : (line field behind : List ℕ) (fields : List (List ℕ)) → HasNoBlank field → AreFields fields → line ≡ field ++ behind → Behind fields behind
+    → (leading_field line ≡ field) × AreCut fields (behind_leading_field line)
+standing_behind line field behind fields marks are whole stand =
+    let cut = leading_cut field behind marks (behind_stops fields behind stand) in
     (rw (whole) cut.0, rw (whole, cut.1) (behind_cut fields behind are stand))
 
 -- where a text does not begin with its next field, a gap stands before it
@@ -156,7 +156,7 @@ cut_behind_stop (field ∷ fields) text some stops are =
       parts.0,
       behind_field text,
       record { some = gap_some parts.0 (next_field text) (behind_field text) text parts.2 stops next_some parts.3; blanks = parts.1 },
-      parts.2 ∙ ap (λ (word : List ℕ). parts.0 ++ (word ++ behind_field text)) are.0,
+      parts.2 ∙ ap (λ (field : List ℕ). parts.0 ++ (field ++ behind_field text)) are.0,
       cut_behind_stop fields (behind_field text) some.1 parts.4 are.1,
     )
 
@@ -167,7 +167,7 @@ cut_has line (field ∷ fields) some are =
       parts.0,
       behind_field line,
       parts.1,
-      parts.2 ∙ ap (λ (word : List ℕ). parts.0 ++ (word ++ behind_field line)) are.0,
+      parts.2 ∙ ap (λ (field : List ℕ). parts.0 ++ (field ++ behind_field line)) are.0,
       cut_behind_stop fields (behind_field line) some.1 parts.4 are.1,
     )
 
@@ -179,11 +179,11 @@ cut_fields line (field ∷ fields) some are = (record { some = some.0; marks = r
 pub cut_standing : (line : List ℕ) (fields : List (List ℕ)) → AreSome fields → AreCut fields line → AreFields fields × HasFields line fields
 cut_standing line fields some are = (cut_fields line fields some are, cut_has line fields some are)
 
--- and so behind a word
+-- and so behind a field
 pub cut_behind : (line : List ℕ) (fields : List (List ℕ)) → AreSome fields → AreCut fields (behind_leading_field line)
     → HasNoBlank (leading_field line) × (line ≡ leading_field line ++ behind_leading_field line) × Behind fields (behind_leading_field line)
 cut_behind line fields some are =
-    let parts = word_parts line in
+    let parts = leading_parts line in
     (parts.1, parts.0, cut_behind_stop fields (behind_leading_field line) some parts.2 are)
 
 -- The bytes of a field.

@@ -44,15 +44,15 @@ abbrev pub HasFields : List ℕ → List (List ℕ) → Type 0
 HasFields line [] = AreBlanks line
 HasFields line (field ∷ fields) = (blanks rest : List ℕ) × AreBlanks blanks × (line ≡ blanks ++ (field ++ rest)) × Behind fields rest
 
--- the front of a text before its first blank, or all of it
+-- the prefix of a text before its first blank, or all of it
 unfoldable pub leading_field : List ℕ → List ℕ
 leading_field text = take (position_or_len is_blank text) text
 
--- what stands behind that front
+-- what stands behind that prefix
 unfoldable pub behind_leading_field : List ℕ → List ℕ
 behind_leading_field text = drop (position_or_len is_blank text) text
 
--- a text without the blanks at its front
+-- a text without the blanks at its start
 unfoldable pub behind_blanks : List ℕ → List ℕ
 behind_blanks text = drop (prefix_len is_blank text) text
 

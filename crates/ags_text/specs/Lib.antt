@@ -1,3 +1,4 @@
+-- what the public contracts cite
 pub mod Fault
 pub mod Field
 pub mod Line

@@ -18,15 +18,15 @@ fn first_mark(text: &[u8]) -> Option<usize>
     text.iter().position(|byte| !matches!(*byte, b' ' | b'\t'))
 }
 
-/// How long the front of a text is that has no blank.
-fn word_len(text: &[u8]) -> usize
+/// How long the field at the start of a text is.
+fn leading_field_len(text: &[u8]) -> usize
     ensures place { result ≡ position_or_len is_blank text.now }
     ensures within { result ≤ length text.now }
 {
     first_blank(text).unwrap_or(text.len())
 }
 
-/// How long the front of a text is that has nothing but blanks.
+/// How long the prefix of a text is that has nothing but blanks.
 fn blanks_len(text: &[u8]) -> usize
     ensures place { result ≡ prefix_len is_blank text.now }
     ensures within { result ≤ length text.now }
@@ -41,7 +41,7 @@ pub fn are_blanks(text: &[u8]) -> bool
     text.iter().all(|byte| matches!(*byte, b' ' | b'\t'))
 }
 
-/// A text without the blanks at its front.
+/// A text without the blanks at its start.
 #[tactic(auto, unfolding(crate::specs::Field::behind_blanks))]
 fn skip_blanks(text: &[u8]) -> &[u8]
     ensures { result.now ≡ behind_blanks text.now }
@@ -49,14 +49,14 @@ fn skip_blanks(text: &[u8]) -> &[u8]
     &text[blanks_len(text)..]
 }
 
-/// The front of a text before its first blank or tab, which may be empty, and what stands behind it, from that
+/// The prefix of a text before its first blank or tab, which may be empty, and what stands behind it, from that
 /// blank on.
 #[tactic(auto, unfolding(crate::specs::Field::leading_field, crate::specs::Field::behind_leading_field))]
 pub fn split_leading_field(text: &[u8]) -> (&[u8], &[u8])
-    ensures word { result.0.now ≡ leading_field text.now }
+    ensures field { result.0.now ≡ leading_field text.now }
     ensures behind { result.1.now ≡ behind_leading_field text.now }
 {
-    text.split_at(word_len(text))
+    text.split_at(leading_field_len(text))
 }
 
 /// The next field of a text, without the blanks before it, and what stands behind it. Where no field is left, both

@@ -81,7 +81,7 @@ fn digits_are_read(rt: HostRuntime) {
 
 #[test]
 fn texts_are_cut_at_blanks(rt: HostRuntime) {
-    // a text, its first word and what stands behind that, its next field and what stands behind that
+    // a text, the field at its start and what stands behind that, its next field and what stands behind that
     let rows: [(&[u8], (&[u8], &[u8]), (&[u8], &[u8])); 8] = [
         (b"", (b"", b""), (b"", b"")),
         (b" \t", (b"", b" \t"), (b"", b"")),
@@ -92,9 +92,9 @@ fn texts_are_cut_at_blanks(rt: HostRuntime) {
         (b"A\x0bB C", (b"A\x0bB", b" C"), (b"A\x0bB", b" C")),
         (b" \r 1", (b"", b" \r 1"), (b"\r", b" 1")),
     ];
-    for (row, (text, word, field)) in rows.into_iter().enumerate() {
-        assert!(rt; split_leading_field(text) == word, "row {row}");
-        assert!(rt; split_field(text) == field, "row {row}");
+    for (row, (text, leading, next)) in rows.into_iter().enumerate() {
+        assert!(rt; split_leading_field(text) == leading, "row {row}");
+        assert!(rt; split_field(text) == next, "row {row}");
     }
     for (text, blank) in [
         (b"".as_slice(), true),

@@ -3,6 +3,7 @@ use Rattle.std.specs.Prelude.{ℕ, ◌+◌, List, [], ◌∷◌, ◌++◌, Optio
 use Rattle.ags_image.specs.Image.{PlacedWord}
 use Rattle.ags_text.specs.Line.{LineAt, lines_of}
 use Rattle.ags_text.specs.Numeral.{decimal7_text, octal4_text, octal6_text}
+use Rattle.ags_image.specs.Image.{PlacedWord}
 
 -- the columns of a card's place and word: eleven blanks where it has none
 abbrev pub columns : Option PlacedWord → List ℕ
