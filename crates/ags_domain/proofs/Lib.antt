@@ -1,0 +1,3 @@
+pub mod HullLaws
+pub mod IntLaws
+pub mod SumLaws

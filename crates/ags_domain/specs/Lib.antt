@@ -1,0 +1,10 @@
+-- what the public contracts cite
+pub mod WordSet
+pub mod Domain
+pub mod Hull
+pub mod Candidates
+pub mod Range
+
+-- what serves inside
+pub mod WordList
+pub mod Corners
