@@ -32,18 +32,18 @@ at_most_along a b c h k = omega (arith, ints)
 
 -- ---- one factor goes over an interval: an end of it gives the least product and an end the greatest
 
-column_least : (least most x factor : ℤ) → least ≤ℤ x → x ≤ℤ most → ((least *ℤ factor) ≤ℤ (x *ℤ factor)) ⊎ ((most *ℤ factor) ≤ℤ (x *ℤ factor))
+pub column_least : (least most x factor : ℤ) → least ≤ℤ x → x ≤ℤ most → ((least *ℤ factor) ≤ℤ (x *ℤ factor)) ⊎ ((most *ℤ factor) ≤ℤ (x *ℤ factor))
 column_least least most x (pos c) h k = inl (mul_up least x c h)
 column_least least most x (negsuc c) h k = inr (mul_down x most c k)
 
-column_most : (least most x factor : ℤ) → least ≤ℤ x → x ≤ℤ most → ((x *ℤ factor) ≤ℤ (least *ℤ factor)) ⊎ ((x *ℤ factor) ≤ℤ (most *ℤ factor))
+pub column_most : (least most x factor : ℤ) → least ≤ℤ x → x ≤ℤ most → ((x *ℤ factor) ≤ℤ (least *ℤ factor)) ⊎ ((x *ℤ factor) ≤ℤ (most *ℤ factor))
 column_most least most x (pos c) h k = inr (mul_up x most c k)
 column_most least most x (negsuc c) h k = inl (mul_down least x c h)
 
-row_least : (least most x factor : ℤ) → least ≤ℤ x → x ≤ℤ most → ((factor *ℤ least) ≤ℤ (factor *ℤ x)) ⊎ ((factor *ℤ most) ≤ℤ (factor *ℤ x))
+pub row_least : (least most x factor : ℤ) → least ≤ℤ x → x ≤ℤ most → ((factor *ℤ least) ≤ℤ (factor *ℤ x)) ⊎ ((factor *ℤ most) ≤ℤ (factor *ℤ x))
 row_least least most x factor h k = rw (*ℤ_comm factor least, *ℤ_comm factor most, *ℤ_comm factor x) (column_least least most x factor h k)
 
-row_most : (least most x factor : ℤ) → least ≤ℤ x → x ≤ℤ most → ((factor *ℤ x) ≤ℤ (factor *ℤ least)) ⊎ ((factor *ℤ x) ≤ℤ (factor *ℤ most))
+pub row_most : (least most x factor : ℤ) → least ≤ℤ x → x ≤ℤ most → ((factor *ℤ x) ≤ℤ (factor *ℤ least)) ⊎ ((factor *ℤ x) ≤ℤ (factor *ℤ most))
 row_most least most x factor h k = rw (*ℤ_comm factor least, *ℤ_comm factor most, *ℤ_comm factor x) (column_most least most x factor h k)
 
 -- ---- right shifts
@@ -76,7 +76,70 @@ div_down (pos m) (negsuc n) d h = absurd (omega (arith, ints))
 div_down (negsuc m) (pos n) d h = omega (arith, ints)
 div_down (negsuc m) (negsuc n) d h = omega (arith, ints, nat_div_up (suc n) (suc m) d (omega (arith, ints)))
 
--- the divisor goes from d to e, away from 0
-pub by_larger : (n : ℤ) (d e : ℕ) → d ≤ e → ((int_div n (pos (suc d)) ≤ℤ int_div n (pos (suc e))) ⊎ (pos 0 ≤ℤ n))
-by_larger (pos n) d e h = inr (omega (arith, ints))
-by_larger (negsuc n) d e h = inl (omega (arith, ints, nat_div_down (suc n) d e h))
+-- the divisor goes over an interval that has positive numbers alone, or negative ones alone
+
+by_positive_least : (n : ℤ) (e d f : ℕ) → e ≤ d → d ≤ f
+    → (int_div n (pos (suc e)) ≤ℤ int_div n (pos (suc d))) ⊎ (int_div n (pos (suc f)) ≤ℤ int_div n (pos (suc d)))
+by_positive_least (pos n) e d f h k = inr (omega (arith, ints, nat_div_down n d f k))
+by_positive_least (negsuc n) e d f h k = inl (omega (arith, ints, nat_div_down (suc n) e d h))
+
+by_positive_most : (n : ℤ) (e d f : ℕ) → e ≤ d → d ≤ f
+    → (int_div n (pos (suc d)) ≤ℤ int_div n (pos (suc e))) ⊎ (int_div n (pos (suc d)) ≤ℤ int_div n (pos (suc f)))
+by_positive_most (pos n) e d f h k = inl (omega (arith, ints, nat_div_down n e d h))
+by_positive_most (negsuc n) e d f h k = inr (omega (arith, ints, nat_div_down (suc n) d f k))
+
+by_negative_least : (n : ℤ) (e d f : ℕ) → d ≤ e → f ≤ d
+    → (int_div n (negsuc e) ≤ℤ int_div n (negsuc d)) ⊎ (int_div n (negsuc f) ≤ℤ int_div n (negsuc d))
+by_negative_least (pos n) e d f h k = inr (omega (arith, ints, nat_div_down n f d k))
+by_negative_least (negsuc n) e d f h k = inl (omega (arith, ints, nat_div_down (suc n) d e h))
+
+by_negative_most : (n : ℤ) (e d f : ℕ) → d ≤ e → f ≤ d
+    → (int_div n (negsuc d) ≤ℤ int_div n (negsuc e)) ⊎ (int_div n (negsuc d) ≤ℤ int_div n (negsuc f))
+by_negative_most (pos n) e d f h k = inl (omega (arith, ints, nat_div_down n d e h))
+by_negative_most (negsuc n) e d f h k = inr (omega (arith, ints, nat_div_down (suc n) f d k))
+
+-- all numbers of the interval are positive, or all are negative
+abbrev pub IsOneSided : (least most : ℤ) → Type 0
+IsOneSided least most = (pos 0 <ℤ least) ⊎ (most <ℤ pos 0)
+
+pub divisor_least : (n least y most : ℤ) → least ≤ℤ y → y ≤ℤ most → IsOneSided least most
+    → (int_div n least ≤ℤ int_div n y) ⊎ (int_div n most ≤ℤ int_div n y)
+divisor_least n (pos zero) y most h k (inl some) = absurd (omega (arith, ints))
+divisor_least n (pos (suc e)) (pos zero) most h k (inl some) = absurd (omega (arith, ints))
+divisor_least n (pos (suc e)) (pos (suc d)) (pos zero) h k (inl some) = absurd (omega (arith, ints))
+divisor_least n (pos (suc e)) (pos (suc d)) (pos (suc f)) h k (inl some) = by_positive_least n e d f (omega (arith, ints)) (omega (arith, ints))
+divisor_least n (pos (suc e)) (pos (suc d)) (negsuc f) h k (inl some) = absurd (omega (arith, ints))
+divisor_least n (pos (suc e)) (negsuc d) most h k (inl some) = absurd (omega (arith, ints))
+divisor_least n (negsuc e) y most h k (inl some) = absurd (omega (arith, ints))
+divisor_least n least y (pos f) h k (inr some) = absurd (omega (arith, ints))
+divisor_least n least (pos d) (negsuc f) h k (inr some) = absurd (omega (arith, ints))
+divisor_least n (pos e) (negsuc d) (negsuc f) h k (inr some) = absurd (omega (arith, ints))
+divisor_least n (negsuc e) (negsuc d) (negsuc f) h k (inr some) = by_negative_least n e d f (omega (arith, ints)) (omega (arith, ints))
+
+pub divisor_most : (n least y most : ℤ) → least ≤ℤ y → y ≤ℤ most → IsOneSided least most
+    → (int_div n y ≤ℤ int_div n least) ⊎ (int_div n y ≤ℤ int_div n most)
+divisor_most n (pos zero) y most h k (inl some) = absurd (omega (arith, ints))
+divisor_most n (pos (suc e)) (pos zero) most h k (inl some) = absurd (omega (arith, ints))
+divisor_most n (pos (suc e)) (pos (suc d)) (pos zero) h k (inl some) = absurd (omega (arith, ints))
+divisor_most n (pos (suc e)) (pos (suc d)) (pos (suc f)) h k (inl some) = by_positive_most n e d f (omega (arith, ints)) (omega (arith, ints))
+divisor_most n (pos (suc e)) (pos (suc d)) (negsuc f) h k (inl some) = absurd (omega (arith, ints))
+divisor_most n (pos (suc e)) (negsuc d) most h k (inl some) = absurd (omega (arith, ints))
+divisor_most n (negsuc e) y most h k (inl some) = absurd (omega (arith, ints))
+divisor_most n least y (pos f) h k (inr some) = absurd (omega (arith, ints))
+divisor_most n least (pos d) (negsuc f) h k (inr some) = absurd (omega (arith, ints))
+divisor_most n (pos e) (negsuc d) (negsuc f) h k (inr some) = absurd (omega (arith, ints))
+divisor_most n (negsuc e) (negsuc d) (negsuc f) h k (inr some) = by_negative_most n e d f (omega (arith, ints)) (omega (arith, ints))
+
+-- the number that is divided goes over an interval
+
+pub divided_least : (d least n most : ℤ) → d ≢ pos 0 → least ≤ℤ n → n ≤ℤ most
+    → (int_div least d ≤ℤ int_div n d) ⊎ (int_div most d ≤ℤ int_div n d)
+divided_least (pos zero) least n most some h k = absurd (some refl)
+divided_least (pos (suc d)) least n most some h k = inl (div_up least n d h)
+divided_least (negsuc d) least n most some h k = inr (div_down n most d k)
+
+pub divided_most : (d least n most : ℤ) → d ≢ pos 0 → least ≤ℤ n → n ≤ℤ most
+    → (int_div n d ≤ℤ int_div least d) ⊎ (int_div n d ≤ℤ int_div most d)
+divided_most (pos zero) least n most some h k = absurd (some refl)
+divided_most (pos (suc d)) least n most some h k = inr (div_up n most d k)
+divided_most (negsuc d) least n most some h k = inl (div_down least n d h)

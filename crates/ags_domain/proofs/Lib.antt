@@ -1,3 +1,5 @@
+pub mod CornerLaws
 pub mod HullLaws
 pub mod IntLaws
+pub mod ProductLaws
 pub mod SumLaws

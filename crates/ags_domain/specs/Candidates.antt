@@ -1,17 +1,14 @@
 -- For each operation the operands that are tried, in order, where some overflow: the first that does is told. `a` and `m` are
 -- the ends of A's interval and of the cell's. What an operation doesn't take is the word 0.
-use Rattle.std.specs.Prelude.{ℕ, ◌-◌, ◌^◌, Bool, ◌&&◌, List, [], ◌∷◌, pos, if◌then◌else◌}
+use Rattle.std.specs.Prelude.{ℕ, ◌^◌, Bool, ◌&&◌, List, [], ◌∷◌, pos, if◌then◌else◌}
 use Rattle.std.specs.Int.RustNames.{int_le}
 use Rattle.ags_word.specs.Word.{val}
 use Rattle.ags_domain.specs.Domain.{Ends}
+use Rattle.ags_domain.specs.LowBits.{all_ones}
 use Rattle.ags_domain.specs.declared.operands.Operands.{Operands}
 
 abbrev pub operands : (a q m : ℕ) → Operands
 operands a q m = record { a = a; q = q; m = m }
-
--- the low part of Q with all bits set
-abbrev pub all_ones : ℕ
-all_ones = 2 ^ 17 - 1
 
 abbrev pub sum_candidates : (a m : Ends) → List Operands
 sum_candidates a m = operands a.greatest 0 m.greatest ∷ operands a.least 0 m.least ∷ []

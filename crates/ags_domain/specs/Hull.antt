@@ -1,8 +1,9 @@
 -- What an operation makes of two intervals, and where it overflows. A lies between two ends, the cell between two others, and Q
 -- is any word, so that its low part is any.
-use Rattle.std.specs.Prelude.{◌≡◌, ℕ, ◌<◌, ◌-◌, ◌^◌, Bool, true, false, ◌⊎◌, List, [], ◌∷◌, Option, Some, None, Result, Ok, Err, if◌then◌else◌}
+use Rattle.std.specs.Prelude.{◌≡◌, ℕ, ◌<◌, ◌^◌, Bool, true, false, ◌⊎◌, List, [], ◌∷◌, Option, Some, None, Result, Ok, Err, if◌then◌else◌}
 use Rattle.std.specs.List.{find}
 use Rattle.ags_word.specs.Operation.{Operation}
+use Rattle.ags_domain.specs.LowBits.{all_ones}
 use Rattle.ags_domain.specs.Domain.{Ends, IsBetween, Meaning, Ranged}
 use Rattle.ags_domain.specs.declared.operands.Operands.{Operands}
 
@@ -32,7 +33,7 @@ NoneOverflows operation a_ends m_ends = (o : Operands) → IsOperands a_ends m_e
 -- part of Q with no bit set, or with all
 pub record IsCorner (a_ends m_ends : Ends) (o : Operands) : Type 0 where
   pub a_corner : (o.a ≡ a_ends.least) ⊎ ((o.a ≡ a_ends.greatest) ⊎ (o.a ≡ 0))
-  pub q_corner : (o.q ≡ 0) ⊎ (o.q ≡ 2 ^ 17 - 1)
+  pub q_corner : (o.q ≡ 0) ⊎ (o.q ≡ all_ones)
   pub m_corner : (o.m ≡ m_ends.least) ⊎ (o.m ≡ m_ends.greatest)
 
 -- some operands, at a corner, give the word

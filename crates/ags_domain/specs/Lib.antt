@@ -1,4 +1,5 @@
 -- what the public contracts cite
+pub mod LowBits
 pub mod WordSet
 pub mod Domain
 pub mod Hull

@@ -1,9 +1,9 @@
 //! Ranges from the words at their corners.
 
-ghost use Rattle.std.specs.Prelude.{◌≡◌, ◌<◌, ◌^◌, ◌≤ℤ◌, ℕ, Ok};
+ghost use Rattle.std.specs.Prelude.{◌≡◌, ◌<◌, ◌^◌, ◌≤ℤ◌, ℕ, Ok, pos};
 ghost use Rattle.ags_word.specs.Word.{val};
 ghost use Rattle.ags_domain.specs.Range.{range_ends, lesser, greater, hull_of, ends_of};
-ghost use Rattle.ags_domain.specs.Corners.{IsSpanned};
+ghost use Rattle.ags_domain.specs.Corners.{IsSpanned, IsFromZero, IsAround, ends_of_four};
 
 use crate::operands::Operands;
 use crate::ranges::Range;
@@ -42,10 +42,7 @@ pub(crate) fn hull(left: &Range, right: &Range) -> Range
 
 /// The range of four words.
 pub(crate) fn around(first: Word, second: Word, third: Word, fourth: Word) -> Range
-    ensures {
-        range_ends result
-            ≡ hull_of (ends_of (lesser first second) (greater first second)) (ends_of (lesser third fourth) (greater third fourth))
-    }
+    ensures { range_ends result ≡ ends_of_four first second third fourth }
 {
     hull(&over(first, second), &over(third, fourth))
 }
@@ -62,4 +59,30 @@ pub(crate) fn spanned(greatest: Result<Word, Operands>, least: Result<Word, Oper
             Ok(least) => Ok(Range::spanning(least, greatest)),
         },
     }
+}
+
+/// The range from 0 to the greater of two sizes that were tried, or the first operands that overflow.
+pub(crate) fn from_zero(first: Result<Word, Operands>, second: Result<Word, Operands>) -> Result<Range, Operands>
+    requires { (f s : ℕ) → first ≡ Ok f → second ≡ Ok s → pos 0 ≤ℤ val (greater f s) }
+    ensures { IsFromZero first second result }
+{
+    match first {
+        Err(operands) => Err(operands),
+        Ok(first) => match second {
+            Err(operands) => Err(operands),
+            Ok(second) => Ok(Range::spanning(Word::ZERO, greater_word(first, second))),
+        },
+    }
+}
+
+/// The range of four words that were tried, or the first operands that overflow.
+pub(crate) fn around_tries(
+    first: Result<Word, Operands>,
+    second: Result<Word, Operands>,
+    third: Result<Word, Operands>,
+    fourth: Result<Word, Operands>,
+) -> Result<Range, Operands>
+    ensures { IsAround first second third fourth result }
+{
+    Ok(around(first?, second?, third?, fourth?))
 }

@@ -6,7 +6,11 @@
 mod domains;
 mod hulls;
 mod operands;
+mod products;
+mod quotients;
 mod ranges;
+mod shifts;
+mod signs;
 mod sums;
 mod word_lists;
 mod word_sets;
