@@ -22,10 +22,10 @@ lesser_left x y = grind (arith, ints)
 lesser_right : (x y : ℕ) → val (lesser x y) ≤ℤ val y
 lesser_right x y = grind (arith, ints)
 
-greater_left : (x y : ℕ) → val x ≤ℤ val (greater x y)
+pub greater_left : (x y : ℕ) → val x ≤ℤ val (greater x y)
 greater_left x y = grind (arith, ints)
 
-greater_right : (x y : ℕ) → val y ≤ℤ val (greater x y)
+pub greater_right : (x y : ℕ) → val y ≤ℤ val (greater x y)
 greater_right x y = grind (arith, ints)
 
 pub lesser_one : (x y : ℕ) → (lesser x y ≡ x) ⊎ (lesser x y ≡ y)
@@ -104,7 +104,7 @@ pub record IsCornered (number : Operands → ℤ) (a_ends m_ends : Ends) (c1 c2 
   pub from : (o : Operands) → IsOperands a_ends m_ends o → IsAbove (number c1) (number c2) (number c3) (number c4) (number o)
   pub to : (o : Operands) → IsOperands a_ends m_ends o → IsBelow (number c1) (number c2) (number c3) (number c4) (number o)
 
-fine_of : (operation : Operation) (a_ends m_ends ends : Ends) (c : Operands) (w : ℕ) → IsOperands a_ends m_ends c → tried operation c ≡ Ok w
+pub fine_of : (operation : Operation) (a_ends m_ends ends : Ends) (c : Operands) (w : ℕ) → IsOperands a_ends m_ends c → tried operation c ≡ Ok w
     → IsBetween ends w → IsFine operation a_ends m_ends ends c
 fine_of operation a_ends m_ends ends c w is ok inside = record {
   operands = is;
@@ -116,7 +116,7 @@ word_of : (operation : Operation) (number : Operands → ℤ) (a_ends m_ends : E
     → IsOperands a_ends m_ends c → tried operation c ≡ Ok w → w < 2 ^ 18
 word_of operation number a_ends m_ends c w is_exact is ok = subst (λ (v : ℕ). v < 2 ^ 18) (tried_word operation c w ok) (is_exact.word c is)
 
-reached_at : (operation : Operation) (a_ends m_ends : Ends) (c : Operands) (w v : ℕ) → IsOperands a_ends m_ends c → IsCorner a_ends m_ends c
+pub reached_at : (operation : Operation) (a_ends m_ends : Ends) (c : Operands) (w v : ℕ) → IsOperands a_ends m_ends c → IsCorner a_ends m_ends c
     → tried operation c ≡ Ok w → v ≡ w → IsReached operation a_ends m_ends v
 reached_at operation a_ends m_ends c w v is corner ok e = record { at = c; operands = is; corner = corner; given = tried_word operation c w ok ∙ sym e }
 
