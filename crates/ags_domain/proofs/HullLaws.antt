@@ -155,7 +155,7 @@ module _ (operation : Operation) (number : Operands → ℤ) (a_ends m_ends : En
     upper = λ o is. (high, record { operands = is_span.high_is; fine = tried_fine operation high greatest high_ok; inside = high_inside }, is_span.to o is);
   }
 
-  span_interval : (range : Range) → range_ends range ≡ record { least = least; greatest = greatest } → IsInterval range_meaning operation a_ends m_ends range
+  pub span_interval : (range : Range) → range_ends range ≡ record { least = least; greatest = greatest } → IsInterval range_meaning operation a_ends m_ends range
   span_interval range ends_are = record {
     none = none_over operation number a_ends m_ends (record { least = least; greatest = greatest }) is_exact span_rimmed;
     hull = subst (λ ends. IsHull operation a_ends m_ends ends) (sym ends_are) (record {
