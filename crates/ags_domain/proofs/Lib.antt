@@ -3,6 +3,7 @@ pub mod HullLaws
 pub mod IntLaws
 pub mod ProductLaws
 pub mod QuotientLaws
+pub mod RangeLaws
 pub mod ShiftLaws
 pub mod SignLaws
 pub mod SumLaws
