@@ -26,3 +26,39 @@ impl Model for WordList {
 
     ghost inverse_ok = { λ list is. filled_up-take list is };
 }
+
+impl WordList {
+    /// No words.
+    pub(crate) fn new() -> WordList
+        ensures { result ≡ [] }
+    {
+        WordList {
+            words: [Word::ZERO; 16],
+            count: 0,
+        }
+    }
+
+    /// How many words there are.
+    pub(crate) fn len(&self) -> usize
+        ensures same { result ≡ length self.now }
+        ensures few { length self.now ≤ 16 }
+    {
+        self.count
+    }
+
+    /// The words.
+    pub(crate) fn as_slice(&self) -> &[Word]
+        ensures { result.now ≡ self.now }
+    {
+        &self.words[..self.count]
+    }
+
+    /// Puts a word behind the others.
+    pub(crate) fn push(&mut self, word: Word)
+        requires { length self.old < 16 }
+        ensures { self.new ≡ self.old ++ word ∷ [] }
+    {
+        self.words[self.count] = word;
+        self.count += 1;
+    }
+}
