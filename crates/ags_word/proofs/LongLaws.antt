@@ -2,6 +2,7 @@
 -- For words a, q and m:
 --     fits_long-long                    the number of a pair is from -(2 ^ 34) to 2 ^ 34 - 1
 --     pair-long                         taking that number apart gives A, and Q with its top bit turned to A's
+--     size_most, least_word             the size of a value is at most 2 ^ 17, and it is that of one word alone
 --     product_over, over-product        the product of two values is out of range exactly where both words are 2 ^ 17
 --     divided-zero, divided-over, divided-some    where a quotient has no word, and its word
 --     IsCutOff-divided                  a quotient's word has the number over the divisor as its value, cut off toward zero
@@ -182,10 +183,10 @@ both_most a b h k p =
     (omega arith, omega arith)
 
 -- the size of a word's value is at most 2 ^ 17, and it is that of one word alone
-size_most : (w : ℕ) → w < 2 ^ 18 → unsigned_abs (val w) ≤ 2 ^ 17
+pub size_most : (w : ℕ) → w < 2 ^ 18 → unsigned_abs (val w) ≤ 2 ^ 17
 size_most w h = let least = val_least w h in let most = val_most w h in omega (arith, ints)
 
-least_word : (w : ℕ) → w < 2 ^ 18 → unsigned_abs (val w) ≡ 2 ^ 17 → w ≡ 2 ^ 17
+pub least_word : (w : ℕ) → w < 2 ^ 18 → unsigned_abs (val w) ≡ 2 ^ 17 → w ≡ 2 ^ 17
 least_word w h size = ⊎_elim
     (λ l. let is = val-low w l in absurd (omega (arith, ints)))
     (λ l. let is = val-high w l in omega (arith, ints))

@@ -1,6 +1,6 @@
 -- A pair of words, A and Q, stands for one whole number of 35 bits: A's value above Q's low 17 bits.
 -- Q's own top bit tells nothing of it, and is set to A's where a pair is made.
-use Rattle.std.specs.Prelude.{◌≡◌, ℕ, ◌<◌, ◌≤◌, ◌+◌, ◌*◌, ◌/◌, ◌%◌, ◌^◌, Bool, ℤ, pos, ◌+ℤ◌, ◌-ℤ◌, ◌*ℤ◌, int_lt, unsigned_abs, Option, None, if◌then◌else◌}
+use Rattle.std.specs.Prelude.{◌≡◌, ℕ, ◌<◌, ◌≤◌, ◌+◌, ◌*◌, ◌/◌, ◌%◌, ◌^◌, Bool, ℤ, pos, ◌+ℤ◌, ◌-ℤ◌, ◌*ℤ◌, ◌≤ℤ◌, ◌<ℤ◌, neg_ℤ, int_lt, unsigned_abs, Option, None, if◌then◌else◌}
 use Rattle.std.specs.Int.{int_rem_euclid, int_div_euclid}
 use Rattle.std.specs.Int.RustNames.{int_div}
 use Rattle.std.specs.Ordering.{int_eq}
@@ -23,6 +23,12 @@ pub record IsCutOff (n divisor quotient : ℤ) : Type 0 where
   pub below : unsigned_abs rest < unsigned_abs divisor
   pub whole : quotient *ℤ divisor +ℤ rest ≡ n
   pub toward : unsigned_abs (quotient *ℤ divisor) ≤ unsigned_abs n
+
+-- the whole number is another one over twice a half, to the nearest and from a half up: what is left lies from minus that half
+-- up to, and not with, the half
+pub record IsNearest (n : ℤ) (half : ℕ) (quotient : ℤ) : Type 0 where
+  pub least : neg_ℤ (pos half) ≤ℤ (n -ℤ quotient *ℤ pos (2 * half))
+  pub most : (n -ℤ quotient *ℤ pos (2 * half)) <ℤ pos half
 
 -- the number that A and Q stand for
 unfoldable pub long : (a q : ℕ) → ℤ

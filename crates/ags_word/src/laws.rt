@@ -3,7 +3,8 @@
 
 ghost use Rattle.std.specs.Prelude.{◌≡◌, ◌≢◌, ℕ, ℤ, ◌+◌, ◌%◌, ◌<◌, ◌≤◌, ◌^◌, ◌⊎◌, true, false, pos, ◌+ℤ◌, ◌-ℤ◌, ◌*ℤ◌, ◌≤ℤ◌, ◌<ℤ◌, neg_ℤ, unsigned_abs, int_div, Some, None};
 ghost use Rattle.ags_word.specs.Word.{val, fits, wrap, word_of_value, IsCongruent};
-ghost use Rattle.ags_word.specs.Long.{long, pair, fits_long, wrap_long, shifted_right, top_bit, divided, IsFloor, IsCutOff};
+ghost use Rattle.ags_word.specs.Long.{long, pair, fits_long, wrap_long, shifted_right, top_bit, divided, IsFloor, IsCutOff, IsNearest};
+ghost use Rattle.ags_word.specs.Operation.{product, nearest_product};
 
 /// A word's value is its number below 2^17, and its number less 2^18 from there on, so that it lies from -2^17 to
 /// 2^17 - 1; and words of one value are one word.
@@ -130,4 +131,19 @@ pub fn division_cuts_off()
 pub fn one_quotient_is_cut_off()
     ensures some { (n divisor : ℤ) → divisor ≢ pos 0 → IsCutOff n divisor (int_div n divisor) }
     ensures one { (n divisor one other : ℤ) → IsCutOff n divisor one → IsCutOff n divisor other → one ≡ other }
+{}
+
+/// The product of two words over 2^17 rounds to the nearest whole number, a half going upward: what the product is more
+/// than 2^17 times that number lies from -2^16 up to, and not with, 2^16, and no other number is so near.
+/// Where the product is a number of a pair, the rounded one fits, so that A never wraps unseen; the one product that is
+/// none rounds to a number that doesn't fit.
+// It isn't so of every number of a pair: the greatest, 2^34 - 1, would round to 2^17, which doesn't fit. But the greatest
+// product that is a number of a pair is 2^34 - 2^17.
+pub fn product_rounds_to_nearest()
+    ensures nearest { (a m : ℕ) → IsNearest (product a m) (2 ^ 16) (nearest_product a m) }
+    ensures one { (n one other : ℤ) (half : ℕ) → IsNearest n half one → IsNearest n half other → one ≡ other }
+    ensures fits { (a m : ℕ) → a < 2 ^ 18 → m < 2 ^ 18 → fits_long (product a m) ≡ true
+        → fits (nearest_product a m) ≡ true }
+    ensures over { (a m : ℕ) → a < 2 ^ 18 → m < 2 ^ 18 → fits_long (product a m) ≡ false
+        → fits (nearest_product a m) ≡ false }
 {}

@@ -1,8 +1,8 @@
 //! The product of two words: the whole of it as a pair, and the rounded one.
 
-ghost use Rattle.std.specs.Prelude.{◌≡◌, ℕ, ◌^◌, not, pos, ◌+ℤ◌, ◌*ℤ◌, ◌≤ℤ◌, neg_ℤ};
-ghost use Rattle.ags_word.specs.Word.{val, wrap};
-ghost use Rattle.ags_word.specs.Long.{pair, fits_long, shifted_right as shifted_down};
+ghost use Rattle.std.specs.Prelude.{◌≡◌, ℕ, ◌^◌, pos, ◌≤ℤ◌, neg_ℤ};
+ghost use Rattle.ags_word.specs.Long.{pair};
+ghost use Rattle.ags_word.specs.Operation.{product as exact_product, product_high, product_rounded};
 
 use crate::longs::{is_fitting, pair_of};
 use crate::whole::{product, shifted_right};
@@ -12,9 +12,9 @@ impl Word {
     /// The product with another word: the A and the Q that it sets, and whether it is no number of a pair,
     /// which is where both words have the value -2^17.
     pub fn multiply(self, m: Word) -> (Word, Word, bool)
-        ensures a { result.0 ≡ (pair (val self *ℤ val m)).0 }
-        ensures q { result.1 ≡ (pair (val self *ℤ val m)).1 }
-        ensures over { result.2 ≡ not (fits_long (val self *ℤ val m)) }
+        ensures a { result.0 ≡ product_high.new_a self 0 m }
+        ensures q { result.1 ≡ (pair (exact_product self m)).1 }
+        ensures over { result.2 ≡ product_high.overflows self 0 m }
     {
         let exact = exact(self, m);
         let (a, q) = pair_of(exact);
@@ -24,9 +24,9 @@ impl Word {
     /// The rounded product with another word: the word of the product over 2^17, rounded to the nearest and a half up;
     /// Q and the overflow are the product's.
     pub fn multiply_round(self, m: Word) -> (Word, Word, bool)
-        ensures a { result.0 ≡ wrap (shifted_down (val self *ℤ val m +ℤ pos (2 ^ 16)) 17) }
-        ensures q { result.1 ≡ (pair (val self *ℤ val m)).1 }
-        ensures over { result.2 ≡ not (fits_long (val self *ℤ val m)) }
+        ensures a { result.0 ≡ product_rounded.new_a self 0 m }
+        ensures q { result.1 ≡ (pair (exact_product self m)).1 }
+        ensures over { result.2 ≡ product_rounded.overflows self 0 m }
     {
         let (_, q, over) = self.multiply(m);
         let nearest = shifted_right(exact(self, m) + 65_536, 17);
@@ -36,7 +36,7 @@ impl Word {
 
 /// The product of two words' values.
 fn exact(a: Word, m: Word) -> i128
-    ensures same { result ≡ val a *ℤ val m }
+    ensures same { result ≡ exact_product a m }
     ensures least { neg_ℤ (pos (2 ^ 34)) ≤ℤ result }
     ensures most { result ≤ℤ pos (2 ^ 34) }
 {
