@@ -5,7 +5,12 @@ pub mod Domain
 pub mod Hull
 pub mod Candidates
 pub mod Range
+pub mod SetOf
+pub mod Value
 
 -- what serves inside
 pub mod WordList
 pub mod Corners
+pub mod Gathering
+pub mod ListLaws
+pub mod MeaningLaws

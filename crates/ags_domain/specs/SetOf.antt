@@ -1,6 +1,6 @@
 -- How word sets are made and read.
-use Rattle.std.specs.Prelude.{◌≡◌, ℕ, ◌<◌, ◌≤◌, ◌^◌, Bool, true, false, not, int_lt, pos, List, [], ◌∷◌, length, filter, Option, Some, None}
-use Rattle.std.specs.Bool.{bool_eq}
+use Rattle.std.specs.Prelude.{◌≡◌, ℕ, ◌<◌, ◌≤◌, ◌^◌, Bool, true, false, not, int_lt, pos, List, [], ◌∷◌, length, Option, Some, None}
+use Rattle.std.specs.List.{filter}
 use Rattle.ags_word.specs.Word.{val}
 use Rattle.ags_domain.specs.WordSet.{ascends_from}
 use Rattle.ags_domain.specs.Range.{lesser, greater}
@@ -38,3 +38,8 @@ greatest_of (word ∷ words) = greatest_from word (word ∷ words)
 abbrev pub IsFiltered : (ℕ → Bool) → List ℕ → Option WordSet → Type 0
 IsFiltered chosen words (Some set) = set.list ≡ filter chosen words
 IsFiltered chosen words None = filter chosen words ≡ []
+
+-- the word's value is negative, or else it isn't
+abbrev pub is_of_sign : Bool → ℕ → Bool
+is_of_sign true w = int_lt (val w) (pos 0)
+is_of_sign false w = not (int_lt (val w) (pos 0))

@@ -4,18 +4,23 @@
 #![tactic(auto)]
 
 mod domains;
+mod gathering;
 mod hulls;
 mod operands;
 mod products;
 mod quotients;
+mod range_domain;
 mod ranges;
 mod shifts;
 mod signs;
 mod sums;
+mod values;
 mod word_lists;
 mod word_sets;
+mod word_signs;
 
 pub use domains::Domain;
 pub use operands::Operands;
 pub use ranges::Range;
+pub use values::Value;
 pub use word_sets::WordSet;

@@ -3,6 +3,7 @@
 ghost use Rattle.std.specs.Prelude.{◌<◌, ◌^◌, ◌≤ℤ◌};
 ghost use Rattle.ags_word.specs.Word.{val};
 
+use crate::hulls::{greater_word, lesser_word};
 use ags_word::Word;
 
 /// The words from one value to another, both among them; it is never empty.
@@ -19,7 +20,10 @@ impl Range {
     ghost use Rattle.std.specs.Prelude.{◌≡◌, ◌<◌, ◌^◌, ◌≤ℤ◌, ◌<ℤ◌};
     ghost use Rattle.ags_word.specs.Word.{val, fits, wrap};
     ghost use Rattle.ags_domain.specs.Domain.{Ends};
-    ghost use Rattle.ags_domain.specs.Range.{range_ends, IsRangeOf};
+    ghost use Rattle.ags_domain.specs.LowBits.{all_ones};
+    ghost use Rattle.ags_domain.specs.Domain.{IsPart, is_negative, is_not_negative};
+    ghost use Rattle.ags_domain.specs.Range.{range_ends, range_meaning, lies_between, IsRangeOf};
+    ghost use Rattle.ags_domain.specs.SetOf.{IsNext};
 
     /// The range of two values, and nothing where the first is above the second or one of them is no word's value.
     pub fn of(least: i32, greatest: i32) -> Option<Range>
@@ -46,5 +50,60 @@ impl Range {
         let _least = least.number();
         let _greatest = greatest.number();
         Range { least, greatest }
+    }
+
+    /// The range of all words.
+    pub(crate) fn all() -> Range
+        ensures { range_ends result ≡ record { least = 2 ^ 17; greatest = all_ones } }
+    {
+        Range::spanning(Word::of(131_072).unwrap(), Word::of(131_071).unwrap())
+    }
+
+    /// Whether a word lies between the ends.
+    pub(crate) fn has(&self, word: Word) -> bool
+        ensures { result ≡ lies_between (range_ends self.now) word }
+    {
+        self.least.value() <= word.value() && word.value() <= self.greatest.value()
+    }
+
+    /// The words of negative value.
+    pub(crate) fn negative_part(&self) -> Option<Range>
+        ensures { IsPart range_meaning is_negative self.now result }
+    {
+        if self.least.value() < 0 {
+            let last = Word::of(262_143).unwrap();
+            Some(Range::spanning(self.least, lesser_word(self.greatest, last)))
+        } else {
+            None
+        }
+    }
+
+    /// The words whose value is 0 or more.
+    pub(crate) fn rest_part(&self) -> Option<Range>
+        ensures { IsPart range_meaning is_not_negative self.now result }
+    {
+        if 0 <= self.greatest.value() {
+            Some(Range::spanning(greater_word(self.least, Word::ZERO), self.greatest))
+        } else {
+            None
+        }
+    }
+
+    /// The least of its words whose number is from a number on: those that aren't negative come first.
+    pub(crate) fn next(&self, from: u32) -> Option<Word>
+        ensures { IsNext (lies_between (range_ends self.now)) from result }
+    {
+        let negative = self.least.value() < 0;
+        let first = if negative { 0 } else { self.least.number() };
+        let found = from.max(first);
+        if 0 <= self.greatest.value() && found <= self.greatest.number() {
+            return Word::of(found);
+        }
+        if !negative {
+            return None;
+        }
+        let found = from.max(self.least.number());
+        let last = if 0 <= self.greatest.value() { 262_143 } else { self.greatest.number() };
+        if found <= last { Word::of(found) } else { None }
     }
 }

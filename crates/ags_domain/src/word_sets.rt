@@ -3,7 +3,9 @@
 ghost use Rattle.std.specs.Prelude.{◌≡◌, ◌<◌, ◌≤◌, true, length};
 ghost use Rattle.ags_domain.specs.WordSet.{ascends_from};
 
+use crate::hulls::{greater_word, lesser_word};
 use crate::word_lists::WordList;
+use crate::word_signs::is_of_sign;
 use ags_word::Word;
 
 /// One to 16 distinct words, in ascending number.
@@ -18,7 +20,7 @@ pub struct WordSet {
 impl WordSet {
     ghost use Rattle.std.specs.Prelude.{◌≡◌, ◌<◌, ◌≤◌, true, length};
     ghost use Rattle.ags_domain.specs.WordSet.{ascends_from, lists};
-    ghost use Rattle.ags_domain.specs.SetOf.{IsSetOf};
+    ghost use Rattle.ags_domain.specs.SetOf.{IsSetOf, IsNext, IsFiltered, least_of, greatest_of, is_of_sign as is_word_of_sign};
 
     /// The set of some words, and nothing where there are none, more than 16, or where one isn't above the one before it.
     pub fn of(words: &[Word]) -> Option<WordSet>
@@ -109,11 +111,11 @@ impl WordSet {
 
     /// The words that are negative, or those that aren't, and nothing where there are none.
     pub(crate) fn part(&self, negative: bool) -> Option<WordSet>
-        ensures { IsFiltered (λ w. is_of_sign negative w) self.now.list result }
+        ensures { IsFiltered (is_word_of_sign negative) self.now.list result }
     {
         let mut list = WordList::new();
         for word in self.words() {
-            if (word.value() < 0) == negative {
+            if is_of_sign(*word, negative) {
                 list.push(*word);
             }
         }
