@@ -1,6 +1,7 @@
 pub mod CornerLaws
 pub mod HullLaws
 pub mod IntLaws
+pub mod PartLaws
 pub mod ProductLaws
 pub mod QuotientLaws
 pub mod RangeLaws

@@ -1,10 +1,15 @@
 -- Lists of words in ascending number: what is left of one, its words that a test chooses, and its ends.
-use Rattle.std.proofs.Common.{◌≡◌, ℕ, zero, suc, ◌+◌, ◌<◌, ◌≤◌, ◌^◌, Bool, true, false, refl, sym, ap, ◌∙◌, subst, arith, List, [], ◌∷◌, ◌++◌, length, take, drop, get_or, add-one, drop-cons}
+use Rattle.std.proofs.Common.{◌⊎◌, inl, inr, ⊎_elim, ℤ, ◌≤ℤ◌, ◌≡◌, ℕ, zero, suc, ◌+◌, ◌<◌, ◌≤◌, ◌^◌, Bool, true, false, refl, sym, ap, ◌∙◌, subst, arith, List, [], ◌∷◌, ◌++◌, length, take, drop, get_or, add-one, drop-cons}
 use Rattle.std.specs.Prelude.{◌&&◌, ◌||◌, nat_le, nat_lt, eqb, cond}
 use Rattle.std.proofs.lemmas.List.Elements.{filter_more}
 use Rattle.std.specs.List.{filter}
 use Rattle.std.proofs.lemmas.Bool.Decides.{nat_tests}
+use Rattle.std.proofs.lemmas.Int.{ints}
+use Rattle.std.proofs.lemmas.Bool.{cases_lt}
+use Rattle.ags_word.specs.Word.{val}
 use Rattle.ags_domain.specs.WordSet.{ascends_from, lists}
+use Rattle.ags_domain.specs.Range.{lesser, greater}
+use Rattle.ags_domain.specs.SetOf.{least_from, greatest_from, least_of, greatest_of}
 
 and_left : (a b : Bool) → (a && b) ≡ true → a ≡ true
 and_left true b h = refl
@@ -100,3 +105,153 @@ skipped word v words h = let not_it : eqb word v ≡ false = grind (arith, nat_t
 pub filter_at : (p : ℕ → Bool) (items : List ℕ) (i x : ℕ) (b : Bool) → i < length items → x ≡ get_or items i x → p x ≡ b
     → filter p (take (i + 1) items) ≡ filter p (take i items) ++ cond b (x ∷ []) []
 filter_at p items i x b h is picked = filter_more p items i x h ∙ rw (← is, picked) refl
+
+-- ---- members
+
+eqb_is : (a b : ℕ) → eqb a b ≡ true → a ≡ b
+eqb_is a b h = grind (arith, nat_tests)
+
+-- a member is the first one, or one of the rest
+pub one_of : {P : Type 0} (x : ℕ) (xs : List ℕ) (w : ℕ) → lists (x ∷ xs) w ≡ true → (x ≡ w → P) → (lists xs w ≡ true → P) → P
+one_of {P} x xs w h first rest = by (eqb x w) refl
+  where
+    by : (b : Bool) → eqb x w ≡ b → P
+    by true is = first (eqb_is x w is)
+    by false is = rest (let later : lists (x ∷ xs) w ≡ lists xs w = rw is refl in sym later ∙ h)
+
+pub lists_word : (from : ℕ) (words : List ℕ) (w : ℕ) → ascends_from from words ≡ true → lists words w ≡ true → w < 2 ^ 18
+lists_word from [] w h k = absurd cc
+lists_word from (x ∷ xs) w h k = one_of x xs w k
+    (λ e. subst (λ (v : ℕ). v < 2 ^ 18) e (ascends_word from x xs h))
+    (λ r. lists_word (x + 1) xs w (ascends_tail from x xs h) r)
+
+pub lists_from : (from : ℕ) (words : List ℕ) (w : ℕ) → ascends_from from words ≡ true → lists words w ≡ true → from ≤ w
+lists_from from [] w h k = absurd cc
+lists_from from (x ∷ xs) w h k = one_of x xs w k
+    (λ e. subst (λ (v : ℕ). from ≤ v) e (ascends_head from x xs h))
+    (λ r. let above = lists_from (x + 1) xs w (ascends_tail from x xs h) r in let head = ascends_head from x xs h in omega arith)
+
+pub lists_rest : (x : ℕ) (xs : List ℕ) (w : ℕ) → lists xs w ≡ true → lists (x ∷ xs) w ≡ true
+lists_rest x xs w h = by (eqb x w)
+  where
+    by : (b : Bool) → (b || lists xs w) ≡ true
+    by true = refl
+    by false = h
+
+-- ---- the words of least and of greatest value
+
+lesser_left : (x y : ℕ) → val (lesser x y) ≤ℤ val x
+lesser_left x y = grind (arith, ints)
+
+lesser_right : (x y : ℕ) → val (lesser x y) ≤ℤ val y
+lesser_right x y = grind (arith, ints)
+
+greater_left : (x y : ℕ) → val x ≤ℤ val (greater x y)
+greater_left x y = grind (arith, ints)
+
+greater_right : (x y : ℕ) → val y ≤ℤ val (greater x y)
+greater_right x y = grind (arith, ints)
+
+lesser_one : (x y : ℕ) → (lesser x y ≡ x) ⊎ (lesser x y ≡ y)
+lesser_one x y = grind (arith, ints)
+
+greater_one : (x y : ℕ) → (greater x y ≡ x) ⊎ (greater x y ≡ y)
+greater_one x y = grind (arith, ints)
+
+along : (a b c : ℤ) → a ≤ℤ b → b ≤ℤ c → a ≤ℤ c
+along a b c h k = omega (arith, ints)
+
+least_from_low : (x : ℕ) (words : List ℕ) → val (least_from x words) ≤ℤ val x
+least_from_low x [] = omega (arith, ints)
+least_from_low x (y ∷ ys) = along (val (least_from (lesser x y) ys)) (val (lesser x y)) (val x) (least_from_low (lesser x y) ys) (lesser_left x y)
+
+least_from_each : (x : ℕ) (words : List ℕ) (w : ℕ) → lists words w ≡ true → val (least_from x words) ≤ℤ val w
+least_from_each x [] w h = absurd cc
+least_from_each x (y ∷ ys) w h = one_of y ys w h
+    (λ e. subst (λ v. val (least_from (lesser x y) ys) ≤ℤ val v) e
+        (along (val (least_from (lesser x y) ys)) (val (lesser x y)) (val y) (least_from_low (lesser x y) ys) (lesser_right x y)))
+    (λ r. least_from_each (lesser x y) ys w r)
+
+least_from_in : (x : ℕ) (words : List ℕ) → (least_from x words ≡ x) ⊎ (lists words (least_from x words) ≡ true)
+least_from_in x [] = inl refl
+least_from_in x (y ∷ ys) = ⊎_elim
+    (λ e. ⊎_elim (λ f. inl (e ∙ f)) (λ f. inr (subst (λ v. lists (y ∷ ys) v ≡ true) (sym (e ∙ f)) (lists_head y ys))) (lesser_one x y))
+    (λ r. inr (lists_rest y ys (least_from (lesser x y) ys) r))
+    (least_from_in (lesser x y) ys)
+
+greatest_from_high : (x : ℕ) (words : List ℕ) → val x ≤ℤ val (greatest_from x words)
+greatest_from_high x [] = omega (arith, ints)
+greatest_from_high x (y ∷ ys) = along (val x) (val (greater x y)) (val (greatest_from (greater x y) ys)) (greater_left x y) (greatest_from_high (greater x y) ys)
+
+greatest_from_each : (x : ℕ) (words : List ℕ) (w : ℕ) → lists words w ≡ true → val w ≤ℤ val (greatest_from x words)
+greatest_from_each x [] w h = absurd cc
+greatest_from_each x (y ∷ ys) w h = one_of y ys w h
+    (λ e. subst (λ v. val v ≤ℤ val (greatest_from (greater x y) ys)) e
+        (along (val y) (val (greater x y)) (val (greatest_from (greater x y) ys)) (greater_right x y) (greatest_from_high (greater x y) ys)))
+    (λ r. greatest_from_each (greater x y) ys w r)
+
+greatest_from_in : (x : ℕ) (words : List ℕ) → (greatest_from x words ≡ x) ⊎ (lists words (greatest_from x words) ≡ true)
+greatest_from_in x [] = inl refl
+greatest_from_in x (y ∷ ys) = ⊎_elim
+    (λ e. ⊎_elim (λ f. inl (e ∙ f)) (λ f. inr (subst (λ v. lists (y ∷ ys) v ≡ true) (sym (e ∙ f)) (lists_head y ys))) (greater_one x y))
+    (λ r. inr (lists_rest y ys (greatest_from (greater x y) ys) r))
+    (greatest_from_in (greater x y) ys)
+
+pub least_listed : (words : List ℕ) → 0 < length words → lists words (least_of words) ≡ true
+least_listed [] h = absurd (omega arith)
+least_listed (x ∷ xs) h = ⊎_elim (λ e. subst (λ v. lists (x ∷ xs) v ≡ true) (sym e) (lists_head x xs)) (λ r. r) (least_from_in x (x ∷ xs))
+
+pub greatest_listed : (words : List ℕ) → 0 < length words → lists words (greatest_of words) ≡ true
+greatest_listed [] h = absurd (omega arith)
+greatest_listed (x ∷ xs) h = ⊎_elim (λ e. subst (λ v. lists (x ∷ xs) v ≡ true) (sym e) (lists_head x xs)) (λ r. r) (greatest_from_in x (x ∷ xs))
+
+pub least_each : (words : List ℕ) (w : ℕ) → lists words w ≡ true → val (least_of words) ≤ℤ val w
+least_each [] w h = absurd cc
+least_each (x ∷ xs) w h = least_from_each x (x ∷ xs) w h
+
+pub greatest_each : (words : List ℕ) (w : ℕ) → lists words w ≡ true → val w ≤ℤ val (greatest_of words)
+greatest_each [] w h = absurd cc
+greatest_each (x ∷ xs) w h = greatest_from_each x (x ∷ xs) w h
+
+-- ---- lists of the same words
+
+-- a list whose words all stand in another one isn't longer
+pub no_longer : (from : ℕ) (xs ys : List ℕ) → ascends_from from xs ≡ true → ascends_from from ys ≡ true
+    → ((w : ℕ) → lists ys w ≡ true → lists xs w ≡ true) → length ys ≤ length xs
+no_longer from [] [] h k all = omega arith
+no_longer from [] (y ∷ ys) h k all = absurd (let there = all y (lists_head y ys) in cc)
+no_longer from (x ∷ xs) [] h k all = omega arith
+no_longer from (x ∷ xs) (y ∷ ys) h k all = one_of x xs y (all y (lists_head y ys))
+    (λ e. let tail = ascends_tail from y ys k in
+        let tail' : ascends_from (x + 1) ys ≡ true = subst (λ (v : ℕ). ascends_from (v + 1) ys ≡ true) (sym e) tail in
+        let rest = no_longer (x + 1) xs ys (ascends_tail from x xs h) tail'
+            (λ w r. let above = lists_from (x + 1) ys w tail' r in sym (skipped x w xs (omega arith)) ∙ all w (lists_rest y ys w r)) in
+        omega arith)
+    (λ r. let above = lists_from (x + 1) xs y (ascends_tail from x xs h) r in
+        let ys_from : ascends_from (x + 1) (y ∷ ys) ≡ true = ascends_cons (x + 1) y ys above (ascends_word from y ys k) (ascends_tail from y ys k) in
+        let rest = no_longer (x + 1) xs (y ∷ ys) (ascends_tail from x xs h) ys_from
+            (λ w m. let later = lists_from (x + 1) (y ∷ ys) w ys_from m in sym (skipped x w xs (omega arith)) ∙ all w m) in
+        omega arith)
+
+pub list_same : (from : ℕ) (xs ys : List ℕ) → ascends_from from xs ≡ true → ascends_from from ys ≡ true
+    → ((w : ℕ) → w < 2 ^ 18 → lists xs w ≡ lists ys w) → xs ≡ ys
+list_same from [] [] h k same = refl
+list_same from [] (y ∷ ys) h k same = absurd (let there = same y (ascends_word from y ys k) in let head = lists_head y ys in cc)
+list_same from (x ∷ xs) [] h k same = absurd (let there = same x (ascends_word from x xs h) in let head = lists_head x xs in cc)
+list_same from (x ∷ xs) (y ∷ ys) h k same =
+    let x_word = ascends_word from x xs h in
+    let y_word = ascends_word from y ys k in
+    let x_there : lists (y ∷ ys) x ≡ true = sym (same x x_word) ∙ lists_head x xs in
+    let y_there : lists (x ∷ xs) y ≡ true = same y y_word ∙ lists_head y ys in
+    let xs_again : ascends_from x (x ∷ xs) ≡ true = ascends_cons x x xs (omega arith) x_word (ascends_tail from x xs h) in
+    let ys_again : ascends_from y (y ∷ ys) ≡ true = ascends_cons y y ys (omega arith) y_word (ascends_tail from y ys k) in
+    let up = lists_from y (y ∷ ys) x ys_again x_there in
+    let down = lists_from x (x ∷ xs) y xs_again y_there in
+    let first : x ≡ y = omega arith in
+    let ys_tail : ascends_from (x + 1) ys ≡ true = subst (λ (v : ℕ). ascends_from (v + 1) ys ≡ true) (sym first) (ascends_tail from y ys k) in
+    let rest : xs ≡ ys = list_same (x + 1) xs ys (ascends_tail from x xs h) ys_tail
+            (λ w is. ⊎_elim
+                (λ l. lists_below (x + 1) xs w (ascends_tail from x xs h) l ∙ sym (lists_below (x + 1) ys w ys_tail l))
+                (λ l. sym (skipped x w xs (omega arith)) ∙ same w is ∙ skipped y w ys (omega arith))
+                (cases_lt w (x + 1))) in
+    ap (λ v. v ∷ xs) first ∙ ap (λ ws. y ∷ ws) rest

@@ -6,6 +6,7 @@
 mod domains;
 mod gathering;
 mod hulls;
+mod named_words;
 mod operands;
 mod products;
 mod quotients;

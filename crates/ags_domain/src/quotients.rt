@@ -7,7 +7,8 @@ ghost use Rattle.ags_domain.specs.Candidates.{operands, has_zero, quotient_candi
 ghost use Rattle.ags_domain.specs.Range.{range_ends, range_meaning};
 
 use crate::hulls::around_tries;
-use crate::operands::{Operands, low_bits};
+use crate::named_words::low_bits;
+use crate::operands::Operands;
 use crate::ranges::Range;
 use ags_word::{Long, Word};
 

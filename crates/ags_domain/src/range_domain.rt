@@ -25,6 +25,7 @@ impl Domain for Range {
     ghost lawful = { range_lawful };
 
     fn of_word(word: Word) -> Range {
+        let _number = word.number();
         Range::spanning(word, word)
     }
 

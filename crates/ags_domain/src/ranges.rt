@@ -4,6 +4,7 @@ ghost use Rattle.std.specs.Prelude.{◌<◌, ◌^◌, ◌≤ℤ◌};
 ghost use Rattle.ags_word.specs.Word.{val};
 
 use crate::hulls::{greater_word, lesser_word};
+use crate::named_words::{first_word, low_bits, minus_one};
 use ags_word::Word;
 
 /// The words from one value to another, both among them; it is never empty.
@@ -17,13 +18,14 @@ pub struct Range {
 }
 
 impl Range {
-    ghost use Rattle.std.specs.Prelude.{◌≡◌, ◌<◌, ◌^◌, ◌≤ℤ◌, ◌<ℤ◌};
+    ghost use Rattle.std.specs.Prelude.{◌≡◌, ◌<◌, ◌^◌, ◌≤ℤ◌, ◌<ℤ◌, IfSome};
     ghost use Rattle.ags_word.specs.Word.{val, fits, wrap};
     ghost use Rattle.ags_domain.specs.Domain.{Ends};
     ghost use Rattle.ags_domain.specs.LowBits.{all_ones};
     ghost use Rattle.ags_domain.specs.Domain.{IsPart, is_negative, is_not_negative};
     ghost use Rattle.ags_domain.specs.Range.{range_ends, range_meaning, lies_between, IsRangeOf};
     ghost use Rattle.ags_domain.specs.SetOf.{IsNext};
+    ghost use Rattle.ags_domain.specs.Gathering.{held_by_part};
 
     /// The range of two values, and nothing where the first is above the second or one of them is no word's value.
     pub fn of(least: i32, greatest: i32) -> Option<Range>
@@ -56,7 +58,7 @@ impl Range {
     pub(crate) fn all() -> Range
         ensures { range_ends result ≡ record { least = 2 ^ 17; greatest = all_ones } }
     {
-        Range::spanning(Word::of(131_072).unwrap(), Word::of(131_071).unwrap())
+        Range::spanning(first_word(), low_bits())
     }
 
     /// Whether a word lies between the ends.
@@ -71,8 +73,10 @@ impl Range {
         ensures { IsPart range_meaning is_negative self.now result }
     {
         if self.least.value() < 0 {
-            let last = Word::of(262_143).unwrap();
-            Some(Range::spanning(self.least, lesser_word(self.greatest, last)))
+            Some(Range::spanning(
+                self.least,
+                lesser_word(self.greatest, minus_one()),
+            ))
         } else {
             None
         }
@@ -89,21 +93,37 @@ impl Range {
         }
     }
 
+    /// The least of its words whose number is from a number on, where they have one sign.
+    fn next_of_one_sign(&self, from: u32) -> Option<Word>
+        requires { is_negative self.now.least ≡ is_negative self.now.greatest }
+        ensures { IsNext (lies_between (range_ends self.now)) from result }
+    {
+        let found = from.max(self.least.number());
+        if found <= self.greatest.number() {
+            Word::of(found)
+        } else {
+            None
+        }
+    }
+
+    /// The least word of a part whose number is from a number on.
+    fn next_of_part(part: Option<Range>, from: u32) -> Option<Word>
+        requires { IfSome part (λ r. is_negative r.least ≡ is_negative r.greatest) }
+        ensures { IsNext (held_by_part part) from result }
+    {
+        match part {
+            Some(range) => range.next_of_one_sign(from),
+            None => None,
+        }
+    }
+
     /// The least of its words whose number is from a number on: those that aren't negative come first.
     pub(crate) fn next(&self, from: u32) -> Option<Word>
         ensures { IsNext (lies_between (range_ends self.now)) from result }
     {
-        let negative = self.least.value() < 0;
-        let first = if negative { 0 } else { self.least.number() };
-        let found = from.max(first);
-        if 0 <= self.greatest.value() && found <= self.greatest.number() {
-            return Word::of(found);
+        match Range::next_of_part(self.rest_part(), from) {
+            Some(word) => Some(word),
+            None => Range::next_of_part(self.negative_part(), from),
         }
-        if !negative {
-            return None;
-        }
-        let found = from.max(self.least.number());
-        let last = if 0 <= self.greatest.value() { 262_143 } else { self.greatest.number() };
-        if found <= last { Word::of(found) } else { None }
     }
 }
