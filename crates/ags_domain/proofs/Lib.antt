@@ -1,4 +1,5 @@
 pub mod CornerLaws
+pub mod GatherLaws
 pub mod HullLaws
 pub mod IntLaws
 pub mod PartLaws

@@ -1,6 +1,6 @@
 -- Parts of a range, joins of two, and the order of its words by number.
 use Rattle.std.proofs.Common.{◌≡◌, ◌≢◌, ℕ, ◌+◌, ◌-◌, ◌<◌, ◌≤◌, ◌^◌, Bool, true, false, refl, sym, ap, ◌∙◌, subst, ◌⊎◌, inl, inr, ⊎_elim, arith, ℤ, pos, negsuc, ◌+ℤ◌, ◌-ℤ◌, ◌≤ℤ◌, ◌<ℤ◌}
-use Rattle.std.specs.Prelude.{not, ◌&&◌, ◌||◌, eqb, nat_le, int_lt, Option, Some, None}
+use Rattle.std.specs.Prelude.{not, ◌&&◌, ◌||◌, eqb, nat_le, int_lt, Option, Some, None, IfSome}
 use Rattle.std.specs.Int.RustNames.{int_le}
 use Rattle.std.proofs.lemmas.Int.{ints}
 use Rattle.std.proofs.lemmas.Bool.Decides.{nat_tests, eqb_tells}
@@ -129,7 +129,7 @@ module _ (range : Range) (from : ℕ) (one_sign : is_negative range.least ≡ is
   pub found_next : (found : ℕ) → from ≤ found → range.least ≤ found → found ≤ range.greatest → ((v : ℕ) → from ≤ v → range.least ≤ v → found ≤ v)
       → IsNext (lies_between (range_ends range)) from (Some found)
   found_next found h k m least =
-      (one_sign_in range.least range.greatest found range.least_word range.greatest_word one_sign k m, h,
+      ((let last = range.greatest_word in omega arith), one_sign_in range.least range.greatest found range.least_word range.greatest_word one_sign k m, h,
           λ v from_v before. not_held (lies_between (range_ends range) v) (λ held.
               let last = range.greatest_word in
               let bounds = one_sign_from range.least range.greatest v range.least_word range.greatest_word (omega arith) one_sign held in
@@ -172,12 +172,13 @@ module _ (range : Range) (from : ℕ) (rest negative : Option Range)
       split true false = refl
       split false n = refl
 
-  pub rest_first : (word : ℕ) → word < 2 ^ 18 → IsNext (held_by_part rest) from (Some word) → IsNext (lies_between (range_ends range)) from (Some word)
-  rest_first word is next =
-      let chosen : (lies_between (range_ends range) word && is_not_negative word) ≡ true = sym (part_held is_not_negative range rest is_rest word is) ∙ next.0 in
+  pub rest_first : (word : ℕ) → IsNext (held_by_part rest) from (Some word) → IsNext (lies_between (range_ends range)) from (Some word)
+  rest_first word next =
+      let is = next.0 in
+      let chosen : (lies_between (range_ends range) word && is_not_negative word) ≡ true = sym (part_held is_not_negative range rest is_rest word is) ∙ next.1 in
       let low : word < 2 ^ 17 = not_negative_low word is (negated (lies_between (range_ends range) word) (is_negative word) chosen) in
-      (held_is word is ∙ rw next.0 refl, next.1,
-          λ v h k. held_is v (omega arith) ∙ rw (next.2 v h k, part_held is_negative range negative is_part v (omega arith), low_not_negative v (omega arith))
+      (is, held_is word is ∙ rw next.1 refl, next.2,
+          λ v h k. held_is v (omega arith) ∙ rw (next.3 v h k, part_held is_negative range negative is_part v (omega arith), low_not_negative v (omega arith))
               (and_false (lies_between (range_ends range) v)))
     where
       negated : (a n : Bool) → (a && not n) ≡ true → n ≡ false
@@ -189,8 +190,34 @@ module _ (range : Range) (from : ℕ) (rest negative : Option Range)
       and_false false = refl
 
   pub negative_next : (answer : Option ℕ) → IsNext (held_by_part rest) from None → IsNext (held_by_part negative) from answer
-      → ((w : ℕ) → answer ≡ Some w → w < 2 ^ 18) → IsNext (lies_between (range_ends range)) from answer
-  negative_next (Some w) none next word =
-      let is = word w refl in
-      (held_is w is ∙ rw (none w is next.1) next.0, next.1, λ v h k. held_is v (omega arith) ∙ rw (none v (omega arith) h) (next.2 v h k))
-  negative_next None none next word = λ v is h. held_is v is ∙ rw (none v is h) (next v is h)
+      → IsNext (lies_between (range_ends range)) from answer
+  negative_next (Some w) none next =
+      (next.0, held_is w next.0 ∙ rw (none w next.0 next.2) next.1, next.2, λ v h k. held_is v (before v w next.0 k) ∙ rw (none v (before v w next.0 k) h) (next.3 v h k))
+    where
+      before : (v w : ℕ) → w < 2 ^ 18 → v < w → v < 2 ^ 18
+      before v w h k = omega arith
+  negative_next None none next = λ v is h. held_is v is ∙ rw (none v is h) (next v is h)
+
+-- the ends of a part have one sign
+one_sign_of : (chosen : ℕ → Bool) (sign : Bool) → ((w : ℕ) → chosen w ≡ true → is_negative w ≡ sign) → (range : Range) (part : Option Range)
+    → IsPart range_meaning chosen range part → IfSome part (λ r. is_negative r.least ≡ is_negative r.greatest)
+one_sign_of chosen sign tells range (Some part) is =
+    tells part.least (chosen_of (lies_between (range_ends range) part.least) (chosen part.least) (sym (is.1 part.least part.least_word) ∙ least_lies part))
+    ∙ sym (tells part.greatest (chosen_of (lies_between (range_ends range) part.greatest) (chosen part.greatest) (sym (is.1 part.greatest part.greatest_word) ∙ greatest_lies part)))
+  where
+    chosen_of : (a b : Bool) → (a && b) ≡ true → b ≡ true
+    chosen_of true b h = h
+    chosen_of false b h = absurd cc
+one_sign_of chosen sign tells range None is = tt
+
+not_true : (b : Bool) → not b ≡ true → b ≡ false
+not_true true h = absurd cc
+not_true false h = refl
+
+pub rest_sign : (range : Range) (part : Option Range) → IsPart range_meaning is_not_negative range part
+    → IfSome part (λ r. is_negative r.least ≡ is_negative r.greatest)
+rest_sign = one_sign_of is_not_negative false (λ w h. not_true (is_negative w) h)
+
+pub negative_sign : (range : Range) (part : Option Range) → IsPart range_meaning is_negative range part
+    → IfSome part (λ r. is_negative r.least ≡ is_negative r.greatest)
+negative_sign = one_sign_of is_negative true (λ w h. h)

@@ -13,7 +13,7 @@ IsSetOf words None = 0 < length words → length words ≤ 16 → ascends_from 0
 
 -- the least held word whose number is from a number on; there is none where none is held from there on
 abbrev pub IsNext : (ℕ → Bool) → ℕ → Option ℕ → Type 0
-IsNext held from (Some w) = (held w ≡ true) × (from ≤ w) × ((v : ℕ) → from ≤ v → v < w → held v ≡ false)
+IsNext held from (Some w) = (w < 2 ^ 18) × (held w ≡ true) × (from ≤ w) × ((v : ℕ) → from ≤ v → v < w → held v ≡ false)
 IsNext held from None = (v : ℕ) → v < 2 ^ 18 → from ≤ v → held v ≡ false
 
 -- the word of least value in a list, beside one in hand

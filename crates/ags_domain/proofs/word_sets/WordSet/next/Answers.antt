@@ -1,4 +1,4 @@
-use Rattle.std.proofs.Common.{◌≡◌, ℕ, ◌+◌, ◌<◌, ◌≤◌, List, ◌∷◌, drop, true, false, sym, subst, ap, ◌∙◌, arith, refl}
+use Rattle.std.proofs.Common.{◌≡◌, ℕ, ◌+◌, ◌<◌, ◌≤◌, ◌^◌, List, ◌∷◌, drop, true, false, sym, subst, ap, ◌∙◌, arith, refl}
 use Rattle.ags_domain.specs.WordSet.{lists, ascends_from}
 use Rattle.ags_domain.specs.ListLaws.{drop_at, ascends_again, skipped, ascends_tail, ascends_lower, lists_head, lists_below}
 use Rattle.ags_domain.proofs.word_sets.WordSet.next.Goals as goal
@@ -14,7 +14,8 @@ returns-then-from-number c =
     let there : lists items x ≡ true = c.loop-word.invariant.1 x from ∙ ap (λ ws. lists ws x) next ∙ lists_head x (drop (i + 1) items) in
     let along : ascends_from 0 (x ∷ drop (i + 1) items) ≡ true = subst (λ ws. ascends_from 0 ws ≡ true) next c.loop-word.invariant.0 in
     let above : ascends_from x (x ∷ drop (i + 1) items) ≡ true = ascends_again x (drop (i + 1) items) along in
-    (ap (λ ws. lists ws x) (sym is) ∙ there, from,
+    let word : x < 2 ^ 18 = omega arith in
+    (word, ap (λ ws. lists ws x) (sym is) ∙ there, from,
         λ v h k. ap (λ ws. lists ws v) (sym is) ∙ c.loop-word.invariant.1 v h ∙ ap (λ ws. lists ws v) next ∙ lists_below x (x ∷ drop (i + 1) items) v above k)
 
 pub loop-word-preserved : goal.loop-word-preserved
