@@ -161,6 +161,28 @@ part_held chosen range None is w word = by (lies_between (range_ends range) w) r
     by true held = rw (held, is w word held) refl
     by false held = rw held refl
 
+pub rest_first : (range : Range) (from : ℕ) (rest : Option Range) → IsPart range_meaning is_not_negative range rest → (word : ℕ)
+    → IsNext (held_by_part rest) from (Some word) → IsNext (lies_between (range_ends range)) from (Some word)
+rest_first range from rest is_rest word next =
+    let is = next.0 in
+    let chosen : (lies_between (range_ends range) word && is_not_negative word) ≡ true = sym (part_held is_not_negative range rest is_rest word is) ∙ next.1 in
+    let low : word < 2 ^ 17 = not_negative_low word is (negated (lies_between (range_ends range) word) (is_negative word) chosen) in
+    (is, held_of (lies_between (range_ends range) word) (is_not_negative word) chosen, next.2,
+        λ v h k. and_true (lies_between (range_ends range) v) (is_negative v) (low_not_negative v (omega arith))
+            ∙ sym (part_held is_not_negative range rest is_rest v (omega arith)) ∙ next.3 v h k)
+  where
+    negated : (a n : Bool) → (a && not n) ≡ true → n ≡ false
+    negated true true h = absurd cc
+    negated true false h = refl
+    negated false n h = absurd cc
+    held_of : (a b : Bool) → (a && b) ≡ true → a ≡ true
+    held_of true b h = refl
+    held_of false b h = h
+    and_true : (a n : Bool) → n ≡ false → a ≡ (a && not n)
+    and_true true true h = h
+    and_true true false h = refl
+    and_true false n h = refl
+
 module _ (range : Range) (from : ℕ) (rest negative : Option Range)
     (is_rest : IsPart range_meaning is_not_negative range rest) (is_part : IsPart range_meaning is_negative range negative) where
   held_is : (w : ℕ) → w < 2 ^ 18 → lies_between (range_ends range) w ≡ (held_by_part rest w || held_by_part negative w)
@@ -171,23 +193,6 @@ module _ (range : Range) (from : ℕ) (rest negative : Option Range)
       split true true = refl
       split true false = refl
       split false n = refl
-
-  pub rest_first : (word : ℕ) → IsNext (held_by_part rest) from (Some word) → IsNext (lies_between (range_ends range)) from (Some word)
-  rest_first word next =
-      let is = next.0 in
-      let chosen : (lies_between (range_ends range) word && is_not_negative word) ≡ true = sym (part_held is_not_negative range rest is_rest word is) ∙ next.1 in
-      let low : word < 2 ^ 17 = not_negative_low word is (negated (lies_between (range_ends range) word) (is_negative word) chosen) in
-      (is, held_is word is ∙ rw next.1 refl, next.2,
-          λ v h k. held_is v (omega arith) ∙ rw (next.3 v h k, part_held is_negative range negative is_part v (omega arith), low_not_negative v (omega arith))
-              (and_false (lies_between (range_ends range) v)))
-    where
-      negated : (a n : Bool) → (a && not n) ≡ true → n ≡ false
-      negated true true h = absurd cc
-      negated true false h = refl
-      negated false n h = absurd cc
-      and_false : (a : Bool) → (a && false) ≡ false
-      and_false true = refl
-      and_false false = refl
 
   pub negative_next : (answer : Option ℕ) → IsNext (held_by_part rest) from None → IsNext (held_by_part negative) from answer
       → IsNext (lies_between (range_ends range)) from answer

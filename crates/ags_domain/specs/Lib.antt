@@ -12,5 +12,7 @@ pub mod Value
 pub mod WordList
 pub mod Corners
 pub mod Gathering
+pub mod Inclusion
+pub mod Ranged
 pub mod ListLaws
 pub mod MeaningLaws

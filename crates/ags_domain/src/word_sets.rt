@@ -18,7 +18,7 @@ pub struct WordSet {
 }
 
 impl WordSet {
-    ghost use Rattle.std.specs.Prelude.{◌≡◌, ◌<◌, ◌≤◌, true, length};
+    ghost use Rattle.std.specs.Prelude.{◌≡◌, ◌<◌, ◌≤◌, true, length, [], ◌∷◌};
     ghost use Rattle.ags_domain.specs.WordSet.{ascends_from, lists};
     ghost use Rattle.ags_domain.specs.SetOf.{IsSetOf, IsNext, IsFiltered, least_of, greatest_of, is_of_sign as is_word_of_sign};
 
@@ -39,6 +39,16 @@ impl WordSet {
             from = word.number() + 1;
         }
         Some(WordSet::made(list))
+    }
+
+    /// The set of one word.
+    pub(crate) fn single(word: Word) -> WordSet
+        ensures { result.list ≡ word ∷ [] }
+    {
+        let _number = word.number();
+        let mut list = WordList::new();
+        list.push(word);
+        WordSet::made(list)
     }
 
     /// The set of a list.

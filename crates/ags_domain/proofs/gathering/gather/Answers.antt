@@ -11,7 +11,9 @@ returns-then-len-eq16 c =
     too_many held c.loop-word.list c.loop-word.from c.loop-word.invariant c.in-Some.word c.in-Some.ensures (omega arith)
 
 pub loop-word-preserved : goal.loop-word-preserved
-loop-word-preserved c = ?
+loop-word-preserved c =
+    let held = held_by_either value_meaning c.args.left.now c.args.right.now in
+    rw (c.push.ensures, c.number-from.ensures.same) (more_so_far held c.loop-word.list c.loop-word.from c.loop-word.invariant c.in-Some.word c.in-Some.ensures)
 
 pub made-requires-clause-ascending : goal.made-requires-clause-ascending
 made-requires-clause-ascending c =
