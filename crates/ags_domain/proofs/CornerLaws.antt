@@ -16,10 +16,10 @@ use Rattle.ags_domain.proofs.HullLaws.{IsExact, IsFine, IsRimmed, none_over, hul
 
 -- ---- of two words the lesser and the greater
 
-lesser_left : (x y : ℕ) → val (lesser x y) ≤ℤ val x
+pub lesser_left : (x y : ℕ) → val (lesser x y) ≤ℤ val x
 lesser_left x y = grind (arith, ints)
 
-lesser_right : (x y : ℕ) → val (lesser x y) ≤ℤ val y
+pub lesser_right : (x y : ℕ) → val (lesser x y) ≤ℤ val y
 lesser_right x y = grind (arith, ints)
 
 pub greater_left : (x y : ℕ) → val x ≤ℤ val (greater x y)

@@ -9,3 +9,4 @@ pub mod RangeLaws
 pub mod ShiftLaws
 pub mod SignLaws
 pub mod SumLaws
+pub mod ValueLaws
