@@ -9,4 +9,5 @@ pub mod RangeLaws
 pub mod ShiftLaws
 pub mod SignLaws
 pub mod SumLaws
+pub mod TextLaws
 pub mod ValueLaws

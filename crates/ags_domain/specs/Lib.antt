@@ -7,6 +7,7 @@ pub mod Candidates
 pub mod Range
 pub mod SetOf
 pub mod Value
+pub mod ValueText
 
 -- what serves inside
 pub mod WordList

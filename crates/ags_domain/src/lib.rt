@@ -17,6 +17,7 @@ mod ranges;
 mod shifts;
 mod signs;
 mod sums;
+mod texts;
 mod value_domain;
 mod values;
 mod word_lists;
@@ -28,3 +29,6 @@ pub use operands::Operands;
 pub use ranges::Range;
 pub use values::Value;
 pub use word_sets::WordSet;
+
+#[cfg(test)]
+mod tests;
