@@ -1,0 +1,13 @@
+pub mod CornerLaws
+pub mod GatherLaws
+pub mod HullLaws
+pub mod IntLaws
+pub mod PartLaws
+pub mod ProductLaws
+pub mod QuotientLaws
+pub mod RangeLaws
+pub mod ShiftLaws
+pub mod SignLaws
+pub mod SumLaws
+pub mod TextLaws
+pub mod ValueLaws

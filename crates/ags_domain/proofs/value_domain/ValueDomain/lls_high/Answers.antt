@@ -1,0 +1,13 @@
+use Rattle.std.proofs.Common.{refl}
+use Rattle.ags_word.specs.Operation.{long_left_high}
+use Rattle.ags_domain.specs.Hull.{no_cell}
+use Rattle.ags_domain.specs.Candidates.{long_left_candidates}
+use Rattle.ags_domain.specs.Range.{range_ends}
+use Rattle.ags_domain.specs.Value.{value_ends}
+use Rattle.ags_domain.proofs.ValueLaws.{answers_of_spans}
+use Rattle.ags_domain.proofs.value_domain.ValueDomain.lls_high.Goals as goal
+
+pub returns : goal.returns
+returns c =
+    answers_of_spans (long_left_high c.args.count) long_left_candidates (range_ends c.span.result) no_cell (value_ends c.args.self.now) no_cell
+        c.span.ensures refl c.long_lefts.result c.ranged.result c.long_lefts.ensures c.ranged.ensures

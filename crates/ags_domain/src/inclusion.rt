@@ -1,0 +1,45 @@
+//! Whether a value lies within a range or a word set.
+
+ghost use Rattle.std.specs.Prelude.{◌≡◌, ◌<◌, ◌^◌, ◌↔◌, ◌&&◌, ℕ, IsTrue, true};
+ghost use Rattle.std.specs.List.{list_all};
+ghost use Rattle.ags_domain.specs.WordSet.{lists};
+ghost use Rattle.ags_domain.specs.Range.{range_ends, lies_between};
+ghost use Rattle.ags_domain.specs.Value.{value_held};
+ghost use Rattle.ags_domain.specs.Inclusion.{AreAllIn};
+
+use crate::gathering::gather;
+use crate::ranges::Range;
+use crate::values::Value;
+use crate::word_sets::WordSet;
+use ags_word::Word;
+
+/// Whether a range has two words.
+fn has_ends(range: &Range, least: Word, greatest: Word) -> bool
+    ensures { result ≡ (lies_between (range_ends range.now) least && lies_between (range_ends range.now) greatest) }
+{
+    range.has(least) && range.has(greatest)
+}
+
+/// Whether a range has every word of a value.
+pub(crate) fn is_within_range(value: &Value, range: &Range) -> bool
+    ensures { IsTrue result ↔ AreAllIn (value_held value.now) (lies_between (range_ends range.now)) }
+{
+    has_ends(range, value.least_word(), value.greatest_word())
+}
+
+/// Whether one set has every word of another.
+fn is_within(inner: &WordSet, outer: &WordSet) -> bool
+    ensures { result ≡ list_all (lists outer.now.list) inner.now.list }
+{
+    inner.words().iter().all(|word| outer.has(*word))
+}
+
+/// Whether a word set has every word of a value.
+pub(crate) fn is_within_set(value: &Value, set: &WordSet) -> bool
+    ensures { IsTrue result ↔ AreAllIn (value_held value.now) (lists set.now.list) }
+{
+    match gather(value, value) {
+        Some(words) => is_within(&words, set),
+        None => false,
+    }
+}
