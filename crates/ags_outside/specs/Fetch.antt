@@ -1,8 +1,8 @@
 -- What a fetch answers: a list of bytes, or why there is none.
 use Rattle.std.specs.Prelude.{◌≡◌, ℕ, ◌<◌, ◌≤◌, Bool, true, false, List, length, Result, Ok, Err}
-use Rattle.ags_outside.specs.ToldFile.{ToldFile, Untold, Missing, Stored}
+use Rattle.ags_outside.specs.ToldFile.{ToldFile, Missing, Stored}
 use Rattle.ags_outside.specs.declared.fetching.FetchError.{FetchError}
-use Rattle.ags_outside.specs.declared.fetching.FetchError.TheVariants.{Absent, ReadFault, TooLong, NoMemory}
+use Rattle.ags_outside.specs.declared.fetching.FetchError.TheVariants.{Absent, ReadFault, TooLong}
 
 -- What a fetch's answer says of the file, where the shelf tells of it. An absent file gives no bytes and
 -- isn't too long. A file that is there isn't absent: its bytes are given where they are no more than the

@@ -1,8 +1,8 @@
 -- What a shelf answers to one pull.
 use Rattle.std.specs.Prelude.{◌≡◌, ℕ, ◌+◌, ◌-◌, ◌^◌, ◌<◌, ◌≤◌, min, List, length, take, drop, Bool, true, false, Option, Some, None}
-use Rattle.ags_outside.specs.ToldFile.{ToldFile, Untold, Missing, Stored}
+use Rattle.ags_outside.specs.ToldFile.{ToldFile, Missing, Stored}
 use Rattle.ags_outside.specs.declared.shelves.Pull.{Pull}
-use Rattle.ags_outside.specs.declared.shelves.Pull.TheVariants.{Got, End, Absent, Failed, NoMemory}
+use Rattle.ags_outside.specs.declared.shelves.Pull.TheVariants.{Got, End, Absent, Failed}
 
 -- an answer with bytes has one at least, and no more than there was room for
 abbrev pub GotWithin : ℕ → Pull → Type 0

@@ -1,6 +1,5 @@
 -- What a run comes to, by what its loader and its last part came to.
-use Rattle.std.proofs.Common.{◌≡◌, ◌≢◌, ℕ, List, Bool, true, false, Option, Result, Ok, Err, refl, sym, ap, subst, ◌∙◌, inl, inr}
-use Rattle.std.specs.Prelude.{◌⊎◌}
+use Rattle.std.proofs.Common.{◌≡◌, ℕ, List, true, false, Option, Result, Ok, Err, refl, sym, ap, subst, ◌∙◌, inl, inr}
 use Rattle.ags_outside.specs.declared.sending.SendError.{SendError}
 use Rattle.ags_outside.specs.declared.sending.SendError.TheVariants as send
 use Rattle.ags_outside.specs.Count.{HasCause}
@@ -8,13 +7,12 @@ use Rattle.ags_outside.specs.Send.{is_write_fault}
 use Rattle.ags_outside.specs.Sink.{wrote_nothing, front_of_wrote, WroteFront}
 use Rattle.ags_plan.specs.declared.causes.Cause.{Cause}
 use Rattle.ags_plan.specs.declared.causes.Cause.TheVariants.{Content, Absence, ReadFault, WriteFault, Memory}
-use Rattle.ags_plan.specs.declared.causes.Stop.TheVariants as stop
 use Rattle.ags_plan.specs.declared.unloaded.Unloaded.{Unloaded}
 use Rattle.ags_plan.specs.declared.unloaded.Unloaded.TheVariants as why
 use Rattle.ags_plan.specs.Plan.{Definition, Plan, End, AbsentAt, LongAt, RefusedAt, WorkAt, absent_line}
 use Rattle.ags_plan.specs.Walk.{Told, Agrees, EndsAt}
 use Rattle.ags_plan.specs.Answer.{ComesWith, IsAnswer}
-use Rattle.ags_plan.specs.Outcome.{Answered, TookPrefix, EndsBy, Ends, StoppedAtAbsence, ShelfStaysBy, CountsOnShelf, SinkStaysBy, CountsOnSink}
+use Rattle.ags_plan.specs.Outcome.{TookPrefix, EndsBy, Ends, CountsOnShelf, CountsOnSink}
 use Rattle.ags_plan.specs.Lawful.{IsLawful}
 use Rattle.ags_plan.specs.Loading.{Loads, end_of, is_absence, is_read_fault}
 use Rattle.ags_plan.specs.Saying.{Says, SaysWhy, settled}

@@ -1,16 +1,15 @@
 -- Status by status: what each says of the files, and when it comes. Behind `content_decides` of `laws.rt` stand
 --     absent_exactly, long_exactly, refused_exactly, work_exactly, ends_exactly
-use Rattle.std.proofs.Common.{◌≡◌, ◌≢◌, ℕ, ◌<◌, List, length, Option, Some, None, refl, sym, ap, subst, ◌∙◌, inl, inr}
+use Rattle.std.proofs.Common.{◌≡◌, ℕ, List, Option, refl, sym, ap, subst, ◌∙◌, inl, inr}
 use Rattle.std.specs.Prelude.{◌⊎◌}
-use Rattle.ags_outside.specs.ToldFile.{Missing}
 use Rattle.ags_outside.specs.Sink.{appended}
 use Rattle.ags_plan.specs.declared.causes.Cause.{Cause}
 use Rattle.ags_plan.specs.declared.causes.Cause.TheVariants.{Content, Absence, ReadFault, WriteFault, Memory}
 use Rattle.ags_plan.specs.declared.causes.Stop.TheVariants as stop
-use Rattle.ags_plan.specs.Plan.{Definition, Plan, Do, Read, Take, End, AbsentAt, LongAt, RefusedAt, WorkAt, absent_line, long_line}
-use Rattle.ags_plan.specs.Walk.{Told, Agrees, Tells, RefusesWithin, EndsAt, LooksFor, IsFetched, HasBytes, IsGiven}
+use Rattle.ags_plan.specs.Plan.{Definition, Plan, End, AbsentAt, LongAt, RefusedAt, WorkAt, long_line}
+use Rattle.ags_plan.specs.Walk.{Told, Agrees, Tells, EndsAt, LooksFor, HasBytes}
 use Rattle.ags_plan.specs.Answer.{ComesWith, IsAnswer, TellsFiles}
-use Rattle.ags_plan.specs.Outcome.{IsStopping, Stops, EndsWith, EndsExactly, Answered, EndsBy, Ends, FindsAbsence, AbsentExactly, FindsLong, LongExactly, FindsRefusal, RefusedExactly, WorkExactly}
+use Rattle.ags_plan.specs.Outcome.{IsStopping, EndsWith, EndsExactly, Answered, EndsBy, Ends, FindsAbsence, AbsentExactly, FindsLong, LongExactly, FindsRefusal, RefusedExactly, WorkExactly}
 use Rattle.ags_plan.specs.Lawful.{IsLawful}
 use Rattle.ags_plan.proofs.WalkLemmas.{passes, absent_here, at_bytes_here, one_end, way_to_absent, way_to_long, way_to_refused}
 use Rattle.ags_plan.proofs.AnswerLemmas.{one_answer, one_text}

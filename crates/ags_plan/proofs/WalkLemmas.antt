@@ -3,12 +3,12 @@
 --     some_end       each plan has an end
 --     one_end        it has one, where the shelf tells the files that lead to it
 --     told_end       where the shelf tells each file that is fetched, an end is one over told files
-use Rattle.std.proofs.Common.{◌≡◌, ◌≢◌, ℕ, ◌<◌, ◌≤◌, List, length, Option, Some, None, refl, sym, ap, subst, ◌∙◌, inl, inr, arith}
+use Rattle.std.proofs.Common.{◌≡◌, ℕ, ◌<◌, List, length, Option, Some, None, refl, sym, ap, subst, ◌∙◌, inl, inr, arith}
 use Rattle.std.specs.Prelude.{◌⊎◌}
 use Rattle.std.proofs.lemmas.Bool.{cases_lt}
 use Rattle.ags_outside.specs.ToldFile.{ToldFile, Untold, Missing, Stored}
 use Rattle.ags_plan.specs.Plan.{Definition, Plan, Do, Read, Take, End, AbsentAt, LongAt, RefusedAt, WorkAt}
-use Rattle.ags_plan.specs.Walk.{Told, Sight, Agrees, Tells, HoldsWithin, RefusesWithin, SeesValue, ComesTo, EndsAtBytes, EndsHere, EndsAt, LooksFor, IsFetched, HasBytes, IsGiven}
+use Rattle.ags_plan.specs.Walk.{Told, Sight, Agrees, Tells, HoldsWithin, RefusesWithin, ComesTo, EndsAtBytes, EndsHere, EndsAt, LooksFor, IsFetched, HasBytes, IsGiven}
 use Rattle.ags_plan.specs.Answer.{TellsFiles}
 use Rattle.ags_plan.specs.Lawful.{AreReadable}
 

@@ -1,6 +1,5 @@
 -- The answer to a command line: a text and a status.
 use Rattle.std.specs.Prelude.{◌≡◌, ℕ, List, Option}
-use Rattle.ags_outside.specs.ToldFile.{ToldFile}
 use Rattle.ags_plan.specs.declared.causes.Stop.TheVariants as stop
 use Rattle.ags_plan.specs.Plan.{Definition, Plan, End, AbsentAt, LongAt, RefusedAt, WorkAt, absent_line, long_line}
 use Rattle.ags_plan.specs.Walk.{Told, Agrees, Tells, EndsAt, IsFetched}

@@ -3,7 +3,7 @@
 use Rattle.std.specs.Prelude.{◌≡◌, ℕ, ◌<◌, ◌≤◌, List, length, Option, Some, None, Result, Ok, Err, Bool, true, false}
 use Rattle.ags_outside.specs.ToldFile.{ToldFile}
 use Rattle.ags_plan.specs.declared.unloaded.Unloaded.{Unloaded}
-use Rattle.ags_plan.specs.declared.unloaded.Unloaded.TheVariants.{Absent, TooLong, Refused, ReadFault, NoMemory}
+use Rattle.ags_plan.specs.declared.unloaded.Unloaded.TheVariants.{Absent, TooLong, Refused, ReadFault}
 use Rattle.ags_plan.specs.Plan.{Definition, Plan, Read, End, AbsentAt, LongAt, RefusedAt, WorkAt}
 use Rattle.ags_plan.specs.Walk.{Told, Agrees, SeesValue, EndsHere, EndsAt}
 

@@ -1,5 +1,5 @@
 -- What a run of a program comes to: its status, and what the sink took.
-use Rattle.std.specs.Prelude.{◌≡◌, ◌⊎◌, ℕ, ◌<◌, List, length, Option, Some, None}
+use Rattle.std.specs.Prelude.{◌≡◌, ◌⊎◌, ℕ, ◌<◌, List, length, Option, None}
 use Rattle.ags_outside.specs.Count.{Rose}
 use Rattle.ags_outside.specs.ToldFile.{Missing}
 use Rattle.ags_outside.specs.Sink.{appended, WroteFront}
@@ -8,7 +8,6 @@ use Rattle.ags_plan.specs.declared.causes.Cause.TheVariants.{Content, Absence, R
 use Rattle.ags_plan.specs.declared.causes.Stop.TheVariants as stop
 use Rattle.ags_plan.specs.Plan.{Definition, Plan, AbsentAt, WorkAt, absent_line, long_line}
 use Rattle.ags_plan.specs.Walk.{Told, Agrees, Tells, RefusesWithin, EndsAt, IsFetched, IsGiven}
-use Rattle.ags_plan.specs.Answer.{IsAnswer}
 
 -- a cause that stops a run, whatever its answer is: a fault of the outside, or want of memory
 abbrev pub IsStopping : Cause → Type 0

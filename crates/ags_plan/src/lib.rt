@@ -1,4 +1,9 @@
-//! Plans
+//! One walk for every command. A program's commands are values of one type; a command's plan (`specs/Plan.antt`) says
+//! which file is wanted next, what the bytes so far ask for, and what is answered when a file is absent or too long.
+//! `run` walks the plan of whatever command the arguments ask for, and its contract says, once for all commands, what
+//! is printed, which status the process leaves with and what each answer of the surroundings leads to. A program gives
+//! its own part by the trait `Program`: its definitions, and for each what its own functions prove. It stands on
+//! `ags_outside` for files and output.
 #![tactic(auto)]
 
 mod causes;

@@ -1,6 +1,6 @@
 -- What playing a script means: the events that its commands make, the run of the machine that they are, and the text that is
 -- printed along it.
-use Rattle.std.specs.Prelude.{◌≡◌, ℕ, Bool, true, false, List, [], ◌∷◌, ◌++◌, replicate, count_by, codes, Option, Result, Ok, Err}
+use Rattle.std.specs.Prelude.{◌≡◌, ℕ, Bool, true, false, List, [], ◌∷◌, ◌++◌, replicate, count_by, codes, Option, Result, Err}
 use Rattle.ags_ports.specs.declared.events.Event.{Event}
 use Rattle.ags_ports.specs.declared.events.Event.TheVariants as event
 use Rattle.ags_ports.specs.declared.machines.Machine.{Machine}
@@ -12,7 +12,7 @@ use Rattle.ags_run.specs.declared.plain.Plain.{Plain}
 use Rattle.ags_run.specs.declared.plain.Plain.TheVariants.{Step, Pulse, Set, ShowReg, ShowCell, ShowOut}
 use Rattle.ags_run.specs.declared.playing.Played.{Played}
 use Rattle.ags_run.specs.declared.playing.PlayError.{PlayError}
-use Rattle.ags_run.specs.declared.playing.PlayError.TheVariants.{WriteFault, NoMemory}
+use Rattle.ags_run.specs.declared.playing.PlayError.TheVariants.{WriteFault}
 use Rattle.ags_run.specs.Shown.{reg_text, cell_text, output_text}
 
 -- a command makes these events in this state

@@ -1,11 +1,11 @@
 -- Commands and their arguments. Behind `arguments_ask_for_one_command` of `answer_laws.rt` stand
 --     command_of-arguments_of   a command's arguments ask for it
 --     arguments_of-command_of   and no others do
-use Rattle.std.proofs.Common.{◌≡◌, ℕ, Bool, true, false, List, [], ◌∷◌, Option, Some, None, codes, refl, ap, sym, ◌∙◌}
+use Rattle.std.proofs.Common.{◌≡◌, ℕ, Bool, true, false, List, [], ◌∷◌, Some, None, codes, refl, ap, ◌∙◌}
 use Rattle.std.specs.Prelude.{if◌then◌else◌}
 use Rattle.std.specs.Str.{bytes_eq}
 use Rattle.std.proofs.lemmas.Slice.Eq.{bytes_eq-Decides}
-use Rattle.ags_top.specs.Command.{Command, Assemble, Run, arguments_of, assemble_of, run_of, command_named, command_of}
+use Rattle.ags_top.specs.Command.{Command, Assemble, Run, arguments_of, assemble_of, run_of, command_of}
 
 pub command_of-arguments_of : (command : Command) → command_of (arguments_of command) ≡ Some command
 command_of-arguments_of (Assemble source) = refl

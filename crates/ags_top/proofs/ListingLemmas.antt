@@ -6,7 +6,7 @@ use Rattle.ags_text.proofs.FollowLemmas.{lines_follow}
 use Rattle.ags_outside.specs.Sink.{appended, Wrote, WroteFront, wrote_nothing, wrote_piece, wrote_all, wrote_front}
 use Rattle.ags_asm.specs.declared.placed.Placed.{Placed}
 use Rattle.ags_asm.specs.Phase.{defined}
-use Rattle.ags_asm.specs.Source.{AreSpans, IsAssembled, placed_at, placed_cards}
+use Rattle.ags_asm.specs.Source.{AreSpans, placed_at, placed_cards}
 use Rattle.ags_asm.proofs.MeaningLemmas.{one_meaning}
 use Rattle.ags_image.specs.Image.{PlacedWord}
 use Rattle.ags_plan.specs.Plan.{WorkAt}

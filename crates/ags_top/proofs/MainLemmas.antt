@@ -1,7 +1,6 @@
 -- What `ags_main` says, from its content: command by command and status by status.
-use Rattle.std.proofs.Common.{◌≡◌, ℕ, ◌≤◌, List, ◌++◌, length, Option, Some, None, refl, sym, ap, subst, ◌∙◌, inl, inr}
-use Rattle.std.specs.Prelude.{◌⊎◌}
-use Rattle.ags_outside.specs.ToldFile.{ToldFile, Stored}
+use Rattle.std.proofs.Common.{◌≡◌, ℕ, List, ◌++◌, Option, Some, None, refl, ap, subst, ◌∙◌, inl, inr}
+use Rattle.ags_outside.specs.ToldFile.{Stored}
 use Rattle.ags_outside.specs.Sink.{appended}
 use Rattle.ags_plan.specs.Plan.{Plan, End, AbsentAt, LongAt, RefusedAt, WorkAt}
 use Rattle.ags_plan.specs.Walk.{Told, Agrees, Tells, RefusesWithin, EndsAt, IsGiven}
@@ -9,18 +8,15 @@ use Rattle.ags_plan.specs.Answer.{ComesWith, IsAnswer}
 use Rattle.ags_plan.specs.Outcome.{Answered, Ends, EndsExactly, FindsRefusal}
 use Rattle.ags_plan.proofs.WalkLemmas.{told_bytes, way_to_refused}
 use Rattle.ags_plan.proofs.StatusLemmas.{refused_exactly, work_exactly}
-use Rattle.ags_asm.specs.declared.source_error.SourceError.{SourceError}
-use Rattle.ags_asm.specs.Source.{Defines, IsFaulty}
+use Rattle.ags_asm.specs.Source.{Defines}
 use Rattle.ags_image.specs.Image.{PlacedWord}
 use Rattle.ags_ports.specs.declared.machines.Machine.{Machine}
 use Rattle.ags_ports.specs.Machine.{standard_machine}
-use Rattle.ags_run.specs.declared.plain.Plain.{Plain}
-use Rattle.ags_run.specs.declared.script_error.ScriptKind.{ScriptKind}
 use Rattle.ags_run.specs.declared.script_error.ScriptError.TheVariants.{At}
-use Rattle.ags_run.specs.Script.{IsScript, IsFaultyScript}
+use Rattle.ags_run.specs.Script.{IsScript}
 use Rattle.ags_top.specs.declared.status.Status.{Status}
 use Rattle.ags_top.specs.declared.status.Status.TheVariants.{Done, BadSource, BadWords, BadText}
-use Rattle.ags_top.specs.Command.{Command, Assemble, Run, arguments_of, command_of, AreNoForm}
+use Rattle.ags_top.specs.Command.{Command, Assemble, Run, command_of, AreNoForm}
 use Rattle.ags_top.specs.Files.{Kind, Source, Script, refused_status}
 use Rattle.ags_top.specs.Listing.{listing}
 use Rattle.ags_top.specs.Outcome.{EndsWith, ListsWhatIsDefined, IsPlayOn, PlaysWhatIsDefined, DoneAlways, BadWordsExactly, ReadsFault, BadSourceExactly, ReadsScriptFault, BadTextExactly}

@@ -1,8 +1,8 @@
 -- That the program's definition is lawful: its files mean one thing each, and its works make one text each.
-use Rattle.std.specs.Prelude.{◌≡◌, ◌≢◌, ◌⊎◌, ℕ, ◌≤◌, List, length, Option, Some, None}
+use Rattle.std.specs.Prelude.{◌≡◌, ◌≢◌, ◌⊎◌, ℕ, List, Option, Some, None}
 use Rattle.std.proofs.Common.{refl, sym, ap, subst, ◌∙◌, inl, inr}
 use Rattle.ags_plan.specs.declared.causes.Cause.TheVariants as cause
-use Rattle.ags_plan.specs.Plan.{AbsentAt, LongAt, RefusedAt, WorkAt}
+use Rattle.ags_plan.specs.Plan.{WorkAt}
 use Rattle.ags_plan.specs.Walk.{Told, Agrees, EndsAt}
 use Rattle.ags_plan.specs.Lawful.{AreReadable, AreDoable, AreApart, IsLawful}
 use Rattle.ags_asm.specs.declared.source_error.SourceError.{SourceError}
@@ -13,7 +13,6 @@ use Rattle.ags_asm.proofs.MemoryLemmas.{words_of_memory}
 use Rattle.ags_image.specs.Image.{PlacedWord, IsImageOf}
 use Rattle.ags_image.proofs.ImageLaws.{one_image, one_word_a_place, some_image}
 use Rattle.ags_ports.specs.declared.machines.Machine.{Machine}
-use Rattle.ags_ports.specs.declared.events.Event.{Event}
 use Rattle.ags_ports.specs.Machine.{IsMachine, standard_machine}
 use Rattle.ags_ports.proofs.MachineLemmas.{IsMachine-standard}
 use Rattle.ags_core.specs.Core.{start_state}
@@ -24,9 +23,9 @@ use Rattle.ags_run.specs.Played.{Plays}
 use Rattle.ags_run.proofs.PlayLemmas.{one_play, play_runs, some_play}
 use Rattle.ags_run.proofs.ScriptLemmas as script
 use Rattle.ags_top.specs.declared.status.Status.{Status}
-use Rattle.ags_top.specs.declared.status.Status.TheVariants.{Done, BadSource, BadWords, BadText, LongFile}
+use Rattle.ags_top.specs.declared.status.Status.TheVariants.{Done, BadWords, LongFile}
 use Rattle.ags_top.specs.Command.{Command, Assemble, Run, command_of}
-use Rattle.ags_top.specs.Files.{Kind, Source, Script, Assembly, Value, HoldsSource, Holds, RefusesSource, RefusesScript, Refuses, refused_status}
+use Rattle.ags_top.specs.Files.{Kind, Source, Script, Assembly, Value, HoldsSource, Holds, Refuses, refused_status}
 use Rattle.ags_top.specs.Listing.{listing}
 use Rattle.ags_top.specs.Program.{program, command_plan, asked_plan, plan_of}
 use Rattle.ags_top.specs.Status.{cause_of}

@@ -1,5 +1,5 @@
 -- What clauses see of the program's own values.
-use Rattle.std.specs.Prelude.{◌≡◌, ℕ, ◌≤◌, List, All, length, map, Option}
+use Rattle.std.specs.Prelude.{ℕ, ◌≤◌, List, All, length, map}
 use Rattle.ags_asm.specs.declared.placed.Placed.{Placed}
 use Rattle.ags_asm.specs.Phase.{IsInMemory, defined}
 use Rattle.ags_asm.specs.Source.{AreSpans, IsAssembled, IsFaulty, Defines, placed_words}

@@ -12,7 +12,7 @@ pub returns-in_err-load_key-clause-loads : goal.returns-in_err-load_key-clause-l
 returns-in_err-load_key-clause-loads g c =
     let p = err_from_is_err_and c.from_residual.result c.from_residual.ensures.1 in
     rw (p.1, p.2) (loads_stop tiny (g.S.Shelf.told c.args.shelf.now) Key c.args.key.now (λ _. Read Text c.args.text.now (λ bytes. Do bytes))
-        (end_of tiny (λ _. codes "NO KEY\n") (λ _. 6) c.in_err-load_key.field-0.0) c.in_err-load_key.ensures.loads)
+    (end_of tiny (λ _. codes "NO KEY\n") (λ _. 6) c.in_err-load_key.field-0.0) c.in_err-load_key.ensures.loads)
 
 pub returns-clause-loads : goal.returns-clause-loads
 returns-clause-loads g c =

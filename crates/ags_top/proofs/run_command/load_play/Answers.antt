@@ -1,6 +1,5 @@
-use Rattle.std.proofs.Common.{Err, Ok, map, refl}
+use Rattle.std.proofs.Common.{Err, Ok, refl}
 use Rattle.std.proofs.lemmas.Result.{err_from_is_err_and}
-use Rattle.ags_asm.specs.Phase.{defined}
 use Rattle.ags_plan.specs.Plan.{Do, Read}
 use Rattle.ags_plan.specs.Loading.{end_of}
 use Rattle.ags_plan.proofs.LoadingLemmas.{loads_on, loads_stop}
