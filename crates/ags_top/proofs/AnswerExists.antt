@@ -3,12 +3,12 @@ use Rattle.std.proofs.Common.{◌≡◌, ℕ, ◌<◌, ◌≤◌, List, [], ◌�
 use Rattle.std.specs.Prelude.{◌⊎◌}
 use Rattle.std.proofs.lemmas.Bool.{cases_lt}
 use Rattle.ags_text.proofs.Deciding.{decide_list}
-use Rattle.ags_asm.specs.Source.{Defines}
+use Rattle.ags_asm.specs.Source.{Defines, placed_words}
 use Rattle.ags_asm.proofs.ApartLemmas.{each_place_once}
 use Rattle.ags_asm.proofs.MeaningLemmas.{each_means}
 use Rattle.ags_asm.proofs.MemoryLemmas.{words_of_memory}
-use Rattle.ags_image.specs.Image.{IsImageOf}
-use Rattle.ags_image.proofs.ImageLaws.{some_image}
+use Rattle.ags_image.specs.Image.{PlacedWord, IsImageOf}
+use Rattle.ags_image.proofs.ImageLaws.{some_image, one_word_a_place}
 use Rattle.ags_ports.specs.Machine.{standard_machine}
 use Rattle.ags_core.specs.Core.{start_state}
 use Rattle.ags_run.specs.declared.script_error.ScriptError.TheVariants.{At}
@@ -89,10 +89,9 @@ file_exists told name limit Answer some = by_told (told name) refl
 -- ---- of a source that runs
 
 -- what it defines has an image
-image_exists : (bytes : List ℕ) (defined : List (Option (ℕ × ℕ))) → Defines bytes defined → (image : List (Option ℕ)) × IsImageOf defined image
+image_exists : (bytes : List ℕ) (defined : List (Option PlacedWord)) → Defines bytes defined → (image : List (Option ℕ)) × IsImageOf (placed_words defined) image
 image_exists bytes defined defines =
-    some_image defined (words_of_memory bytes defined defines)
-    (λ front rest place word is other held. absurd (each_place_once bytes defined defines front rest place word is other held))
+    some_image (placed_words defined) (words_of_memory bytes defined defines) (one_word_a_place (placed_words defined) (each_place_once bytes defined defines))
 
 run_exists : (told : Told) (script bytes : List ℕ) → SomeAnswer (RunsSource told script bytes)
 run_exists told script bytes = elim (each_means bytes) [

@@ -1,8 +1,9 @@
 -- What an answer to words is, and that they have one.
 use Rattle.std.proofs.Common.{◌≡◌, ℕ, List, [], ◌∷◌, Option, refl, sym, ap, subst, ◌∙◌, inl, inr}
+use Rattle.ags_image.specs.Image.{PlacedWord}
 use Rattle.ags_outside.specs.Sink.{appended}
 use Rattle.ags_asm.specs.declared.source_error.SourceError.{SourceError}
-use Rattle.ags_asm.specs.Source.{Defines, IsFaulty}
+use Rattle.ags_asm.specs.Source.{Defines, IsFaulty, placed_words}
 use Rattle.ags_asm.proofs.MeaningLemmas as source
 use Rattle.ags_image.proofs.ImageLaws.{one_image}
 use Rattle.ags_ports.specs.Machine.{standard_machine}
@@ -29,7 +30,7 @@ use Rattle.ags_top.proofs.FileLemmas.{Same, one_of_file}
 -- ---- of bytes
 
 -- a source without a fault is listed
-pub lists_good : (bytes text : List ℕ) (status : Status) (defined : List (Option (ℕ × ℕ))) → Defines bytes defined → ListsSource bytes text status → IsListed bytes text status
+pub lists_good : (bytes text : List ℕ) (status : Status) (defined : List (Option PlacedWord)) → Defines bytes defined → ListsSource bytes text status → IsListed bytes text status
 lists_good bytes text status defined defines (inl bad) = absurd (source.not_both bytes defined bad.error defines bad.faulty)
 lists_good bytes text status defined defines (inr listed) = listed
 
@@ -39,7 +40,7 @@ lists_bad bytes text status error faulty (inl bad) = bad.status_is
 lists_bad bytes text status error faulty (inr listed) = absurd (source.not_both bytes listed.defined error listed.defines faulty)
 
 -- the same where it runs
-pub runs_good : (told : Told) (name bytes text : List ℕ) (status : Status) (defined : List (Option (ℕ × ℕ))) → Defines bytes defined → RunsSource told name bytes text status → RunsWords told name bytes text status
+pub runs_good : (told : Told) (name bytes text : List ℕ) (status : Status) (defined : List (Option PlacedWord)) → Defines bytes defined → RunsSource told name bytes text status → RunsWords told name bytes text status
 runs_good told name bytes text status defined defines (inl bad) = absurd (source.not_both bytes defined bad.error defines bad.faulty)
 runs_good told name bytes text status defined defines (inr runs) = runs
 
@@ -97,14 +98,14 @@ one_played image bytes text other status ended (inr first) (inr second) =
     (one_play_on image bytes text other first.play second.play, first.status_is ∙ sym second.status_is)
 
 -- of a source that runs, where the shelf tells of the script
-one_run_of : (told : Told) (name bytes text other : List ℕ) (status ended : Status) → ((defined : List (Option (ℕ × ℕ))) → Defines bytes defined → Tells told name)
+one_run_of : (told : Told) (name bytes text other : List ℕ) (status ended : Status) → ((defined : List (Option PlacedWord)) → Defines bytes defined → Tells told name)
     → RunsSource told name bytes text status → RunsSource told name bytes other ended → Same text other status ended
 one_run_of told name bytes text other status ended tells (inl first) (inl second) = one_bad bytes text other status ended first second
 one_run_of told name bytes text other status ended tells (inl first) (inr second) = absurd (source.not_both bytes second.defined first.error second.defines first.faulty)
 one_run_of told name bytes text other status ended tells (inr first) (inl second) = absurd (source.not_both bytes first.defined second.error first.defines second.faulty)
 one_run_of told name bytes text other status ended tells (inr first) (inr second) =
     let words = source.one_meaning bytes first.defined second.defined first.defines second.defines in
-    let image : first.image ≡ second.image = one_image second.defined first.image second.image (rw words at first.image_is) second.image_is in
+    let image : first.image ≡ second.image = one_image (placed_words second.defined) first.image second.image (rw words at first.image_is) second.image_is in
     let answers : AnswersFile told name script_limit (PlaysScript first.image) other ended =
     subst (λ (i : List (Option ℕ)). AnswersFile told name script_limit (PlaysScript i) other ended) (sym image) second.answers in
     one_of_file told name script_limit (PlaysScript first.image)

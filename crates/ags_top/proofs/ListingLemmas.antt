@@ -2,6 +2,7 @@
 use Rattle.std.proofs.Common.{◌≡◌, ℕ, ◌+◌, ◌<◌, ◌≤◌, List, [], ◌∷◌, ◌++◌, length, take, drop, get_or, Option, Some, None, refl, sym, ap, ◌∙◌, arith, inr}
 use Rattle.std.proofs.lemmas.List.{drop_more, drop_all}
 use Rattle.ags_text.specs.Line.{LineAt, LiesIn, Follow, lines_of}
+use Rattle.ags_image.specs.Image.{PlacedWord}
 use Rattle.ags_outside.specs.Sink.{appended, Wrote, WroteFront, wrote_nothing, wrote_piece, wrote_all, wrote_front}
 use Rattle.ags_asm.specs.declared.placed.Placed.{Placed}
 use Rattle.ags_asm.specs.Phase.{defined}
@@ -77,20 +78,20 @@ Sending-all old now source placed i so past =
 
 -- ---- by the lines
 
-defined-placed_at : (line : LineAt) (one : Option (ℕ × ℕ)) → defined (placed_at line one) ≡ one
+defined-placed_at : (line : LineAt) (one : Option PlacedWord) → defined (placed_at line one) ≡ one
 defined-placed_at line None = refl
 defined-placed_at line (Some definition) = refl
 
-card_text-placed_at : (source : List ℕ) (line : LineAt) (one : Option (ℕ × ℕ)) → LiesIn source line → card_text source (placed_at line one) ≡ line.bytes
+card_text-placed_at : (source : List ℕ) (line : LineAt) (one : Option PlacedWord) → LiesIn source line → card_text source (placed_at line one) ≡ line.bytes
 card_text-placed_at source line None lies = ap (λ (n : ℕ). take n (drop line.start source)) (omega arith) ∙ lies.bytes_are
 card_text-placed_at source line (Some definition) lies = ap (λ (n : ℕ). take n (drop line.start source)) (omega arith) ∙ lies.bytes_are
 
-placed_line-line : (source : List ℕ) (number : ℕ) (line : LineAt) (one : Option (ℕ × ℕ)) → LiesIn source line → placed_line source number (placed_at line one) ≡ listing_line number line one
+placed_line-line : (source : List ℕ) (number : ℕ) (line : LineAt) (one : Option PlacedWord) → LiesIn source line → placed_line source number (placed_at line one) ≡ listing_line number line one
 unfolding placed_line listing_line
 placed_line-line source number line one lies = rw (defined-placed_at line one, card_text-placed_at source line one lies) refl
 
 -- the cards' listing is that of the lines
-pub listing_by_lines : (source : List ℕ) (from number : ℕ) (lines : List LineAt) (ds : List (Option (ℕ × ℕ))) → Follow source from lines
+pub listing_by_lines : (source : List ℕ) (from number : ℕ) (lines : List LineAt) (ds : List (Option PlacedWord)) → Follow source from lines
     → placed_listing source number (placed_cards lines ds) ≡ listing_from number lines ds
 unfolding placed_listing listing_from
 listing_by_lines source from number [] ds follow = refl

@@ -1,6 +1,7 @@
 -- Status by status: what each says of the words and of the files, and when it comes.
 use Rattle.std.proofs.Common.{◌≡◌, ℕ, ◌≤◌, List, ◌++◌, length, Option, Some, refl, ap, subst, ◌∙◌, inl, inr}
 use Rattle.std.specs.Prelude.{◌⊎◌}
+use Rattle.ags_image.specs.Image.{PlacedWord}
 use Rattle.ags_outside.specs.Sink.{appended}
 use Rattle.ags_asm.specs.declared.source_error.SourceError.{SourceError}
 use Rattle.ags_asm.specs.Source.{Defines, IsFaulty}
@@ -311,11 +312,11 @@ pub lists_what_is_defined : (told : Told) (words : List (List ℕ)) (old new : O
 lists_what_is_defined told words old new result ends name known held done words_are is old_is =
     by_answer (answered_with (IsAnswer told words) old new result Done (λ so. so) ends done)
   where
-    by_bytes : (text : List ℕ) → new ≡ appended old text → (bytes : List ℕ) → bytes ≡ known → ListsSource bytes text Done → (defined : List (Option (ℕ × ℕ))) × Defines known defined × (new ≡ Some (held ++ listing known defined))
+    by_bytes : (text : List ℕ) → new ≡ appended old text → (bytes : List ℕ) → bytes ≡ known → ListsSource bytes text Done → (defined : List (Option PlacedWord)) × Defines known defined × (new ≡ Some (held ++ listing known defined))
     by_bytes text sent bytes same (inl bad) = let other = bad.status_is in absurd cc
     by_bytes text sent bytes same (inr listed) = (listed.defined, rw same at listed.defines, sent ∙ rw (old_is, listed.text_is, same) refl)
 
-    by_answer : Answered (IsAnswer told words) old new Done → (defined : List (Option (ℕ × ℕ))) × Defines known defined × (new ≡ Some (held ++ listing known defined))
+    by_answer : Answered (IsAnswer told words) old new Done → (defined : List (Option PlacedWord)) × Defines known defined × (new ≡ Some (held ++ listing known defined))
     by_answer so =
         let answer = command_answer told words (Assemble name) so.text Done words_are so.answer in
         let read = bytes_answer told name source_limit ListsSource so.text Done (λ other. absurd cc) (λ other. absurd cc) answer in

@@ -1,8 +1,8 @@
 -- The answer to words and files: a status and a text.
 use Rattle.std.specs.Prelude.{◌≡◌, ◌⊎◌, ℕ, ◌≤◌, List, length, Option, Some}
 use Rattle.ags_asm.specs.declared.source_error.SourceError.{SourceError}
-use Rattle.ags_asm.specs.Source.{Defines, IsFaulty}
-use Rattle.ags_image.specs.Image.{IsImageOf}
+use Rattle.ags_asm.specs.Source.{Defines, IsFaulty, placed_words}
+use Rattle.ags_image.specs.Image.{PlacedWord, IsImageOf}
 use Rattle.ags_ports.specs.declared.events.Event.{Event}
 use Rattle.ags_ports.specs.Machine.{standard_machine}
 use Rattle.ags_ports.specs.Run.{Moment, Run}
@@ -31,7 +31,7 @@ pub record IsBadSource (bytes text : List ℕ) (status : Status) : Type 0 where
 
 -- The bytes are a source without a fault, and the text is the listing of what it defines.
 pub record IsListed (bytes text : List ℕ) (status : Status) : Type 0 where
-  pub defined : List (Option (ℕ × ℕ))
+  pub defined : List (Option PlacedWord)
   pub defines : Defines bytes defined
   pub text_is : text ≡ listing bytes defined
   pub status_is : status ≡ Done
@@ -72,10 +72,10 @@ PlaysScript image bytes text status = IsBadScript bytes text status ⊎ IsPlayed
 
 -- The bytes are a source without a fault, and the text and the status answer the script's file on the image of its words.
 pub record RunsWords (told : Told) (script bytes text : List ℕ) (status : Status) : Type 0 where
-  pub defined : List (Option (ℕ × ℕ))
+  pub defined : List (Option PlacedWord)
   pub defines : Defines bytes defined
   pub image : List (Option ℕ)
-  pub image_is : IsImageOf defined image
+  pub image_is : IsImageOf (placed_words defined) image
   pub answers : AnswersFile told script script_limit (PlaysScript image) text status
 
 -- the text and the status answer `run` over a source of these bytes: the script's file counts only where it has no fault
@@ -110,7 +110,7 @@ IsAnswer told words text status = IsNoCommand words text status ⊎ IsCommandAns
 -- The bytes are a source within its limit and without a fault.
 pub record IsGoodSource (bytes : List ℕ) : Type 0 where
   pub short : length bytes ≤ source_limit
-  pub defined : List (Option (ℕ × ℕ))
+  pub defined : List (Option PlacedWord)
   pub defines : Defines bytes defined
 
 -- The shelf tells of such a source of that name.

@@ -2,8 +2,8 @@
 use Rattle.std.specs.Prelude.{◌≡◌, ◌⊎◌, ℕ, ◌≤◌, ◌<◌, List, ◌++◌, length, Option, Some, None}
 use Rattle.ags_outside.specs.Sink.{appended, WroteFront}
 use Rattle.ags_asm.specs.declared.source_error.SourceError.{SourceError}
-use Rattle.ags_asm.specs.Source.{Defines, IsFaulty}
-use Rattle.ags_image.specs.Image.{IsImageOf}
+use Rattle.ags_asm.specs.Source.{Defines, IsFaulty, placed_words}
+use Rattle.ags_image.specs.Image.{PlacedWord, IsImageOf}
 use Rattle.ags_ports.specs.Machine.{standard_machine}
 use Rattle.ags_run.specs.declared.plain.Plain.{Plain}
 use Rattle.ags_run.specs.declared.script_error.ScriptKind.{ScriptKind}
@@ -157,14 +157,14 @@ pub record DoneAlways (told : Told) (words : List (List ℕ)) (result : Status) 
 -- source defines.
 abbrev pub ListsWhatIsDefined : (told : Told) (words : List (List ℕ)) (old new : Option (List ℕ)) → Status → Type 0
 ListsWhatIsDefined told words old new result = (name bytes held : List ℕ) → result ≡ Done → words ≡ words_of (Assemble name) → told name ≡ Some (Some bytes)
-    → old ≡ Some held → (defined : List (Option (ℕ × ℕ))) × Defines bytes defined × (new ≡ Some (held ++ listing bytes defined))
+    → old ≡ Some held → (defined : List (Option PlacedWord)) × Defines bytes defined × (new ≡ Some (held ++ listing bytes defined))
 
 -- The source defines words, and the text is the play of the script on the image of these words.
 pub record IsPlayOf (source script text : List ℕ) : Type 0 where
-  pub defined : List (Option (ℕ × ℕ))
+  pub defined : List (Option PlacedWord)
   pub defines : Defines source defined
   pub image : List (Option ℕ)
-  pub image_is : IsImageOf defined image
+  pub image_is : IsImageOf (placed_words defined) image
   pub play : IsPlayOn image script text
 
 -- Where the run is done, and the shelf and the sink tell, the sink took exactly what the script's play prints on the

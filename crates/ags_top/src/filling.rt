@@ -2,8 +2,8 @@
 
 ghost use Rattle.std.specs.Prelude.{IfOk, All, map};
 ghost use Rattle.ags_asm.specs.Phase.{IsInMemory, defined};
-ghost use Rattle.ags_asm.specs.Source.{EachPlaceOnce};
-ghost use Rattle.ags_image.specs.Image.{IsImageOf};
+ghost use Rattle.ags_asm.specs.Source.{placed_words};
+ghost use Rattle.ags_image.specs.Image.{EachPlaceOnce, IsImageOf};
 
 use ags_asm::Placed;
 use ags_image::Image;
@@ -12,8 +12,8 @@ use std::alloc::{AllocError, Global};
 /// The image of the words that cards have.
 pub(crate) fn image_of(alloc: Global, placed: &[Placed]) -> Result<Image, AllocError>
     requires within { All IsInMemory placed.now }
-    requires once { EachPlaceOnce (map defined placed.now) }
-    ensures { IfOk result (IsImageOf (map defined placed.now)) }
+    requires once { EachPlaceOnce (placed_words (map defined placed.now)) }
+    ensures { IfOk result (IsImageOf (placed_words (map defined placed.now))) }
 {
     let mut image = Image::new(alloc)?;
     for card in placed {

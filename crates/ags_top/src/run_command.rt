@@ -3,7 +3,8 @@
 ghost use Rattle.std.specs.Prelude.{◌≡◌, ◌≤◌, ℕ, List, Ok, IfOk, IsErrOf, All, length, map};
 ghost use Rattle.ags_ports.specs.Machine.{standard_machine};
 ghost use Rattle.ags_asm.specs.Phase.{IsInMemory, defined};
-ghost use Rattle.ags_asm.specs.Source.{Defines, EachPlaceOnce};
+ghost use Rattle.ags_asm.specs.Source.{Defines, placed_words};
+ghost use Rattle.ags_image.specs.Image.{EachPlaceOnce};
 ghost use Rattle.ags_outside.specs.Count.{Rose};
 ghost use Rattle.ags_outside.specs.Send.{IsCleanSend};
 ghost use Rattle.ags_run.specs.Playable.{IsPlayable};
@@ -124,7 +125,7 @@ fn answer_placed<S: Shelf, K: Sink>(
     out: &mut K,
 ) -> Result<Status, SendError>
     requires within { All IsInMemory placed.now }
-    requires once { EachPlaceOnce (map defined placed.now) }
+    requires once { EachPlaceOnce (placed_words (map defined placed.now)) }
     ensures ends { (bytes : List ℕ) → Defines bytes (map defined placed.now)
         → EndsInPart (RunsSource (S.told shelf.old) script.now bytes) (K.told out.old) (K.told out.new) result }
     ensures absent { result ≡ Ok Status.AbsentFile → Rose (S.absences shelf.old) (S.absences shelf.new) }
