@@ -1,12 +1,12 @@
 -- The answer of four tries at corners, and other lists of candidates by which it is told.
-use Rattle.std.proofs.Common.{◌≡◌, ℕ, ◌<◌, ◌^◌, Bool, true, false, refl, sym, ◌∙◌, subst, ◌⊎◌, inl, inr, ⊎_elim, arith, ℤ, pos, ◌≤ℤ◌, List, [], ◌∷◌}
-use Rattle.std.specs.Prelude.{Option, Some, None, Result, Ok, Err}
+use Rattle.std.proofs.Common.{◌≡◌, ℕ, ◌<◌, ◌^◌, Bool, true, false, refl, sym, ◌∙◌, subst, ◌⊎◌, inl, inr, ⊎_elim, arith, ℤ, ◌≤ℤ◌, List, [], ◌∷◌}
+use Rattle.std.specs.Prelude.{Some, Result, Ok, Err}
 use Rattle.std.specs.List.{find}
 use Rattle.std.proofs.lemmas.Int.{ints}
 use Rattle.ags_word.specs.Word.{val}
 use Rattle.ags_word.specs.Operation.{Operation}
 use Rattle.ags_domain.specs.Domain.{Ends, IsBetween}
-use Rattle.ags_domain.specs.Hull.{IsOperands, IsCorner, IsReached, IsHull, IsFirstOverflow, IsInterval, Answers, tried, new_a_at, overflows_at}
+use Rattle.ags_domain.specs.Hull.{IsOperands, IsCorner, IsReached, IsHull, IsFirstOverflow, IsInterval, Answers, tried, overflows_at}
 use Rattle.ags_domain.specs.Candidates.{operands}
 use Rattle.ags_domain.specs.Range.{range_ends, range_meaning, lesser, greater}
 use Rattle.ags_domain.specs.Corners.{IsAround, ends_of_four}
@@ -124,7 +124,6 @@ module _ (operation : Operation) (number : Operands → ℤ) (a_ends m_ends : En
     (is_exact : IsExact operation number a_ends m_ends) (cornered : IsCornered number a_ends m_ends c1 c2 c3 c4)
     (w1 w2 w3 w4 : ℕ) (ok1 : tried operation c1 ≡ Ok w1) (ok2 : tried operation c2 ≡ Ok w2)
     (ok3 : tried operation c3 ≡ Ok w3) (ok4 : tried operation c4 ≡ Ok w4) where
-
   fine1 : IsFine operation a_ends m_ends (ends_of_four w1 w2 w3 w4) c1
   fine1 = fine_of operation a_ends m_ends (ends_of_four w1 w2 w3 w4) c1 w1 cornered.is1 ok1
       (holds_first w1 w2 w3 w4 (word_of operation number a_ends m_ends c1 w1 is_exact cornered.is1 ok1))
@@ -151,8 +150,8 @@ module _ (operation : Operation) (number : Operands → ℤ) (a_ends m_ends : En
   reached_one v one = ⊎_elim
       (reached_at operation a_ends m_ends c1 w1 v cornered.is1 cornered.corner1 ok1)
       (⊎_elim (reached_at operation a_ends m_ends c2 w2 v cornered.is2 cornered.corner2 ok2)
-          (⊎_elim (reached_at operation a_ends m_ends c3 w3 v cornered.is3 cornered.corner3 ok3)
-              (reached_at operation a_ends m_ends c4 w4 v cornered.is4 cornered.corner4 ok4)))
+      (⊎_elim (reached_at operation a_ends m_ends c3 w3 v cornered.is3 cornered.corner3 ok3)
+      (reached_at operation a_ends m_ends c4 w4 v cornered.is4 cornered.corner4 ok4)))
       one
 
   corners_interval : (range : Range) → range_ends range ≡ ends_of_four w1 w2 w3 w4 → IsInterval range_meaning operation a_ends m_ends range
@@ -168,25 +167,24 @@ module _ (operation : Operation) (number : Operands → ℤ) (a_ends m_ends : En
 
 module _ (operation : Operation) (number : Operands → ℤ) (a_ends m_ends : Ends) (c1 c2 c3 c4 : Operands)
     (is_exact : IsExact operation number a_ends m_ends) (cornered : IsCornered number a_ends m_ends c1 c2 c3 c4) where
-
   pub around_answers : (t1 t2 t3 t4 : Result ℕ Operands) → tried operation c1 ≡ t1 → tried operation c2 ≡ t2 → tried operation c3 ≡ t3
       → tried operation c4 ≡ t4 → (answer : Result Range Operands) → IsAround t1 t2 t3 t4 answer
       → Answers range_meaning operation (λ a m. c1 ∷ c2 ∷ c3 ∷ c4 ∷ []) a_ends m_ends answer
   around_answers (Err e) t2 t3 t4 h1 h2 h3 h4 answer is =
       subst (λ (r : Result Range Operands). Answers range_meaning operation (λ a m. c1 ∷ c2 ∷ c3 ∷ c4 ∷ []) a_ends m_ends r) (sym is)
-          (told_first operation a_ends m_ends c1 e (c2 ∷ c3 ∷ c4 ∷ []) cornered.is1 h1)
+      (told_first operation a_ends m_ends c1 e (c2 ∷ c3 ∷ c4 ∷ []) cornered.is1 h1)
   around_answers (Ok w1) (Err e) t3 t4 h1 h2 h3 h4 answer is =
       subst (λ (r : Result Range Operands). Answers range_meaning operation (λ a m. c1 ∷ c2 ∷ c3 ∷ c4 ∷ []) a_ends m_ends r) (sym is)
-          (told_later operation a_ends m_ends c1 e w1 (c2 ∷ c3 ∷ c4 ∷ []) h1 (told_first operation a_ends m_ends c2 e (c3 ∷ c4 ∷ []) cornered.is2 h2))
+      (told_later operation a_ends m_ends c1 e w1 (c2 ∷ c3 ∷ c4 ∷ []) h1 (told_first operation a_ends m_ends c2 e (c3 ∷ c4 ∷ []) cornered.is2 h2))
   around_answers (Ok w1) (Ok w2) (Err e) t4 h1 h2 h3 h4 answer is =
       subst (λ (r : Result Range Operands). Answers range_meaning operation (λ a m. c1 ∷ c2 ∷ c3 ∷ c4 ∷ []) a_ends m_ends r) (sym is)
-          (told_later operation a_ends m_ends c1 e w1 (c2 ∷ c3 ∷ c4 ∷ []) h1
-              (told_later operation a_ends m_ends c2 e w2 (c3 ∷ c4 ∷ []) h2 (told_first operation a_ends m_ends c3 e (c4 ∷ []) cornered.is3 h3)))
+      (told_later operation a_ends m_ends c1 e w1 (c2 ∷ c3 ∷ c4 ∷ []) h1
+      (told_later operation a_ends m_ends c2 e w2 (c3 ∷ c4 ∷ []) h2 (told_first operation a_ends m_ends c3 e (c4 ∷ []) cornered.is3 h3)))
   around_answers (Ok w1) (Ok w2) (Ok w3) (Err e) h1 h2 h3 h4 answer is =
       subst (λ (r : Result Range Operands). Answers range_meaning operation (λ a m. c1 ∷ c2 ∷ c3 ∷ c4 ∷ []) a_ends m_ends r) (sym is)
-          (told_later operation a_ends m_ends c1 e w1 (c2 ∷ c3 ∷ c4 ∷ []) h1
-              (told_later operation a_ends m_ends c2 e w2 (c3 ∷ c4 ∷ []) h2
-                  (told_later operation a_ends m_ends c3 e w3 (c4 ∷ []) h3 (told_first operation a_ends m_ends c4 e [] cornered.is4 h4))))
+      (told_later operation a_ends m_ends c1 e w1 (c2 ∷ c3 ∷ c4 ∷ []) h1
+      (told_later operation a_ends m_ends c2 e w2 (c3 ∷ c4 ∷ []) h2
+      (told_later operation a_ends m_ends c3 e w3 (c4 ∷ []) h3 (told_first operation a_ends m_ends c4 e [] cornered.is4 h4))))
   around_answers (Ok w1) (Ok w2) (Ok w3) (Ok w4) h1 h2 h3 h4 (Ok range) is =
       corners_interval operation number a_ends m_ends c1 c2 c3 c4 is_exact cornered w1 w2 w3 w4 h1 h2 h3 h4 range is
   around_answers (Ok w1) (Ok w2) (Ok w3) (Ok w4) h1 h2 h3 h4 (Err o) is = absurd is

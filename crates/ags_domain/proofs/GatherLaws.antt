@@ -1,6 +1,6 @@
 -- One more word among those that are gathered, and when they are all or too many.
-use Rattle.std.proofs.Common.{◌≡◌, ℕ, ◌+◌, ◌<◌, ◌≤◌, ◌^◌, Bool, true, false, refl, sym, ap, ◌∙◌, subst, ◌⊎◌, ⊎_elim, arith, List, [], ◌∷◌, ◌++◌, length, append_assoc, length-append}
-use Rattle.std.specs.Prelude.{◌||◌, eqb, Option, Some, None}
+use Rattle.std.proofs.Common.{◌≡◌, ℕ, ◌+◌, ◌<◌, ◌^◌, Bool, true, false, refl, sym, ◌∙◌, subst, ⊎_elim, arith, List, [], ◌∷◌, ◌++◌, length, append_assoc, length-append}
+use Rattle.std.specs.Prelude.{◌||◌, eqb, Some, None}
 use Rattle.std.proofs.lemmas.Bool.{cases_lt}
 use Rattle.std.proofs.lemmas.Bool.Decides.{nat_tests}
 use Rattle.std.proofs.lemmas.List.{append-nil}
@@ -37,10 +37,10 @@ module _ (held : ℕ → Bool) (list : List ℕ) (from : ℕ) (so_far : AreSoFar
         members = λ v h. ⊎_elim
             (λ below. so_far.members v below ∙ sym (lists_append list w v ∙ rw (differ v w (omega arith)) (or_false (lists list v))))
             (λ above. ⊎_elim
-                (λ before. next.3 v above before ∙ sym (lists_append list w v ∙ rw (so_far.none_later v above, differ v w before) refl))
-                (λ at. let same : v ≡ w = omega arith in
-                    subst (λ u. held u ≡ lists (list ++ w ∷ []) u) (sym same) (next.1 ∙ sym (lists_append list w w ∙ rw (equal w) (or_true (lists list w)))))
-                (cases_lt v w))
+            (λ before. next.3 v above before ∙ sym (lists_append list w v ∙ rw (so_far.none_later v above, differ v w before) refl))
+            (λ at. let same : v ≡ w = omega arith in
+            subst (λ u. held u ≡ lists (list ++ w ∷ []) u) (sym same) (next.1 ∙ sym (lists_append list w w ∙ rw (equal w) (or_true (lists list w)))))
+            (cases_lt v w))
             (cases_lt v from);
         none_later = λ v h. lists_append list w v ∙ rw (so_far.none_later v (omega arith), differ' w v (omega arith)) refl;
       }

@@ -1,19 +1,18 @@
 -- From the exact number behind an operation to its hull: where each number lies between those of two corners that don't overflow,
 -- nothing overflows, and the ends are those of the corners.
-use Rattle.std.proofs.Common.{◌≡◌, ℕ, ◌+◌, ◌<◌, ◌≤◌, ◌^◌, Bool, true, false, refl, sym, ap, ◌∙◌, subst, ◌⊎◌, inl, inr, ⊎_elim, arith, ℤ, pos, negsuc, ◌+ℤ◌, ◌-ℤ◌, ◌*ℤ◌, ◌≤ℤ◌, ◌<ℤ◌, List, [], ◌∷◌}
-use Rattle.std.specs.Prelude.{neg_ℤ, not, Option, Some, None, Result, Ok, Err, if◌then◌else◌}
+use Rattle.std.proofs.Common.{◌≡◌, ℕ, ◌<◌, ◌^◌, Bool, true, false, refl, sym, ap, ◌∙◌, subst, arith, ℤ, ◌≤ℤ◌, List, [], ◌∷◌}
+use Rattle.std.specs.Prelude.{not, Some, Result, Ok, Err, if◌then◌else◌}
 use Rattle.std.specs.List.{find}
 use Rattle.std.proofs.lemmas.Int.{ints}
-use Rattle.ags_word.specs.Word.{val, fits, wrap}
-use Rattle.ags_word.specs.Operation.{Operation, settled}
-use Rattle.ags_word.proofs.WordLaws.{fits_in, fits_least, fits_most, val-wrap, wrap_below}
+use Rattle.ags_word.specs.Word.{val, fits}
+use Rattle.ags_word.specs.Operation.{Operation}
+use Rattle.ags_word.proofs.WordLaws.{fits_in, fits_least, fits_most}
 use Rattle.ags_domain.specs.Domain.{Ends, IsBetween}
-use Rattle.ags_domain.specs.Hull.{IsOperands, IsCorner, IsReached, IsHull, NoneOverflows, IsFirstOverflow, IsInterval, Answers, tried, new_a_at, overflows_at, no_cell}
+use Rattle.ags_domain.specs.Hull.{IsOperands, IsCorner, IsHull, NoneOverflows, IsFirstOverflow, IsInterval, Answers, tried, new_a_at, overflows_at, no_cell}
 use Rattle.ags_domain.specs.Range.{range_ends, range_meaning, lesser, greater}
 use Rattle.ags_domain.specs.Corners.{IsSpanned}
 use Rattle.ags_domain.specs.declared.ranges.Range.{Range}
 use Rattle.ags_domain.specs.declared.operands.Operands.{Operands}
-use Rattle.ags_domain.proofs.IntLaws.{at_most_along}
 
 -- an operation overflows exactly where its number is no word's value, and else leaves the word of that value in A
 pub record IsExact (operation : Operation) (number : Operands → ℤ) (a_ends m_ends : Ends) : Type 0 where
@@ -121,7 +120,6 @@ pub record IsSpan (number : Operands → ℤ) (a_ends m_ends : Ends) (low high :
 module _ (operation : Operation) (number : Operands → ℤ) (a_ends m_ends : Ends) (low high : Operands) (least greatest : ℕ)
     (is_exact : IsExact operation number a_ends m_ends) (is_span : IsSpan number a_ends m_ends low high)
     (low_ok : tried operation low ≡ Ok least) (high_ok : tried operation high ≡ Ok greatest) where
-
   pub span_ordered : val least ≤ℤ val greatest
   span_ordered =
       let low_fine = tried_fine operation low least low_ok in
@@ -190,7 +188,6 @@ told_later operation a_ends m_ends o e w candidates h is =
 
 module _ (operation : Operation) (number : Operands → ℤ) (a_ends m_ends : Ends) (low high : Operands)
     (is_exact : IsExact operation number a_ends m_ends) (is_span : IsSpan number a_ends m_ends low high) where
-
   pub spanned_ordered : (least greatest : ℕ) → tried operation low ≡ Ok least → tried operation high ≡ Ok greatest → val least ≤ℤ val greatest
   spanned_ordered least greatest = span_ordered operation number a_ends m_ends low high least greatest is_exact is_span
 
@@ -198,10 +195,10 @@ module _ (operation : Operation) (number : Operands → ℤ) (a_ends m_ends : En
       → IsSpanned greatest least answer → Answers range_meaning operation (λ a m. high ∷ low ∷ []) a_ends m_ends answer
   spanned_answers (Err e) least h k answer is =
       subst (λ (r : Result Range Operands). Answers range_meaning operation (λ a m. high ∷ low ∷ []) a_ends m_ends r) (sym is)
-          (told_first operation a_ends m_ends high e (low ∷ []) is_span.high_is h)
+      (told_first operation a_ends m_ends high e (low ∷ []) is_span.high_is h)
   spanned_answers (Ok greatest) (Err e) h k answer is =
       subst (λ (r : Result Range Operands). Answers range_meaning operation (λ a m. high ∷ low ∷ []) a_ends m_ends r) (sym is)
-          (told_later operation a_ends m_ends high e greatest (low ∷ []) h (told_first operation a_ends m_ends low e [] is_span.low_is k))
+      (told_later operation a_ends m_ends high e greatest (low ∷ []) h (told_first operation a_ends m_ends low e [] is_span.low_is k))
   spanned_answers (Ok greatest) (Ok least) h k (Ok range) is = span_interval operation number a_ends m_ends low high least greatest is_exact is_span k h range is
   spanned_answers (Ok greatest) (Ok least) h k (Err o) is = absurd is
 

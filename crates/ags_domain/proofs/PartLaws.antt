@@ -1,14 +1,12 @@
 -- Parts of a range, joins of two, and the order of its words by number.
-use Rattle.std.proofs.Common.{◌≡◌, ◌≢◌, ℕ, ◌+◌, ◌-◌, ◌<◌, ◌≤◌, ◌^◌, Bool, true, false, refl, sym, ap, ◌∙◌, subst, ◌⊎◌, inl, inr, ⊎_elim, arith, ℤ, pos, negsuc, ◌+ℤ◌, ◌-ℤ◌, ◌≤ℤ◌, ◌<ℤ◌}
-use Rattle.std.specs.Prelude.{not, ◌&&◌, ◌||◌, eqb, nat_le, int_lt, Option, Some, None, IfSome}
-use Rattle.std.specs.Int.RustNames.{int_le}
+use Rattle.std.proofs.Common.{◌≡◌, ℕ, ◌-◌, ◌<◌, ◌≤◌, ◌^◌, Bool, true, false, refl, sym, ap, ◌∙◌, subst, arith, pos, negsuc, ◌≤ℤ◌, ◌<ℤ◌}
+use Rattle.std.specs.Prelude.{not, ◌&&◌, ◌||◌, eqb, Option, Some, None, IfSome}
 use Rattle.std.proofs.lemmas.Int.{ints}
-use Rattle.std.proofs.lemmas.Bool.Decides.{nat_tests, eqb_tells}
-use Rattle.std.proofs.lemmas.Bool.{cases_lt}
+use Rattle.std.proofs.lemmas.Bool.Decides.{nat_tests}
 use Rattle.ags_word.specs.Word.{val}
-use Rattle.ags_word.proofs.WordLaws.{val_same, val-low, val-high, val_least, val_most}
+use Rattle.ags_word.proofs.WordLaws.{val_same, val_least, val_most}
 use Rattle.ags_domain.specs.LowBits.{all_ones}
-use Rattle.ags_domain.specs.Domain.{Ends, IsAlone, IsFull, IsJoin, IsPart, IsWithin, Ranged, is_negative, is_not_negative}
+use Rattle.ags_domain.specs.Domain.{IsAlone, IsFull, IsJoin, IsPart, IsWithin, is_negative, is_not_negative}
 use Rattle.ags_domain.specs.Range.{range_ends, range_meaning, lies_between, lesser, greater, ends_of, hull_of}
 use Rattle.ags_domain.specs.SetOf.{IsNext}
 use Rattle.ags_domain.specs.Gathering.{held_by_part}
@@ -50,6 +48,7 @@ alone word is range ends_are = record {
         let to = lies_to (ends_of word word) w h in
         let same : word ≡ w = val_same word w is is_word (omega (arith, ints)) in
         grind (arith, nat_tests)
+
     also : (w : ℕ) → eqb word w ≡ true → lies_between (ends_of word word) w ≡ true
     also w h =
         let same : word ≡ w = grind (arith, nat_tests) in
@@ -100,8 +99,10 @@ joined left right range ends_are = record {
   where
     left_in : (w : ℕ) → val left.least ≤ℤ val w → val w ≤ℤ val left.greatest → lies_between (hull_of (range_ends left) (range_ends right)) w ≡ true
     left_in w h k = grind (arith, ints)
+
     right_in : (w : ℕ) → val right.least ≤ℤ val w → val w ≤ℤ val right.greatest → lies_between (hull_of (range_ends left) (range_ends right)) w ≡ true
     right_in w h k = grind (arith, ints)
+
     least_of : (other : Range) → IsWithin range_meaning left other → IsWithin range_meaning right other → (w : ℕ)
         → lies_between (hull_of (range_ends left) (range_ends right)) w ≡ true → lies_between (range_ends other) w ≡ true
     least_of other h k w held =
@@ -128,12 +129,15 @@ not_held false h = refl
 module _ (range : Range) (from : ℕ) (one_sign : is_negative range.least ≡ is_negative range.greatest) where
   pub found_next : (found : ℕ) → from ≤ found → range.least ≤ found → found ≤ range.greatest → ((v : ℕ) → from ≤ v → range.least ≤ v → found ≤ v)
       → IsNext (lies_between (range_ends range)) from (Some found)
-  found_next found h k m least =
-      ((let last = range.greatest_word in omega arith), one_sign_in range.least range.greatest found range.least_word range.greatest_word one_sign k m, h,
-          λ v from_v before. not_held (lies_between (range_ends range) v) (λ held.
-              let last = range.greatest_word in
-              let bounds = one_sign_from range.least range.greatest v range.least_word range.greatest_word (omega arith) one_sign held in
-              let at_least = least v from_v bounds.0 in omega arith))
+  found_next found h k m least = (
+    (let last = range.greatest_word in omega arith),
+    one_sign_in range.least range.greatest found range.least_word range.greatest_word one_sign k m,
+    h,
+    λ v from_v before. not_held (lies_between (range_ends range) v) (λ held.
+        let last = range.greatest_word in
+        let bounds = one_sign_from range.least range.greatest v range.least_word range.greatest_word (omega arith) one_sign held in
+        let at_least = least v from_v bounds.0 in omega arith),
+  )
 
   pub none_next : (found : ℕ) → ((v : ℕ) → from ≤ v → range.least ≤ v → found ≤ v) → range.greatest < found
       → IsNext (lies_between (range_ends range)) from None
@@ -166,18 +170,23 @@ pub rest_first : (range : Range) (from : ℕ) (rest : Option Range) → IsPart r
 rest_first range from rest is_rest word next =
     let is = next.0 in
     let chosen : (lies_between (range_ends range) word && is_not_negative word) ≡ true = sym (part_held is_not_negative range rest is_rest word is) ∙ next.1 in
-    let low : word < 2 ^ 17 = not_negative_low word is (negated (lies_between (range_ends range) word) (is_negative word) chosen) in
-    (is, held_of (lies_between (range_ends range) word) (is_not_negative word) chosen, next.2,
-        λ v h k. and_true (lies_between (range_ends range) v) (is_negative v) (low_not_negative v (omega arith))
-            ∙ sym (part_held is_not_negative range rest is_rest v (omega arith)) ∙ next.3 v h k)
+    let low : word < 2 ^ 17 = not_negative_low word is (negated (lies_between (range_ends range) word) (is_negative word) chosen) in (
+      is,
+      held_of (lies_between (range_ends range) word) (is_not_negative word) chosen,
+      next.2,
+      λ v h k. and_true (lies_between (range_ends range) v) (is_negative v) (low_not_negative v (omega arith))
+          ∙ sym (part_held is_not_negative range rest is_rest v (omega arith)) ∙ next.3 v h k,
+    )
   where
     negated : (a n : Bool) → (a && not n) ≡ true → n ≡ false
     negated true true h = absurd cc
     negated true false h = refl
     negated false n h = absurd cc
+
     held_of : (a b : Bool) → (a && b) ≡ true → a ≡ true
     held_of true b h = refl
     held_of false b h = h
+
     and_true : (a n : Bool) → n ≡ false → a ≡ (a && not n)
     and_true true true h = h
     and_true true false h = refl

@@ -1,21 +1,19 @@
 -- The numbers of products, and the corners between which they lie.
-use Rattle.std.proofs.Common.{◌≡◌, ℕ, suc, ◌+◌, ◌-◌, ◌*◌, ◌<◌, ◌≤◌, ◌^◌, Bool, true, false, refl, sym, ap, subst, ◌∙◌, ◌⊎◌, inl, inr, ⊎_elim, arith, ℤ, pos, negsuc, ◌+ℤ◌, ◌-ℤ◌, ◌*ℤ◌, ◌≤ℤ◌, ◌<ℤ◌, List, [], ◌∷◌}
-use Rattle.std.specs.Prelude.{neg_ℤ, not, unsigned_abs, Result}
+use Rattle.std.proofs.Common.{◌≡◌, ℕ, ◌-◌, ◌*◌, ◌<◌, ◌≤◌, ◌^◌, Bool, true, false, refl, sym, ap, subst, ◌∙◌, inl, inr, ⊎_elim, arith, ℤ, pos, negsuc, ◌+ℤ◌, ◌*ℤ◌, ◌≤ℤ◌, ◌<ℤ◌, [], ◌∷◌}
+use Rattle.std.specs.Prelude.{neg_ℤ, not, unsigned_abs}
 use Rattle.std.proofs.lemmas.Int.{ints, unsigned_abs-mul}
 use Rattle.std.proofs.lemmas.Bool.Decides.{nat_tests}
 use Rattle.std.proofs.lemmas.Bool.{cases_lt}
 use Rattle.std.proofs.lemmas.Nat.{mul-le}
-use Rattle.ags_word.specs.Word.{val, fits, wrap}
+use Rattle.ags_word.specs.Word.{val, fits}
 use Rattle.ags_word.specs.Long.{pair, fits_long, shifted_right}
 use Rattle.ags_word.specs.Operation.{Operation, product, product_high, product_rounded, nearest_product}
 use Rattle.ags_word.proofs.WordLaws.{val-wrap, wrap_below, val_least, val_most, val-low, val-high, fits_in}
-use Rattle.ags_word.proofs.LongLaws.{pair_a_below, product_over, over-product, fits_long_least, fits_long_most}
-use Rattle.ags_domain.specs.Domain.{Ends, IsBetween}
-use Rattle.ags_domain.specs.Hull.{IsOperands, IsCorner, IsFirstOverflow, Answers, overflows_at}
+use Rattle.ags_word.proofs.LongLaws.{pair_a_below, product_over, over-product}
+use Rattle.ags_domain.specs.Domain.{Ends}
+use Rattle.ags_domain.specs.Hull.{IsFirstOverflow, overflows_at}
 use Rattle.ags_domain.specs.Candidates.{operands, product_candidates}
-use Rattle.ags_domain.specs.Range.{range_ends, range_meaning}
 use Rattle.ags_domain.specs.declared.operands.Operands.{Operands}
-use Rattle.ags_domain.specs.declared.ranges.Range.{Range}
 use Rattle.ags_domain.proofs.IntLaws.{at_most_along, column_least, column_most, row_least, row_most, shifted_right_up}
 use Rattle.ags_domain.proofs.HullLaws.{IsExact, AreEnds, least_between, greatest_between}
 use Rattle.ags_domain.proofs.CornerLaws.{IsAbove, IsBelow, IsCornered, found_is, told_alone}
@@ -66,15 +64,15 @@ small_product a m h k fine =
     ⊎_elim
     (λ l. omega (arith, small_sizes (unsigned_abs (val a)) (unsigned_abs (val m)) l (size_most m k)))
     (λ l. ⊎_elim
-        (λ r. omega (arith, small_sizes' (unsigned_abs (val a)) (unsigned_abs (val m)) (size_most a h) r))
-        (λ r. absurd (both_least (omega (arith, size_most a h)) (omega (arith, size_most m k))))
-        (cases_lt (unsigned_abs (val m)) (2 ^ 17)))
+    (λ r. omega (arith, small_sizes' (unsigned_abs (val a)) (unsigned_abs (val m)) (size_most a h) r))
+    (λ r. absurd (both_least (omega (arith, size_most a h)) (omega (arith, size_most m k))))
+    (cases_lt (unsigned_abs (val m)) (2 ^ 17)))
     (cases_lt (unsigned_abs (val a)) (2 ^ 17))
   where
     both_least : unsigned_abs (val a) ≡ 2 ^ 17 → unsigned_abs (val m) ≡ 2 ^ 17 → ⊥
     both_least p q =
         let fits_least : fits_long (product (2 ^ 17) (2 ^ 17)) ≡ true = subst (λ b. fits_long (product (2 ^ 17) b) ≡ true) (least_word m k q)
-                (subst (λ b. fits_long (product b m) ≡ true) (least_word a h p) fine) in
+        (subst (λ b. fits_long (product b m) ≡ true) (least_word a h p) fine) in
         let over = over-product in
         cc
 
@@ -85,6 +83,7 @@ nearest_fits (negsuc n) h = fits_in _ (lower (negsuc n +ℤ pos (2 ^ 16)) (omega
     lower : (k : ℤ) → neg_ℤ (pos (2 ^ 34)) ≤ℤ k → neg_ℤ (pos (2 ^ 17)) ≤ℤ shifted_right k 17
     lower (pos k) h = omega (arith, ints)
     lower (negsuc k) h = omega (arith, ints)
+
     upper : (k : ℤ) → k <ℤ pos (2 ^ 34) → shifted_right k 17 <ℤ pos (2 ^ 17)
     upper (pos k) h = omega (arith, ints)
     upper (negsuc k) h = omega (arith, ints)
@@ -175,7 +174,7 @@ pub product_told : (operation : Operation) → ((o : Operands) → overflows_at 
     → IsFirstOverflow operation a m (product_candidates a m) e
 product_told operation is_over a m l1 l2 l3 l4 r1 r2 r3 r4 e is =
     let found = found_is (overflows_at operation) (λ o. o.q ≡ 0)
-            (operands l1 0 r1 ∷ operands l2 0 r2 ∷ operands l3 0 r3 ∷ operands l4 0 r4 ∷ []) e (refl, (refl, (refl, (refl, tt)))) is.first in
+    (operands l1 0 r1 ∷ operands l2 0 r2 ∷ operands l3 0 r3 ∷ operands l4 0 r4 ∷ []) e (refl, (refl, (refl, (refl, tt)))) is.first in
     let over = not_true (fits_long (product e.a e.m)) (sym (is_over e) ∙ found.1) in
     let both = product_over e.a e.m is.operands.a_between.is_word is.operands.m_between.is_word over in
     told_alone operation a m e (2 ^ 17) 0 (2 ^ 17) both.0 found.0 both.1 found.1 is.operands

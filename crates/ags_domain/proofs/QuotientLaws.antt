@@ -1,12 +1,12 @@
 -- The numbers of quotients by an interval that hasn't 0, and the corners between which they lie.
-use Rattle.std.proofs.Common.{◌≡◌, ◌≢◌, ℕ, ◌+◌, ◌<◌, ◌^◌, Bool, true, false, refl, sym, ap, ◌∙◌, subst, ◌⊎◌, inl, inr, ⊎_elim, arith, ℤ, pos, ◌≤ℤ◌, ◌<ℤ◌, List, [], ◌∷◌}
-use Rattle.std.specs.Prelude.{not, int_div, Option, Some, None, is_none, unwrap_or, ◌&&◌}
+use Rattle.std.proofs.Common.{◌≡◌, ◌≢◌, ℕ, ◌<◌, ◌^◌, Bool, true, false, refl, sym, subst, inl, inr, ⊎_elim, arith, ℤ, pos, ◌≤ℤ◌, [], ◌∷◌}
+use Rattle.std.specs.Prelude.{not, int_div, Some, is_none, unwrap_or, ◌&&◌}
 use Rattle.std.specs.Int.RustNames.{int_le}
 use Rattle.std.specs.List.{find}
 use Rattle.std.proofs.lemmas.Int.{ints}
-use Rattle.ags_word.specs.Word.{val, fits, wrap}
+use Rattle.ags_word.specs.Word.{val, fits}
 use Rattle.ags_word.specs.Long.{long, divided}
-use Rattle.ags_word.specs.Operation.{Operation, quotient}
+use Rattle.ags_word.specs.Operation.{quotient}
 use Rattle.ags_word.proofs.WordLaws.{val-wrap, wrap_below}
 use Rattle.ags_word.proofs.LongLaws.{divided-zero, divided-over, divided-some}
 use Rattle.ags_domain.specs.LowBits.{all_ones}
@@ -66,11 +66,11 @@ module _ (a m : Ends) (is_a : AreEnds a) (is_m : AreEnds m) (no_zero : has_zero 
         let high = long a.greatest all_ones in
         ⊎_elim
         (λ c. ⊎_elim (λ r. inl (at_most_along (int_div low (val m.least)) (int_div low (val y)) (int_div n (val y)) r c))
-            (λ r. inr (inl (at_most_along (int_div low (val m.greatest)) (int_div low (val y)) (int_div n (val y)) r c)))
-            (divisor_least low (val m.least) (val y) (val m.greatest) y_from y_to (one_sided m no_zero)))
+        (λ r. inr (inl (at_most_along (int_div low (val m.greatest)) (int_div low (val y)) (int_div n (val y)) r c)))
+        (divisor_least low (val m.least) (val y) (val m.greatest) y_from y_to (one_sided m no_zero)))
         (λ c. ⊎_elim (λ r. inr (inr (inl (at_most_along (int_div high (val m.least)) (int_div high (val y)) (int_div n (val y)) r c))))
-            (λ r. inr (inr (inr (at_most_along (int_div high (val m.greatest)) (int_div high (val y)) (int_div n (val y)) r c))))
-            (divisor_least high (val m.least) (val y) (val m.greatest) y_from y_to (one_sided m no_zero)))
+        (λ r. inr (inr (inr (at_most_along (int_div high (val m.greatest)) (int_div high (val y)) (int_div n (val y)) r c))))
+        (divisor_least high (val m.least) (val y) (val m.greatest) y_from y_to (one_sided m no_zero)))
         (divided_least (val y) low n high some from to)
 
     quotient_below : IsBelow (int_div (long a.least 0) (val m.least)) (int_div (long a.least 0) (val m.greatest))
@@ -80,11 +80,11 @@ module _ (a m : Ends) (is_a : AreEnds a) (is_m : AreEnds m) (no_zero : has_zero 
         let high = long a.greatest all_ones in
         ⊎_elim
         (λ c. ⊎_elim (λ r. inl (at_most_along (int_div n (val y)) (int_div low (val y)) (int_div low (val m.least)) c r))
-            (λ r. inr (inl (at_most_along (int_div n (val y)) (int_div low (val y)) (int_div low (val m.greatest)) c r)))
-            (divisor_most low (val m.least) (val y) (val m.greatest) y_from y_to (one_sided m no_zero)))
+        (λ r. inr (inl (at_most_along (int_div n (val y)) (int_div low (val y)) (int_div low (val m.greatest)) c r)))
+        (divisor_most low (val m.least) (val y) (val m.greatest) y_from y_to (one_sided m no_zero)))
         (λ c. ⊎_elim (λ r. inr (inr (inl (at_most_along (int_div n (val y)) (int_div high (val y)) (int_div high (val m.least)) c r))))
-            (λ r. inr (inr (inr (at_most_along (int_div n (val y)) (int_div high (val y)) (int_div high (val m.greatest)) c r))))
-            (divisor_most high (val m.least) (val y) (val m.greatest) y_from y_to (one_sided m no_zero)))
+        (λ r. inr (inr (inr (at_most_along (int_div n (val y)) (int_div high (val y)) (int_div high (val m.greatest)) c r))))
+        (divisor_most high (val m.least) (val y) (val m.greatest) y_from y_to (one_sided m no_zero)))
         (divided_most (val y) low n high some from to)
 
   pub quotient_corners : IsCornered quotient_number a m

@@ -1,6 +1,6 @@
 -- The ends of a range from two values.
-use Rattle.std.proofs.Common.{◌≡◌, ℕ, Bool, true, false, refl, sym, ◌∙◌, arith, ℤ, ◌≤ℤ◌, ◌<ℤ◌}
-use Rattle.std.specs.Prelude.{Option, Some, None, if◌then◌else◌}
+use Rattle.std.proofs.Common.{◌≡◌, ℕ, Bool, true, false, refl, ℤ}
+use Rattle.std.specs.Prelude.{Some, None}
 use Rattle.ags_word.specs.Word.{fits, wrap, word_of_value}
 use Rattle.ags_word.proofs.WordLaws.{word_of_value-fits, word_of_value-not}
 

@@ -1,13 +1,13 @@
 -- The numbers of shifts, and the corners between which they lie.
-use Rattle.std.proofs.Common.{◌≡◌, ℕ, ◌+◌, ◌<◌, ◌^◌, ◌%◌, Bool, true, false, refl, sym, ap, ◌∙◌, inl, inr, arith, ℤ, pos, ◌+ℤ◌, ◌*ℤ◌, ◌≤ℤ◌}
-use Rattle.std.specs.Prelude.{not, Ok}
+use Rattle.std.proofs.Common.{◌≡◌, ℕ, ◌^◌, true, refl, sym, ap, ◌∙◌, inl, inr, arith, ℤ, pos, ◌*ℤ◌, ◌≤ℤ◌}
+use Rattle.std.specs.Prelude.{not}
 use Rattle.std.proofs.lemmas.Int.{ints}
 use Rattle.ags_word.specs.Word.{val, fits}
-use Rattle.ags_word.specs.Long.{long, pair, fits_long, wrap_long, shifted_right}
-use Rattle.ags_word.specs.Operation.{Operation, left_shift, long_left_high, long_right_high, shifted_left}
+use Rattle.ags_word.specs.Long.{long, pair, wrap_long, shifted_right}
+use Rattle.ags_word.specs.Operation.{left_shift, long_left_high, long_right_high, shifted_left}
 use Rattle.ags_word.proofs.LongLaws.{pair_a_below, fits_long-long, fits_long-shifted_right, wrap_long-fits}
 use Rattle.ags_domain.specs.LowBits.{all_ones}
-use Rattle.ags_domain.specs.Domain.{Ends, IsBetween}
+use Rattle.ags_domain.specs.Domain.{Ends}
 use Rattle.ags_domain.specs.Hull.{IsOperands, no_cell}
 use Rattle.ags_domain.specs.Candidates.{operands}
 use Rattle.ags_domain.specs.declared.operands.Operands.{Operands}

@@ -1,12 +1,12 @@
 -- The numbers of negatives and sizes, and the corners between which they lie.
-use Rattle.std.proofs.Common.{◌≡◌, ℕ, ◌+◌, ◌<◌, ◌≤◌, ◌^◌, Bool, true, false, refl, sym, subst, ◌∙◌, ◌⊎◌, inl, inr, ⊎_elim, arith, ℤ, pos, negsuc, ◌≤ℤ◌, ◌<ℤ◌, List, [], ◌∷◌}
+use Rattle.std.proofs.Common.{◌≡◌, ℕ, ◌<◌, ◌^◌, Bool, true, false, refl, sym, subst, ◌⊎◌, inl, inr, ⊎_elim, arith, ℤ, pos, negsuc, ◌≤ℤ◌, [], ◌∷◌}
 use Rattle.std.specs.Prelude.{neg_ℤ, not, unsigned_abs, Result, Ok, Err}
 use Rattle.std.proofs.lemmas.Int.{ints}
 use Rattle.ags_word.specs.Word.{val, fits, wrap}
-use Rattle.ags_word.specs.Operation.{Operation, negative, size}
+use Rattle.ags_word.specs.Operation.{negative, size}
 use Rattle.ags_word.proofs.WordLaws.{negative_over, size_over}
 use Rattle.ags_domain.specs.Domain.{Ends, IsBetween}
-use Rattle.ags_domain.specs.Hull.{IsOperands, IsCorner, IsHull, IsReached, IsFirstOverflow, IsInterval, Answers, overflows_at, new_a_at, tried, no_cell}
+use Rattle.ags_domain.specs.Hull.{IsOperands, IsCorner, IsHull, IsFirstOverflow, IsInterval, Answers, overflows_at, tried, no_cell}
 use Rattle.ags_domain.specs.Candidates.{operands, sign_candidates}
 use Rattle.ags_domain.specs.Range.{range_ends, range_meaning, greater, ends_of}
 use Rattle.ags_domain.specs.Corners.{IsFromZero}
@@ -130,29 +130,29 @@ module _ (a : Ends) (is_a : AreEnds a) (from_below : val a.least ≤ℤ pos 0) (
         let zero = val_zero in
         let below = zero_below in
         fine_of size a no_cell (ends_of 0 (greater w1 w2)) (operands 0 0 0) 0 zero_is zero_tried
-            (record { is_word = omega arith; from = omega (arith, ints); to = omega (arith, ints) })
+        (record { is_word = omega arith; from = omega (arith, ints); to = omega (arith, ints) })
 
     first_fine : IsFine size a no_cell (ends_of 0 (greater w1 w2)) (operands a.least 0 0)
     first_fine =
         let zero = val_zero in
         let value = first_value in
         fine_of size a no_cell (ends_of 0 (greater w1 w2)) (operands a.least 0 0) w1 (at_least a is_a 0 (omega arith)) ok1
-            (record {
-              is_word = subst (λ (w : ℕ). w < 2 ^ 18) (tried_word size (operands a.least 0 0) w1 ok1) ((size_exact a no_cell).word (operands a.least 0 0) (at_least a is_a 0 (omega arith)));
-              from = omega (arith, ints);
-              to = greater_left w1 w2;
-            })
+        (record {
+          is_word = subst (λ (w : ℕ). w < 2 ^ 18) (tried_word size (operands a.least 0 0) w1 ok1) ((size_exact a no_cell).word (operands a.least 0 0) (at_least a is_a 0 (omega arith)));
+          from = omega (arith, ints);
+          to = greater_left w1 w2;
+        })
 
     second_fine : IsFine size a no_cell (ends_of 0 (greater w1 w2)) (operands a.greatest 0 0)
     second_fine =
         let zero = val_zero in
         let value = second_value in
         fine_of size a no_cell (ends_of 0 (greater w1 w2)) (operands a.greatest 0 0) w2 (at_greatest a is_a 0 (omega arith)) ok2
-            (record {
-              is_word = subst (λ (w : ℕ). w < 2 ^ 18) (tried_word size (operands a.greatest 0 0) w2 ok2) ((size_exact a no_cell).word (operands a.greatest 0 0) (at_greatest a is_a 0 (omega arith)));
-              from = omega (arith, ints);
-              to = greater_right w1 w2;
-            })
+        (record {
+          is_word = subst (λ (w : ℕ). w < 2 ^ 18) (tried_word size (operands a.greatest 0 0) w2 ok2) ((size_exact a no_cell).word (operands a.greatest 0 0) (at_greatest a is_a 0 (omega arith)));
+          from = omega (arith, ints);
+          to = greater_right w1 w2;
+        })
 
     bounded : (o : Operands) → IsOperands a no_cell o → (size_number o ≤ℤ size_number (operands a.least 0 0)) ⊎ (size_number o ≤ℤ size_number (operands a.greatest 0 0))
     bounded o is = by_sign (val o.a) is.a_between.from is.a_between.to
@@ -186,10 +186,10 @@ module _ (a : Ends) (is_a : AreEnds a) (from_below : val a.least ≤ℤ pos 0) (
       → Answers range_meaning size (λ a m. operands a.least 0 0 ∷ operands a.greatest 0 0 ∷ []) a no_cell answer
   across_answers (Err e) t2 h1 h2 answer is =
       subst (λ (r : Result Range Operands). Answers range_meaning size (λ a m. operands a.least 0 0 ∷ operands a.greatest 0 0 ∷ []) a no_cell r) (sym is)
-          (told_first size a no_cell (operands a.least 0 0) e (operands a.greatest 0 0 ∷ []) (at_least a is_a 0 (omega arith)) h1)
+      (told_first size a no_cell (operands a.least 0 0) e (operands a.greatest 0 0 ∷ []) (at_least a is_a 0 (omega arith)) h1)
   across_answers (Ok w1) (Err e) h1 h2 answer is =
       subst (λ (r : Result Range Operands). Answers range_meaning size (λ a m. operands a.least 0 0 ∷ operands a.greatest 0 0 ∷ []) a no_cell r) (sym is)
-          (told_later size a no_cell (operands a.least 0 0) e w1 (operands a.greatest 0 0 ∷ []) h1
-              (told_first size a no_cell (operands a.greatest 0 0) e [] (at_greatest a is_a 0 (omega arith)) h2))
+      (told_later size a no_cell (operands a.least 0 0) e w1 (operands a.greatest 0 0 ∷ []) h1
+      (told_first size a no_cell (operands a.greatest 0 0) e [] (at_greatest a is_a 0 (omega arith)) h2))
   across_answers (Ok w1) (Ok w2) h1 h2 (Ok range) is = across_interval w1 w2 h1 h2 range is
   across_answers (Ok w1) (Ok w2) h1 h2 (Err o) is = absurd is

@@ -1,13 +1,11 @@
 -- The numbers of sums and differences, and the corners between which they lie.
-use Rattle.std.proofs.Common.{◌≡◌, ℕ, ◌<◌, ◌^◌, true, false, refl, inl, inr, arith, ℤ, pos, ◌+ℤ◌, ◌-ℤ◌, ◌≤ℤ◌}
+use Rattle.std.proofs.Common.{ℕ, refl, inl, inr, arith, ℤ, ◌+ℤ◌, ◌-ℤ◌}
 use Rattle.std.proofs.lemmas.Int.{ints}
-use Rattle.ags_word.specs.Word.{val, fits, wrap}
-use Rattle.ags_word.specs.Operation.{Operation, settled, sum, difference}
+use Rattle.ags_word.specs.Word.{val}
+use Rattle.ags_word.specs.Operation.{settled}
 use Rattle.ags_word.proofs.WordLaws.{val-wrap, wrap_below}
-use Rattle.ags_domain.specs.Domain.{Ends, IsBetween}
-use Rattle.ags_domain.specs.Hull.{IsOperands, IsCorner}
+use Rattle.ags_domain.specs.Domain.{Ends}
 use Rattle.ags_domain.specs.Candidates.{operands}
-use Rattle.ags_domain.specs.declared.operands.Operands.{Operands}
 use Rattle.ags_domain.proofs.HullLaws.{IsExact, IsSpan, AreEnds, least_between, greatest_between}
 
 -- an operation whose exact result is a number

@@ -1,16 +1,16 @@
 -- Values: what lies within what, joins, parts and answers.
-use Rattle.std.proofs.Common.{◌≡◌, ℕ, ◌<◌, ◌≤◌, ◌^◌, Bool, true, false, refl, sym, ap, ◌∙◌, subst, arith, List, [], ◌∷◌, ℤ, ◌≤ℤ◌}
-use Rattle.std.specs.Prelude.{◌&&◌, ◌||◌, eqb, Option, Some, None, Result, Ok, Err}
+use Rattle.std.proofs.Common.{◌≡◌, ℕ, ◌<◌, ◌^◌, Bool, true, false, refl, sym, ap, ◌∙◌, subst, arith, List, [], ◌∷◌, ◌≤ℤ◌}
+use Rattle.std.specs.Prelude.{◌&&◌, ◌||◌, eqb, Some, None, Result, Ok, Err}
 use Rattle.std.specs.List.{list_all, filter}
 use Rattle.std.proofs.lemmas.Int.{ints}
 use Rattle.std.proofs.lemmas.Bool.{eqb-true}
 use Rattle.ags_word.specs.Word.{val}
 use Rattle.ags_word.specs.Operation.{Operation}
-use Rattle.ags_domain.specs.WordSet.{ascends_from, lists, HoldsMore}
-use Rattle.ags_domain.specs.Domain.{Ends, IsBetween, IsFull, IsJoin, IsPart, IsWithin, Ranged, Listed, held_by_either}
+use Rattle.ags_domain.specs.WordSet.{lists, HoldsMore}
+use Rattle.ags_domain.specs.Domain.{Ends, IsBetween, IsFull, IsJoin, IsPart, IsWithin, held_by_either}
 use Rattle.ags_domain.specs.Hull.{IsInterval, Answers}
-use Rattle.ags_domain.specs.Range.{range_ends, range_meaning, lies_between, lesser, greater, ends_of, hull_of}
-use Rattle.ags_domain.specs.Value.{value_meaning, value_held, value_ends, value_form}
+use Rattle.ags_domain.specs.Range.{range_ends, range_meaning, lies_between, lesser, greater, hull_of}
+use Rattle.ags_domain.specs.Value.{value_meaning, value_held, value_ends}
 use Rattle.ags_domain.specs.SetOf.{IsFiltered}
 use Rattle.ags_domain.specs.Gathering.{AreGathered}
 use Rattle.ags_domain.specs.Inclusion.{AreAllIn}
@@ -104,6 +104,7 @@ lists_filter p (x ∷ xs) w = by (p x) refl (eqb x w) refl (lists_filter p xs w)
     and_false : (b : Bool) → (b && false) ≡ false
     and_false true = refl
     and_false false = refl
+
     by : (b : Bool) → p x ≡ b → (e : Bool) → eqb x w ≡ e → lists (filter p xs) w ≡ (lists xs w && p w)
         → lists (filter p (x ∷ xs)) w ≡ (lists (x ∷ xs) w && p w)
     by true is true same rest =
@@ -140,6 +141,7 @@ joined_few left right set gathered = record {
     or_true : (b : Bool) → (b || true) ≡ true
     or_true true = refl
     or_true false = refl
+
     either : {P : Type 0} (b : Bool) (w : ℕ) → value_held left w ≡ b → (value_held left w ≡ true → P) → (value_held right w ≡ true → P)
         → (value_held left w || value_held right w) ≡ true → P
     either true w is l r held = l is
@@ -169,6 +171,7 @@ joined_many left right range ends_are more = record {
         let low = lesser_left (value_ends left).least (value_ends right).least in
         let high = greater_left (value_ends left).greatest (value_ends right).greatest in
         lies_inside (hull_of (value_ends left) (value_ends right)) w (omega (arith, ints)) (omega (arith, ints))
+
     right_in : (w : ℕ) → IsBetween (value_ends right) w → lies_between (hull_of (value_ends left) (value_ends right)) w ≡ true
     right_in w between =
         let from = between.from in
@@ -176,6 +179,7 @@ joined_many left right range ends_are more = record {
         let low = lesser_right (value_ends left).least (value_ends right).least in
         let high = greater_right (value_ends left).greatest (value_ends right).greatest in
         lies_inside (hull_of (value_ends left) (value_ends right)) w (omega (arith, ints)) (omega (arith, ints))
+
     least_of : (other : Value) → IsWithin value_meaning left other → IsWithin value_meaning right other → (w : ℕ)
         → lies_between (hull_of (value_ends left) (value_ends right)) w ≡ true → value_held other w ≡ true
     least_of (ByEnds r) h k w held =
@@ -214,4 +218,4 @@ pub answers_of_spans : (operation : Operation) (candidates : Ends → Ends → L
     → Answers range_meaning operation candidates a m answer → IsRangedAnswer answer result → Answers value_meaning operation candidates a_ends m_ends result
 answers_of_spans operation candidates a m a_ends m_ends h k answer result is same =
     answer_value operation candidates a_ends m_ends answer result
-        (subst (λ ends. Answers range_meaning operation candidates a_ends ends answer) k (subst (λ ends. Answers range_meaning operation candidates ends m answer) h is)) same
+    (subst (λ ends. Answers range_meaning operation candidates a_ends ends answer) k (subst (λ ends. Answers range_meaning operation candidates ends m answer) h is)) same

@@ -38,4 +38,4 @@ abbrev pub quotient_candidates : (a m : Ends) → List Operands
 quotient_candidates a m = if has_zero m
     then operands a.least 0 0 ∷ []
     else (operands a.least 0 m.least ∷ operands a.least 0 m.greatest
-        ∷ operands a.greatest all_ones m.least ∷ operands a.greatest all_ones m.greatest ∷ [])
+    ∷ operands a.greatest all_ones m.least ∷ operands a.greatest all_ones m.greatest ∷ [])

@@ -1,6 +1,6 @@
 -- What an operation makes of two intervals, and where it overflows. A lies between two ends, the cell between two others, and Q
 -- is any word, so that its low part is any.
-use Rattle.std.specs.Prelude.{◌≡◌, ℕ, ◌<◌, ◌^◌, Bool, true, false, ◌⊎◌, List, [], ◌∷◌, Option, Some, None, Result, Ok, Err, if◌then◌else◌}
+use Rattle.std.specs.Prelude.{◌≡◌, ℕ, ◌<◌, ◌^◌, Bool, false, ◌⊎◌, List, Some, Result, Ok, Err, if◌then◌else◌}
 use Rattle.std.specs.List.{find}
 use Rattle.ags_word.specs.Operation.{Operation}
 use Rattle.ags_domain.specs.LowBits.{all_ones}

@@ -8,7 +8,6 @@ pub mod Range
 pub mod SetOf
 pub mod Value
 pub mod ValueText
-
 -- what serves inside
 pub mod WordList
 pub mod Corners

@@ -1,5 +1,5 @@
 -- Lists of words in ascending number: what is left of one, its words that a test chooses, and its ends.
-use Rattle.std.proofs.Common.{◌⊎◌, inl, inr, ⊎_elim, ℤ, ◌≤ℤ◌, ◌≡◌, ℕ, zero, suc, ◌+◌, ◌<◌, ◌≤◌, ◌^◌, Bool, true, false, refl, sym, ap, ◌∙◌, subst, arith, List, [], ◌∷◌, ◌++◌, length, take, drop, get_or, add-one, drop-cons}
+use Rattle.std.proofs.Common.{◌⊎◌, inl, inr, ⊎_elim, ℤ, ◌≤ℤ◌, ◌≡◌, ℕ, suc, ◌+◌, ◌<◌, ◌≤◌, ◌^◌, Bool, true, false, refl, sym, ap, ◌∙◌, subst, arith, List, [], ◌∷◌, ◌++◌, length, take, drop, get_or, add-one, drop-cons}
 use Rattle.std.specs.Prelude.{◌&&◌, ◌||◌, nat_le, nat_lt, eqb, cond}
 use Rattle.std.proofs.lemmas.List.Elements.{filter_more}
 use Rattle.std.specs.List.{filter}
@@ -169,7 +169,7 @@ least_from_each : (x : ℕ) (words : List ℕ) (w : ℕ) → lists words w ≡ t
 least_from_each x [] w h = absurd cc
 least_from_each x (y ∷ ys) w h = one_of y ys w h
     (λ e. subst (λ v. val (least_from (lesser x y) ys) ≤ℤ val v) e
-        (along (val (least_from (lesser x y) ys)) (val (lesser x y)) (val y) (least_from_low (lesser x y) ys) (lesser_right x y)))
+    (along (val (least_from (lesser x y) ys)) (val (lesser x y)) (val y) (least_from_low (lesser x y) ys) (lesser_right x y)))
     (λ r. least_from_each (lesser x y) ys w r)
 
 least_from_in : (x : ℕ) (words : List ℕ) → (least_from x words ≡ x) ⊎ (lists words (least_from x words) ≡ true)
@@ -187,7 +187,7 @@ greatest_from_each : (x : ℕ) (words : List ℕ) (w : ℕ) → lists words w �
 greatest_from_each x [] w h = absurd cc
 greatest_from_each x (y ∷ ys) w h = one_of y ys w h
     (λ e. subst (λ v. val v ≤ℤ val (greatest_from (greater x y) ys)) e
-        (along (val y) (val (greater x y)) (val (greatest_from (greater x y) ys)) (greater_right x y) (greatest_from_high (greater x y) ys)))
+    (along (val y) (val (greater x y)) (val (greatest_from (greater x y) ys)) (greater_right x y) (greatest_from_high (greater x y) ys)))
     (λ r. greatest_from_each (greater x y) ys w r)
 
 greatest_from_in : (x : ℕ) (words : List ℕ) → (greatest_from x words ≡ x) ⊎ (lists words (greatest_from x words) ≡ true)
@@ -223,15 +223,15 @@ no_longer from [] (y ∷ ys) h k all = absurd (let there = all y (lists_head y y
 no_longer from (x ∷ xs) [] h k all = omega arith
 no_longer from (x ∷ xs) (y ∷ ys) h k all = one_of x xs y (all y (lists_head y ys))
     (λ e. let tail = ascends_tail from y ys k in
-        let tail' : ascends_from (x + 1) ys ≡ true = subst (λ (v : ℕ). ascends_from (v + 1) ys ≡ true) (sym e) tail in
-        let rest = no_longer (x + 1) xs ys (ascends_tail from x xs h) tail'
-            (λ w r. let above = lists_from (x + 1) ys w tail' r in sym (skipped x w xs (omega arith)) ∙ all w (lists_rest y ys w r)) in
-        omega arith)
+    let tail' : ascends_from (x + 1) ys ≡ true = subst (λ (v : ℕ). ascends_from (v + 1) ys ≡ true) (sym e) tail in
+    let rest = no_longer (x + 1) xs ys (ascends_tail from x xs h) tail'
+    (λ w r. let above = lists_from (x + 1) ys w tail' r in sym (skipped x w xs (omega arith)) ∙ all w (lists_rest y ys w r)) in
+    omega arith)
     (λ r. let above = lists_from (x + 1) xs y (ascends_tail from x xs h) r in
-        let ys_from : ascends_from (x + 1) (y ∷ ys) ≡ true = ascends_cons (x + 1) y ys above (ascends_word from y ys k) (ascends_tail from y ys k) in
-        let rest = no_longer (x + 1) xs (y ∷ ys) (ascends_tail from x xs h) ys_from
-            (λ w m. let later = lists_from (x + 1) (y ∷ ys) w ys_from m in sym (skipped x w xs (omega arith)) ∙ all w m) in
-        omega arith)
+    let ys_from : ascends_from (x + 1) (y ∷ ys) ≡ true = ascends_cons (x + 1) y ys above (ascends_word from y ys k) (ascends_tail from y ys k) in
+    let rest = no_longer (x + 1) xs (y ∷ ys) (ascends_tail from x xs h) ys_from
+    (λ w m. let later = lists_from (x + 1) (y ∷ ys) w ys_from m in sym (skipped x w xs (omega arith)) ∙ all w m) in
+    omega arith)
 
 pub list_same : (from : ℕ) (xs ys : List ℕ) → ascends_from from xs ≡ true → ascends_from from ys ≡ true
     → ((w : ℕ) → w < 2 ^ 18 → lists xs w ≡ lists ys w) → xs ≡ ys
@@ -250,8 +250,8 @@ list_same from (x ∷ xs) (y ∷ ys) h k same =
     let first : x ≡ y = omega arith in
     let ys_tail : ascends_from (x + 1) ys ≡ true = subst (λ (v : ℕ). ascends_from (v + 1) ys ≡ true) (sym first) (ascends_tail from y ys k) in
     let rest : xs ≡ ys = list_same (x + 1) xs ys (ascends_tail from x xs h) ys_tail
-            (λ w is. ⊎_elim
-                (λ l. lists_below (x + 1) xs w (ascends_tail from x xs h) l ∙ sym (lists_below (x + 1) ys w ys_tail l))
-                (λ l. sym (skipped x w xs (omega arith)) ∙ same w is ∙ skipped y w ys (omega arith))
-                (cases_lt w (x + 1))) in
+    (λ w is. ⊎_elim
+    (λ l. lists_below (x + 1) xs w (ascends_tail from x xs h) l ∙ sym (lists_below (x + 1) ys w ys_tail l))
+    (λ l. sym (skipped x w xs (omega arith)) ∙ same w is ∙ skipped y w ys (omega arith))
+    (cases_lt w (x + 1))) in
     ap (λ v. v ∷ xs) first ∙ ap (λ ws. y ∷ ws) rest

@@ -1,3 +1,4 @@
+-- The low part of Q.
 use Rattle.std.specs.Prelude.{ℕ, ◌-◌, ◌^◌}
 
 -- the word whose low 17 bits are set, and no other

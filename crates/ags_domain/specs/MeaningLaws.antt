@@ -1,15 +1,12 @@
 -- Ranges and values keep the laws of a domain.
-use Rattle.std.proofs.Common.{◌≡◌, ℕ, zero, suc, ◌+◌, ◌<◌, ◌≤◌, ◌^◌, Bool, true, false, refl, sym, ap, ◌∙◌, subst, ◌⊎◌, inl, inr, ⊎_elim, arith, List, [], ◌∷◌, length, ℤ, ◌≤ℤ◌}
-use Rattle.std.specs.Prelude.{◌&&◌, ◌||◌, eqb}
-use Rattle.std.specs.Int.RustNames.{int_le}
+use Rattle.std.proofs.Common.{◌≡◌, ℕ, ◌<◌, ◌≤◌, ◌^◌, true, sym, ap, ◌∙◌, subst, arith, List, length, ℤ, ◌≤ℤ◌}
 use Rattle.std.proofs.lemmas.Int.{ints}
-use Rattle.std.proofs.lemmas.Bool.Decides.{nat_tests}
 use Rattle.std.proofs.Props.{props}
 use Rattle.ags_word.specs.Word.{val}
 use Rattle.ags_word.proofs.WordLaws.{val_same}
 use Rattle.ags_domain.specs.WordSet.{ascends_from, lists, HoldsMore}
-use Rattle.ags_domain.specs.Domain.{Ends, IsBetween, Form, Ranged, Listed, Meaning, IsMeaning, HoldSame}
-use Rattle.ags_domain.specs.Range.{range_ends, range_meaning, lies_between, lesser, greater}
+use Rattle.ags_domain.specs.Domain.{Ends, IsBetween, Ranged, Listed, IsMeaning, HoldSame}
+use Rattle.ags_domain.specs.Range.{range_ends, range_meaning, lies_between}
 use Rattle.ags_domain.specs.SetOf.{least_of, greatest_of}
 use Rattle.ags_domain.specs.Value.{value_meaning, value_ends, value_held, value_form}
 use Rattle.ags_domain.specs.ListLaws.{lists_word, least_listed, greatest_listed, least_each, greatest_each, no_longer, list_same}
@@ -54,8 +51,8 @@ ends_same l m e g h f = subst
     (λ (m : ℕ). (a : l < 2 ^ 18) (b : g < 2 ^ 18) (c : val l ≤ℤ val g) (a' : m < 2 ^ 18) (b' : h < 2 ^ 18) (c' : val m ≤ℤ val h) → range_of l g a b c ≡ range_of m h a' b' c')
     e
     (subst
-        (λ (h : ℕ). (a : l < 2 ^ 18) (b : g < 2 ^ 18) (c : val l ≤ℤ val g) (a' : l < 2 ^ 18) (b' : h < 2 ^ 18) (c' : val l ≤ℤ val h) → range_of l g a b c ≡ range_of l h a' b' c')
-        f (λ a b c a' b' c'. facts_same l g a a' b b' c c'))
+    (λ (h : ℕ). (a : l < 2 ^ 18) (b : g < 2 ^ 18) (c : val l ≤ℤ val g) (a' : l < 2 ^ 18) (b' : h < 2 ^ 18) (c' : val l ≤ℤ val h) → range_of l g a b c ≡ range_of l h a' b' c')
+    f (λ a b c a' b' c'. facts_same l g a a' b b' c c'))
 
 -- ranges of the same ends are one
 pub range_same : (r s : Range) → r.least ≡ s.least → r.greatest ≡ s.greatest → r ≡ s
@@ -101,7 +98,7 @@ lists_same : (one two : List ℕ) → one ≡ two → (a : ascends_from 0 one �
     (a' : ascends_from 0 two ≡ true) (b' : 0 < length two) (c' : length two ≤ 16) → set_of one a b c ≡ set_of two a' b' c'
 lists_same one two e = subst
     (λ (two : List ℕ). (a : ascends_from 0 one ≡ true) (b : 0 < length one) (c : length one ≤ 16)
-        (a' : ascends_from 0 two ≡ true) (b' : 0 < length two) (c' : length two ≤ 16) → set_of one a b c ≡ set_of two a' b' c')
+    (a' : ascends_from 0 two ≡ true) (b' : 0 < length two) (c' : length two ≤ 16) → set_of one a b c ≡ set_of two a' b' c')
     e (λ a b c a' b' c'. set_facts_same one a a' b b' c c')
 
 -- word sets of the same words are one

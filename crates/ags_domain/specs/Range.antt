@@ -2,7 +2,7 @@
 use Rattle.std.specs.Prelude.{◌≡◌, ℕ, Bool, true, ◌&&◌, ℤ, ◌≤ℤ◌, ◌<ℤ◌, Option, Some, None, if◌then◌else◌}
 use Rattle.std.specs.Int.RustNames.{int_le}
 use Rattle.ags_word.specs.Word.{val, fits, wrap}
-use Rattle.ags_domain.specs.Domain.{Ends, Meaning, Form, Ranged}
+use Rattle.ags_domain.specs.Domain.{Ends, Meaning, Ranged}
 use Rattle.ags_domain.specs.declared.ranges.Range.{Range}
 
 -- the value of the word lies between those of the ends, or is one of them

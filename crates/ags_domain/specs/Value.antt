@@ -2,7 +2,7 @@
 use Rattle.std.specs.Prelude.{ℕ, Bool}
 use Rattle.ags_domain.specs.WordSet.{lists}
 use Rattle.ags_domain.specs.Domain.{Ends, Meaning, Form, Ranged, Listed}
-use Rattle.ags_domain.specs.Range.{range_ends, lies_between, ends_of, lesser, greater}
+use Rattle.ags_domain.specs.Range.{range_ends, lies_between, ends_of}
 use Rattle.ags_domain.specs.SetOf.{least_of, greatest_of}
 use Rattle.ags_domain.specs.declared.values.Value.{Value}
 use Rattle.ags_domain.specs.declared.values.Value.TheVariants.{Range, Words}

@@ -26,7 +26,11 @@ fn next_of_either(left: &Value, right: &Value, from: u32) -> Option<Word>
     ensures { IsNext (held_by_either value_meaning left.now right.now) from result }
 {
     match (next(left, from), next(right, from)) {
-        (Some(one), Some(other)) => Some(if one.number() <= other.number() { one } else { other }),
+        (Some(one), Some(other)) => Some(if one.number() <= other.number() {
+            one
+        } else {
+            other
+        }),
         (Some(one), None) => Some(one),
         (None, other) => other,
     }

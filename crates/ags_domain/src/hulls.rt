@@ -48,7 +48,10 @@ pub(crate) fn around(first: Word, second: Word, third: Word, fourth: Word) -> Ra
 }
 
 /// The range of two words that were tried, the greater first, or the first operands that overflow.
-pub(crate) fn spanned(greatest: Result<Word, Operands>, least: Result<Word, Operands>) -> Result<Range, Operands>
+pub(crate) fn spanned(
+    greatest: Result<Word, Operands>,
+    least: Result<Word, Operands>,
+) -> Result<Range, Operands>
     requires { (l g : ℕ) → least ≡ Ok l → greatest ≡ Ok g → val l ≤ℤ val g }
     ensures { IsSpanned greatest least result }
 {
@@ -62,7 +65,10 @@ pub(crate) fn spanned(greatest: Result<Word, Operands>, least: Result<Word, Oper
 }
 
 /// The range from 0 to the greater of two sizes that were tried, or the first operands that overflow.
-pub(crate) fn from_zero(first: Result<Word, Operands>, second: Result<Word, Operands>) -> Result<Range, Operands>
+pub(crate) fn from_zero(
+    first: Result<Word, Operands>,
+    second: Result<Word, Operands>,
+) -> Result<Range, Operands>
     requires { (f s : ℕ) → first ≡ Ok f → second ≡ Ok s → pos 0 ≤ℤ val (greater f s) }
     ensures { IsFromZero first second result }
 {

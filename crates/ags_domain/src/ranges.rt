@@ -73,10 +73,7 @@ impl Range {
         ensures { IsPart range_meaning is_negative self.now result }
     {
         if self.least.value() < 0 {
-            Some(Range::spanning(
-                self.least,
-                lesser_word(self.greatest, minus_one()),
-            ))
+            Some(Range::spanning(self.least, lesser_word(self.greatest, minus_one())))
         } else {
             None
         }

@@ -17,7 +17,11 @@ fn sum_at(a: Word, m: Word) -> Result<Word, Operands>
 {
     let (word, overflows) = a.add(m);
     if overflows {
-        Err(Operands { a, q: Word::ZERO, m })
+        Err(Operands {
+            a,
+            q: Word::ZERO,
+            m,
+        })
     } else {
         Ok(word)
     }
@@ -36,7 +40,11 @@ fn difference_at(a: Word, m: Word) -> Result<Word, Operands>
 {
     let (word, overflows) = a.sub(m);
     if overflows {
-        Err(Operands { a, q: Word::ZERO, m })
+        Err(Operands {
+            a,
+            q: Word::ZERO,
+            m,
+        })
     } else {
         Ok(word)
     }

@@ -63,7 +63,12 @@ fn intervals(rt: HostRuntime) {
         (Operation::High, (-3, 5), (65536, 65536), (-2, 2)),
         (Operation::Round, (-3, 5), (65536, 65536), (-1, 3)),
         (Operation::Over, (4, 4), (8, 8), (65536, 81919)),
-        (Operation::Over, (-1000, 1000), (65536, 131071), (-2000, 2001)),
+        (
+            Operation::Over,
+            (-1000, 1000),
+            (65536, 131071),
+            (-2000, 2001),
+        ),
         (Operation::Lls(1), (1, 2), (0, 0), (2, 5)),
         (Operation::Sub, (3, 5), (-1, 1), (2, 6)),
         (Operation::Com, (-3, 5), (0, 0), (-5, 3)),
@@ -87,7 +92,12 @@ fn intervals(rt: HostRuntime) {
 fn intervals_of_values(rt: HostRuntime) {
     for (operation, a, m, ends) in [
         (Operation::Add, (-1000, 1000), (-125, 125), (-1125, 1125)),
-        (Operation::Over, (-1000, 1000), (65536, 131071), (-2000, 2001)),
+        (
+            Operation::Over,
+            (-1000, 1000),
+            (65536, 131071),
+            (-2000, 2001),
+        ),
     ] {
         let a = Value::Range(range(&rt, a));
         let m = Value::Range(range(&rt, m));
@@ -100,17 +110,42 @@ fn intervals_of_values(rt: HostRuntime) {
 fn operands_that_overflow(rt: HostRuntime) {
     for (operation, a, m, numbers) in [
         (Operation::Add, (100, 131071), (1, 1), (0o377777, 0, 1)),
-        (Operation::Add, (-131072, -100), (-1, 0), (0o400000, 0, 0o777777)),
-        (Operation::Add, (-131072, -131000), (-131072, -131000), (0o400110, 0, 0o400110)),
-        (Operation::Sub, (100, 131071), (-1, 0), (0o377777, 0, 0o777777)),
+        (
+            Operation::Add,
+            (-131072, -100),
+            (-1, 0),
+            (0o400000, 0, 0o777777),
+        ),
+        (
+            Operation::Add,
+            (-131072, -131000),
+            (-131072, -131000),
+            (0o400110, 0, 0o400110),
+        ),
+        (
+            Operation::Sub,
+            (100, 131071),
+            (-1, 0),
+            (0o377777, 0, 0o777777),
+        ),
         (Operation::Sub, (-131072, -100), (1, 1), (0o400000, 0, 1)),
         (Operation::Com, (-131072, 5), (0, 0), (0o400000, 0, 0)),
         (Operation::Abs, (-131072, -131072), (0, 0), (0o400000, 0, 0)),
         (Operation::Als(1), (-65537, 0), (0, 0), (0o577777, 0, 0)),
         (Operation::Als(17), (2, 2), (0, 0), (2, 0, 0)),
         (Operation::High, FULL, FULL, (0o400000, 0, 0o400000)),
-        (Operation::Round, FULL, (-131072, -100), (0o400000, 0, 0o400000)),
-        (Operation::Lls(1), (0, 65536), (0, 0), (0o200000, 0o377777, 0)),
+        (
+            Operation::Round,
+            FULL,
+            (-131072, -100),
+            (0o400000, 0, 0o400000),
+        ),
+        (
+            Operation::Lls(1),
+            (0, 65536),
+            (0, 0),
+            (0o200000, 0o377777, 0),
+        ),
         (Operation::Lls(1), (-65537, 0), (0, 0), (0o577777, 0, 0)),
         (Operation::Over, (100, 131071), (-1, 1), (100, 0, 0)),
         (Operation::Over, (1, 1), (1, 4), (1, 0, 1)),
@@ -122,17 +157,16 @@ fn operands_that_overflow(rt: HostRuntime) {
             q: word(&rt, numbers.1),
             m: word(&rt, numbers.2),
         };
-        assert_eq!(rt; answer(&rt, operation, &range(&rt, a), &range(&rt, m)), Err(told));
+        assert_eq!(rt;
+            answer(&rt, operation, &range(&rt, a), &range(&rt, m)),
+            Err(told)
+        );
     }
 }
 
 #[test]
 fn right_shifts(rt: HostRuntime) {
-    for (a, count, ends) in [
-        ((-1, 3), 1, (-1, 1)),
-        (FULL, 0, FULL),
-        (FULL, 63, (-1, 0)),
-    ] {
+    for (a, count, ends) in [((-1, 3), 1, (-1, 1)), (FULL, 0, FULL), (FULL, 63, (-1, 0))] {
         assert!(rt; count < 64);
         assert_eq!(rt; range(&rt, a).lrs_high(count), range(&rt, ends));
     }
@@ -148,7 +182,10 @@ fn joins(rt: HostRuntime) {
     let sixteen = Value::Range(range(&rt, (-8, 7)));
     let more = Value::Range(range(&rt, (-8, 8)));
     assert_eq!(rt; more.few(), None);
-    assert_eq!(rt; sixteen.few().map(Value::Words), Some(sixteen.join(&pair(&rt, 7, 0o777770))));
+    assert_eq!(rt;
+        sixteen.few().map(Value::Words),
+        Some(sixteen.join(&pair(&rt, 7, 0o777770)))
+    );
     assert_eq!(rt; sixteen.join(&pair(&rt, 8, 7)), more);
 }
 
@@ -215,7 +252,10 @@ fn products_by_a_walk(rt: HostRuntime) {
         let m = step.wrapping_mul(104_729).rem_euclid(262_000) - 131_000;
         let told = range(&rt, (a, a + 6)).mul_high(&range(&rt, (m, m + 6)));
         let hull = told.ok().expect(&rt, "the products of small ranges");
-        let ends = (i64::from(hull.least().value()), i64::from(hull.greatest().value()));
+        let ends = (
+            i64::from(hull.least().value()),
+            i64::from(hull.greatest().value()),
+        );
         assert_eq!(rt; ends, walked(i64::from(a), i64::from(m)));
     }
 }

@@ -1,4 +1,4 @@
-use Rattle.std.proofs.Common.{◌≡◌, ◌∙◌, sym, ap, subst, arith, ◌||◌, Bool, true, refl}
+use Rattle.std.proofs.Common.{ap, arith, ◌||◌}
 use Rattle.ags_domain.specs.Domain.{held_by_either}
 use Rattle.ags_domain.specs.Value.{value_meaning, value_held, value_ends}
 use Rattle.ags_domain.specs.MeaningLaws.{value_lawful}
@@ -25,4 +25,4 @@ made-requires-clause-some c =
     let held = held_by_either value_meaning c.args.left.now c.args.right.now in
     let least = (value_ends c.args.left.now).least in
     some_so_far held c.loop-word.list c.loop-word.from c.loop-word.invariant c.in_default.ensures least (value_lawful.least_word c.args.left.now)
-        (ap (λ b. b || value_held c.args.right.now least) (value_lawful.least_held c.args.left.now))
+    (ap (λ b. b || value_held c.args.right.now least) (value_lawful.least_held c.args.left.now))

@@ -1,4 +1,4 @@
-use Rattle.std.proofs.Common.{sym, refl, List, [], ◌∷◌}
+use Rattle.std.proofs.Common.{sym, refl, [], ◌∷◌}
 use Rattle.ags_word.specs.Operation.{product_rounded}
 use Rattle.ags_domain.specs.Candidates.{operands, product_candidates}
 use Rattle.ags_domain.specs.Range.{range_ends}
@@ -16,11 +16,11 @@ returns c =
     let c3 = operands a.greatest 0 m.least in
     let c4 = operands a.greatest 0 m.greatest in
     answers_along product_rounded (range_ends a) (range_ends m) (λ a_ends m_ends. c1 ∷ c2 ∷ c3 ∷ c4 ∷ []) product_candidates
-        (product_told product_rounded (λ o. refl) (range_ends a) (range_ends m)
-            a.least a.least a.greatest a.greatest m.least m.greatest m.least m.greatest)
-        c.around_tries.result
-        (around_answers product_rounded rounded_number (range_ends a) (range_ends m) c1 c2 c3 c4
-            (rounded_exact (range_ends a) (range_ends m)) (rounded_corners (range_ends a) (range_ends m) (AreEnds-range a) (AreEnds-range m))
-            c.product_rounded_at.result c.product_rounded_at-2.result c.product_rounded_at-3.result c.product_rounded_at-4.result
-            (sym c.product_rounded_at.ensures) (sym c.product_rounded_at-2.ensures) (sym c.product_rounded_at-3.ensures) (sym c.product_rounded_at-4.ensures)
-            c.around_tries.result c.around_tries.ensures)
+    (product_told product_rounded (λ o. refl) (range_ends a) (range_ends m)
+    a.least a.least a.greatest a.greatest m.least m.greatest m.least m.greatest)
+    c.around_tries.result
+    (around_answers product_rounded rounded_number (range_ends a) (range_ends m) c1 c2 c3 c4
+    (rounded_exact (range_ends a) (range_ends m)) (rounded_corners (range_ends a) (range_ends m) (AreEnds-range a) (AreEnds-range m))
+    c.product_rounded_at.result c.product_rounded_at-2.result c.product_rounded_at-3.result c.product_rounded_at-4.result
+    (sym c.product_rounded_at.ensures) (sym c.product_rounded_at-2.ensures) (sym c.product_rounded_at-3.ensures) (sym c.product_rounded_at-4.ensures)
+    c.around_tries.result c.around_tries.ensures)

@@ -13,13 +13,13 @@ spanned-requires c =
     let a = c.args.a.now in
     let n = c.args.count in
     λ l g k h. spanned_ordered (long_left_high n) (long_left_number n) (range_ends a) no_cell (operands a.least 0 0) (operands a.greatest all_ones 0)
-        (long_left_exact n (range_ends a) no_cell) (long_left_span n (range_ends a) (AreEnds-range a))
-        l g (sym c.long_left_at-2.ensures ∙ k) (ap (λ q. tried (long_left_high n) (operands a.greatest q 0)) (sym c.low_bits.ensures) ∙ sym c.long_left_at.ensures ∙ h)
+    (long_left_exact n (range_ends a) no_cell) (long_left_span n (range_ends a) (AreEnds-range a))
+    l g (sym c.long_left_at-2.ensures ∙ k) (ap (λ q. tried (long_left_high n) (operands a.greatest q 0)) (sym c.low_bits.ensures) ∙ sym c.long_left_at.ensures ∙ h)
 
 pub returns : goal.returns
 returns c =
     let a = c.args.a.now in
     let n = c.args.count in
     spanned_answers (long_left_high n) (long_left_number n) (range_ends a) no_cell (operands a.least 0 0) (operands a.greatest all_ones 0)
-        (long_left_exact n (range_ends a) no_cell) (long_left_span n (range_ends a) (AreEnds-range a))
-        c.long_left_at.result c.long_left_at-2.result (ap (λ q. tried (long_left_high n) (operands a.greatest q 0)) (sym c.low_bits.ensures) ∙ sym c.long_left_at.ensures) (sym c.long_left_at-2.ensures) c.spanned.result c.spanned.ensures
+    (long_left_exact n (range_ends a) no_cell) (long_left_span n (range_ends a) (AreEnds-range a))
+    c.long_left_at.result c.long_left_at-2.result (ap (λ q. tried (long_left_high n) (operands a.greatest q 0)) (sym c.low_bits.ensures) ∙ sym c.long_left_at.ensures) (sym c.long_left_at-2.ensures) c.spanned.result c.spanned.ensures

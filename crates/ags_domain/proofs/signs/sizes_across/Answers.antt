@@ -1,4 +1,4 @@
-use Rattle.std.proofs.Common.{sym, ◌∙◌, List, [], ◌∷◌}
+use Rattle.std.proofs.Common.{sym, ◌∙◌, [], ◌∷◌}
 use Rattle.ags_word.specs.Operation.{size}
 use Rattle.ags_domain.specs.Hull.{no_cell}
 use Rattle.ags_domain.specs.Candidates.{operands, sign_candidates}
@@ -17,6 +17,6 @@ pub returns : goal.returns
 returns c =
     let a = c.args.a.now in
     answers_along size (range_ends a) no_cell (λ a_ends m_ends. operands a_ends.least 0 0 ∷ operands a_ends.greatest 0 0 ∷ []) sign_candidates
-        (size_told (range_ends a) a.least a.greatest) c.from_zero.result
-        (across_answers (range_ends a) (AreEnds-range a) c.requires.least c.requires.greatest c.size_at.result c.size_at-2.result
-            (sym c.size_at.ensures) (sym c.size_at-2.ensures) c.from_zero.result c.from_zero.ensures)
+    (size_told (range_ends a) a.least a.greatest) c.from_zero.result
+    (across_answers (range_ends a) (AreEnds-range a) c.requires.least c.requires.greatest c.size_at.result c.size_at-2.result
+    (sym c.size_at.ensures) (sym c.size_at-2.ensures) c.from_zero.result c.from_zero.ensures)

@@ -1,4 +1,4 @@
-use Rattle.std.proofs.Common.{◌≡◌, ◌∙◌, refl, ap, sym, arith, ◌<ℤ◌, pos}
+use Rattle.std.proofs.Common.{◌∙◌, refl, ap, arith, ◌<ℤ◌, pos}
 use Rattle.std.proofs.lemmas.Int.{ints}
 use Rattle.ags_word.specs.Word.{val}
 use Rattle.ags_domain.specs.Range.{lies_between, lesser, ends_of}
@@ -13,6 +13,8 @@ spanning-requires c =
 
 pub returns-then-value-lt0 : goal.returns-then-value-lt0
 returns-then-value-lt0 c =
-    let r = c.args.self.now in
-    (refl, λ w is. ap (λ ends. lies_between ends w) c.spanning.ensures
-        ∙ ap (λ g. lies_between (ends_of r.least g) w) (c.lesser_word.ensures ∙ ap (lesser r.greatest) c.minus_one.ensures) ∙ negative_lies r.least r.greatest w)
+    let r = c.args.self.now in (
+      refl,
+      λ w is. ap (λ ends. lies_between ends w) c.spanning.ensures
+          ∙ ap (λ g. lies_between (ends_of r.least g) w) (c.lesser_word.ensures ∙ ap (lesser r.greatest) c.minus_one.ensures) ∙ negative_lies r.least r.greatest w,
+    )

@@ -13,4 +13,4 @@ returns-in-Some c = rest_first c.args.self.now c.args.from c.rest_part.result c.
 pub returns-in-None : goal.returns-in-None
 returns-in-None c =
     negative_next c.args.self.now c.args.from c.rest_part.result c.negative_part.result c.rest_part.ensures c.negative_part.ensures
-        c.next_of_part-in-None.result c.in-None.ensures c.next_of_part-in-None.ensures
+    c.next_of_part-in-None.result c.in-None.ensures c.next_of_part-in-None.ensures

@@ -1,4 +1,4 @@
-use Rattle.std.proofs.Common.{◌≡◌, ◌∙◌, ◌<◌, ◌≤◌, ℕ, sym, subst, arith, Some, Option}
+use Rattle.std.proofs.Common.{ℕ, sym, subst, arith, Option}
 use Rattle.ags_domain.specs.Range.{range_ends, lies_between}
 use Rattle.ags_domain.specs.SetOf.{IsNext}
 use Rattle.ags_domain.proofs.PartLaws.{found_next, none_next}

@@ -1,4 +1,4 @@
-use Rattle.std.proofs.Common.{◌≡◌, sym, ap, ◌∙◌, w32, to_z, of_z, arith, ℤ, ◌≤ℤ◌, ◌<ℤ◌, Some, None}
+use Rattle.std.proofs.Common.{◌≡◌, sym, ap, ◌∙◌, w32, arith}
 use Rattle.std.proofs.lemmas.Int.{ints, to_z-of_z}
 use Rattle.ags_word.specs.Word.{val, word_of_value}
 use Rattle.ags_word.proofs.WordLaws.{val-wrap}

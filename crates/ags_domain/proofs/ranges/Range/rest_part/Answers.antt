@@ -1,4 +1,4 @@
-use Rattle.std.proofs.Common.{◌≡◌, ◌∙◌, refl, ap, arith, ◌≤ℤ◌, pos}
+use Rattle.std.proofs.Common.{◌∙◌, refl, ap, arith, ◌≤ℤ◌, pos}
 use Rattle.std.proofs.lemmas.Int.{ints}
 use Rattle.ags_word.specs.Word.{val}
 use Rattle.ags_domain.specs.Range.{lies_between, ends_of}
@@ -13,6 +13,8 @@ spanning-requires c =
 
 pub returns-then-value-ge0 : goal.returns-then-value-ge0
 returns-then-value-ge0 c =
-    let r = c.args.self.now in
-    (refl, λ w is. ap (λ ends. lies_between ends w) c.spanning.ensures
-        ∙ ap (λ l. lies_between (ends_of l r.greatest) w) c.greater_word.ensures ∙ rest_lies r.least r.greatest w)
+    let r = c.args.self.now in (
+      refl,
+      λ w is. ap (λ ends. lies_between ends w) c.spanning.ensures
+          ∙ ap (λ l. lies_between (ends_of l r.greatest) w) c.greater_word.ensures ∙ rest_lies r.least r.greatest w,
+    )

@@ -10,4 +10,4 @@ use Rattle.ags_domain.proofs.value_domain.ValueDomain.abs.Goals as goal
 pub returns : goal.returns
 returns c =
     answers_of_spans size sign_candidates (range_ends c.span.result) no_cell (value_ends c.args.self.now) no_cell
-        c.span.ensures refl c.sizes.result c.ranged.result c.sizes.ensures c.ranged.ensures
+    c.span.ensures refl c.sizes.result c.ranged.result c.sizes.ensures c.ranged.ensures

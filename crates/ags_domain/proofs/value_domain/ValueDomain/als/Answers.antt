@@ -10,4 +10,4 @@ use Rattle.ags_domain.proofs.value_domain.ValueDomain.als.Goals as goal
 pub returns : goal.returns
 returns c =
     answers_of_spans (left_shift c.args.count) left_shift_candidates (range_ends c.span.result) no_cell (value_ends c.args.self.now) no_cell
-        c.span.ensures refl c.left_shifts.result c.ranged.result c.left_shifts.ensures c.ranged.ensures
+    c.span.ensures refl c.left_shifts.result c.ranged.result c.left_shifts.ensures c.ranged.ensures

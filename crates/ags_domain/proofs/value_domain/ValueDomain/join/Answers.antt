@@ -10,5 +10,5 @@ returns-in-Some c = joined_few c.args.self.now c.args.other.now c.in-Some.set c.
 pub returns-in-None : goal.returns-in-None
 returns-in-None c =
     joined_many c.args.self.now c.args.other.now c.hull.result
-        (c.hull.ensures ∙ ap (λ ends. hull_of ends (range_ends c.span-in-None.result)) c.span.ensures ∙ ap (hull_of (value_ends c.args.self.now)) c.span-in-None.ensures)
-        c.in-None.ensures
+    (c.hull.ensures ∙ ap (λ ends. hull_of ends (range_ends c.span-in-None.result)) c.span.ensures ∙ ap (hull_of (value_ends c.args.self.now)) c.span-in-None.ensures)
+    c.in-None.ensures

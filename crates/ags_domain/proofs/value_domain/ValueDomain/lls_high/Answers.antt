@@ -10,4 +10,4 @@ use Rattle.ags_domain.proofs.value_domain.ValueDomain.lls_high.Goals as goal
 pub returns : goal.returns
 returns c =
     answers_of_spans (long_left_high c.args.count) long_left_candidates (range_ends c.span.result) no_cell (value_ends c.args.self.now) no_cell
-        c.span.ensures refl c.long_lefts.result c.ranged.result c.long_lefts.ensures c.ranged.ensures
+    c.span.ensures refl c.long_lefts.result c.ranged.result c.long_lefts.ensures c.ranged.ensures

@@ -8,4 +8,4 @@ use Rattle.ags_domain.proofs.value_domain.ValueDomain.mul_round.Goals as goal
 pub returns : goal.returns
 returns c =
     answers_of_spans product_rounded product_candidates (range_ends c.span.result) (range_ends c.span-2.result) (value_ends c.args.self.now) (value_ends c.args.m.now)
-        c.span.ensures c.span-2.ensures c.products_rounded.result c.ranged.result c.products_rounded.ensures c.ranged.ensures
+    c.span.ensures c.span-2.ensures c.products_rounded.result c.ranged.result c.products_rounded.ensures c.ranged.ensures

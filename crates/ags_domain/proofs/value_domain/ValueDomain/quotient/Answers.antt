@@ -8,4 +8,4 @@ use Rattle.ags_domain.proofs.value_domain.ValueDomain.quotient.Goals as goal
 pub returns : goal.returns
 returns c =
     answers_of_spans quotient quotient_candidates (range_ends c.span.result) (range_ends c.span-2.result) (value_ends c.args.self.now) (value_ends c.args.m.now)
-        c.span.ensures c.span-2.ensures c.quotients.result c.ranged.result c.quotients.ensures c.ranged.ensures
+    c.span.ensures c.span-2.ensures c.quotients.result c.ranged.result c.quotients.ensures c.ranged.ensures

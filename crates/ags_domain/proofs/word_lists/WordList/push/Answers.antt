@@ -1,4 +1,4 @@
-use Rattle.std.proofs.Common.{◌≡◌, ◌<◌, length, take, sym, ap, ◌∙◌, arith}
+use Rattle.std.proofs.Common.{◌≡◌, length, take, ap, arith}
 use Rattle.std.proofs.lemmas.List.{length-take-le}
 use Rattle.ags_domain.specs.WordList.{pushed}
 use Rattle.ags_domain.proofs.word_lists.WordList.push.Goals as goal

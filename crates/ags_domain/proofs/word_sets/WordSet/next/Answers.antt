@@ -1,4 +1,4 @@
-use Rattle.std.proofs.Common.{◌≡◌, ℕ, ◌+◌, ◌<◌, ◌≤◌, ◌^◌, List, ◌∷◌, drop, true, false, sym, subst, ap, ◌∙◌, arith, refl}
+use Rattle.std.proofs.Common.{◌≡◌, ◌+◌, ◌<◌, ◌≤◌, ◌^◌, ◌∷◌, drop, true, sym, subst, ap, ◌∙◌, arith}
 use Rattle.ags_domain.specs.WordSet.{lists, ascends_from}
 use Rattle.ags_domain.specs.ListLaws.{drop_at, ascends_again, skipped, ascends_tail, ascends_lower, lists_head, lists_below}
 use Rattle.ags_domain.proofs.word_sets.WordSet.next.Goals as goal
@@ -14,9 +14,12 @@ returns-then-from-number c =
     let there : lists items x ≡ true = c.loop-word.invariant.1 x from ∙ ap (λ ws. lists ws x) next ∙ lists_head x (drop (i + 1) items) in
     let along : ascends_from 0 (x ∷ drop (i + 1) items) ≡ true = subst (λ ws. ascends_from 0 ws ≡ true) next c.loop-word.invariant.0 in
     let above : ascends_from x (x ∷ drop (i + 1) items) ≡ true = ascends_again x (drop (i + 1) items) along in
-    let word : x < 2 ^ 18 = omega arith in
-    (word, ap (λ ws. lists ws x) (sym is) ∙ there, from,
-        λ v h k. ap (λ ws. lists ws v) (sym is) ∙ c.loop-word.invariant.1 v h ∙ ap (λ ws. lists ws v) next ∙ lists_below x (x ∷ drop (i + 1) items) v above k)
+    let word : x < 2 ^ 18 = omega arith in (
+      word,
+      ap (λ ws. lists ws x) (sym is) ∙ there,
+      from,
+      λ v h k. ap (λ ws. lists ws v) (sym is) ∙ c.loop-word.invariant.1 v h ∙ ap (λ ws. lists ws v) next ∙ lists_below x (x ∷ drop (i + 1) items) v above k,
+    )
 
 pub loop-word-preserved : goal.loop-word-preserved
 loop-word-preserved c =
@@ -24,6 +27,7 @@ loop-word-preserved c =
     let i = c.loop-word.word-index in
     let x = c.word-item.result in
     let next : drop i items ≡ x ∷ drop (i + 1) items = drop_at items i x (omega arith) c.word-item.is in
-    let along : ascends_from 0 (x ∷ drop (i + 1) items) ≡ true = subst (λ ws. ascends_from 0 ws ≡ true) next c.loop-word.invariant.0 in
-    (ascends_lower (x + 1) 0 (drop (i + 1) items) (omega arith) (ascends_tail 0 x (drop (i + 1) items) along),
-        λ v h. c.loop-word.invariant.1 v h ∙ ap (λ ws. lists ws v) next ∙ skipped x v (drop (i + 1) items) (omega arith))
+    let along : ascends_from 0 (x ∷ drop (i + 1) items) ≡ true = subst (λ ws. ascends_from 0 ws ≡ true) next c.loop-word.invariant.0 in (
+      ascends_lower (x + 1) 0 (drop (i + 1) items) (omega arith) (ascends_tail 0 x (drop (i + 1) items) along),
+      λ v h. c.loop-word.invariant.1 v h ∙ ap (λ ws. lists ws v) next ∙ skipped x v (drop (i + 1) items) (omega arith),
+    )

@@ -1,4 +1,4 @@
-use Rattle.std.proofs.Common.{◌≡◌, ℕ, ◌+◌, ◌<◌, ◌≤◌, Bool, true, false, List, [], ◌∷◌, ◌++◌, take, length, sym, subst, ap, ◌∙◌, arith, refl}
+use Rattle.std.proofs.Common.{◌≡◌, true, false, [], ◌∷◌, ◌++◌, take, length, sym, subst, ap, ◌∙◌, arith}
 use Rattle.std.specs.List.{filter}
 use Rattle.std.proofs.lemmas.List.{length-take-le, take_all, append-nil}
 use Rattle.ags_domain.specs.WordSet.{ascends_from}
@@ -30,10 +30,10 @@ loop-word-preserved c =
     let x = c.word-item.result in
     let p = is_of_sign c.args.negative in
     elim c.if-is_of_sign.branch [
-      then-is_of_sign w ↦
-        let yes : is_of_sign c.args.negative x ≡ true = cc in
-        w.list-is ∙ w.push.ensures ∙ ap (λ ws. ws ++ x ∷ []) c.loop-word.invariant ∙ sym (filter_at p items i x true (omega arith) c.word-item.is yes)
-    | else-is_of_sign w ↦
-        let no : is_of_sign c.args.negative x ≡ false = cc in
-        w.list-is ∙ c.loop-word.invariant ∙ sym (filter_at p items i x false (omega arith) c.word-item.is no ∙ append-nil (filter p (take i items)))
+      | then-is_of_sign w ↦
+          let yes : is_of_sign c.args.negative x ≡ true = cc in
+          w.list-is ∙ w.push.ensures ∙ ap (λ ws. ws ++ x ∷ []) c.loop-word.invariant ∙ sym (filter_at p items i x true (omega arith) c.word-item.is yes)
+      | else-is_of_sign w ↦
+          let no : is_of_sign c.args.negative x ≡ false = cc in
+          w.list-is ∙ c.loop-word.invariant ∙ sym (filter_at p items i x false (omega arith) c.word-item.is no ∙ append-nil (filter p (take i items)))
     ]
