@@ -1,5 +1,5 @@
 -- A decimal and its word: the decimal's value, rounded to the nearest whole number by one division of whole numbers.
-use Rattle.std.specs.Prelude.{◌≡◌, ℕ, ◌+◌, ◌*◌, ◌/◌, ◌<◌, ◌≤◌, ◌^◌, Bool, true, false, ℤ, pos, negsuc, ◌-ℤ◌, ◌≤ℤ◌, neg_ℤ, Option, if◌then◌else◌}
+use Rattle.std.specs.Prelude.{ℕ, ◌+◌, ◌*◌, ◌/◌, ◌<◌, ◌≤◌, ◌^◌, Bool, ℤ, pos, negsuc, ◌-ℤ◌, ◌≤ℤ◌, neg_ℤ, Option, if◌then◌else◌}
 use Rattle.ags_word.specs.Word.{word_of_value}
 
 -- A decimal: the number that its digits write, without a sign and without the point; the power of ten that it is times;

@@ -41,7 +41,10 @@ fn nearest_size(number: &Decimal) -> u128
 {
     let ten = tens(number.power);
     let two = twos(17 - number.scale);
-    nearest_quotient(product(number.digits, ten.0, two.0), product(1, ten.1, two.1))
+    nearest_quotient(
+        product(number.digits, ten.0, two.0),
+        product(1, ten.1, two.1),
+    )
 }
 
 /// The word nearest to a decimal's value at its scale, a half away from zero, and nothing where that is no word's value.

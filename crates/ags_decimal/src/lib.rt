@@ -4,6 +4,7 @@
 #![tactic(auto)]
 
 mod decimals;
+mod laws;
 mod marks;
 mod numbers;
 mod sizes;
@@ -11,3 +12,4 @@ mod sizes;
 mod tests;
 
 pub use decimals::{Decimal, read, word};
+pub use laws::{reading_is_spelling, word_is_nearest};

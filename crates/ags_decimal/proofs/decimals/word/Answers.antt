@@ -1,7 +1,5 @@
-use Rattle.std.proofs.Common.{sym, ◌∙◌, ap}
+use Rattle.std.proofs.Common.{sym}
 use Rattle.ags_decimal.proofs.WordLemmas.{signed_over}
-use Rattle.ags_decimal.specs.Decimal.{signed}
-use Rattle.ags_word.specs.Word.{word_of_value}
 use Rattle.ags_decimal.proofs.decimals.word.Goals as goal
 
 pub returns-then-size-gt131072 : goal.returns-then-size-gt131072
