@@ -1,0 +1,4 @@
+-- what the public contracts cite
+pub mod Symbol
+-- what serves inside
+pub mod Padding

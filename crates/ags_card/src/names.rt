@@ -1,0 +1,107 @@
+//! The names that stand for values in a source.
+
+ghost use Rattle.std.specs.Prelude.{◌≡◌, ℕ, ◌≤◌, Some, None, if◌then◌else◌, ◌||◌, true, get_or};
+ghost use Rattle.std.specs.List.{list_all};
+ghost use Rattle.ags_card.specs.Symbol.{is_capital, is_digit, is_symbol};
+ghost use Rattle.ags_card.specs.Padding.{padded};
+
+use std::marker::Model;
+
+/// The most bytes of a symbol.
+const MOST_BYTES: usize = 6;
+
+/// A symbol (docs/SOURCE.md, Cards): one to six capital letters and digits, with a letter among them.
+#[derive(Clone, Copy, Debug)]
+pub struct Name {
+    /// The symbol's bytes, with zeros behind them.
+    bytes: [u8; 6],
+    length: usize,
+}
+
+impl Model for Name {
+    ghost use Rattle.std.specs.Prelude.{◌≡◌, ℕ, List, IsTrue, length as list_length, take};
+    ghost use Rattle.ags_card.specs.Symbol.{is_symbol};
+    ghost use Rattle.ags_card.specs.Padding.{padded};
+
+    ghost Value = { List ℕ };
+
+    ghost view = { λ n. take n.length n.bytes };
+
+    ghost invariant = { λ n. (padded (take n.length n.bytes) ≡ n.bytes) × (list_length (take n.length n.bytes) ≡ n.length) × IsTrue (is_symbol (take n.length n.bytes)) };
+
+    ghost inverse = { λ text. record { bytes = padded text; length = list_length text } };
+
+    ghost inverse_ok = { λ n h i. record { bytes = h.0 i; length = h.1 i } };
+}
+
+/// A byte of a text, and 0 behind its end.
+fn byte_or_zero(text: &[u8], position: usize) -> u8
+    ensures { result ≡ get_or text.now position 0 }
+{
+    if position < text.len() {
+        text[position]
+    } else {
+        0
+    }
+}
+
+/// The first six bytes of a text, with zeros behind it where it is shorter.
+#[tactic(auto, unfolding(crate::specs::Padding::padded))]
+fn pad(text: &[u8]) -> [u8; 6]
+    ensures { result ≡ padded text.now }
+{
+    [
+        byte_or_zero(text, 0),
+        byte_or_zero(text, 1),
+        byte_or_zero(text, 2),
+        byte_or_zero(text, 3),
+        byte_or_zero(text, 4),
+        byte_or_zero(text, 5),
+    ]
+}
+
+/// Whether each byte of a text is a capital or a digit.
+fn are_symbol_bytes(text: &[u8]) -> bool
+    ensures { result ≡ list_all (λ b. is_capital b || is_digit b) text.now }
+{
+    text.iter()
+        .all(|byte| matches!(*byte, b'A'..=b'Z' | b'0'..=b'9'))
+}
+
+/// Whether each byte of a text is a digit.
+fn are_digits(text: &[u8]) -> bool
+    ensures { result ≡ list_all is_digit text.now }
+{
+    text.iter().all(|byte| matches!(*byte, b'0'..=b'9'))
+}
+
+/// Whether a text is a symbol.
+#[tactic(auto, unfolding(crate::specs::Symbol::is_symbol))]
+fn is_symbol(text: &[u8]) -> bool
+    ensures { result ≡ is_symbol text.now }
+{
+    are_symbol_bytes(text) && !are_digits(text) && !text.is_empty() && text.len() <= MOST_BYTES
+}
+
+impl Name {
+    /// The name of a symbol, and nothing for any other text.
+    pub fn of(text: &[u8]) -> Option<Name>
+        ensures { result ≡ (if is_symbol text.now then Some text.now else None) }
+    {
+        if !is_symbol(text) {
+            return None;
+        }
+        Some(Name {
+            bytes: pad(text),
+            length: text.len(),
+        })
+    }
+
+    /// The symbol's bytes.
+    pub fn bytes(&self) -> &[u8]
+        ensures same { result.now ≡ self.now }
+        ensures symbol { is_symbol result.now ≡ true }
+    {
+        &self.bytes[..self.length]
+    }
+}
