@@ -1,5 +1,6 @@
 pub mod SayingLemmas
 pub mod WalkLemmas
+pub mod WorkLemmas
 pub mod AnswerLemmas
 pub mod RunLemmas
 pub mod StatusLemmas

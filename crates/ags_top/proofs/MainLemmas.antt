@@ -7,6 +7,7 @@ use Rattle.ags_plan.specs.Walk.{Told, Agrees, Tells, RefusesWithin, EndsAt, IsGi
 use Rattle.ags_plan.specs.Answer.{ComesWith, IsAnswer}
 use Rattle.ags_plan.specs.Outcome.{Answered, Ends, EndsExactly, FindsRefusal}
 use Rattle.ags_plan.proofs.WalkLemmas.{told_bytes, way_to_refused}
+use Rattle.ags_plan.proofs.WorkLemmas.{work_of_plan}
 use Rattle.ags_plan.proofs.StatusLemmas.{refused_exactly, work_exactly}
 use Rattle.ags_asm.specs.Source.{Defines}
 use Rattle.ags_image.specs.Image.{PlacedWord}
@@ -21,7 +22,7 @@ use Rattle.ags_top.specs.Files.{Kind, Source, Script, refused_status}
 use Rattle.ags_top.specs.Listing.{listing}
 use Rattle.ags_top.specs.Outcome.{EndsWith, ListsWhatIsDefined, IsPlayOn, PlaysWhatIsDefined, DoneAlways, BadWordsExactly, ReadsFault, BadSourceExactly, ReadsScriptFault, BadTextExactly}
 use Rattle.ags_top.specs.Program.{program, command_plan, asked_plan, plan_of}
-use Rattle.ags_top.specs.ProgramLaws.{lawful_program}
+use Rattle.ags_top.specs.ProgramLaws.{comes_to_no_form, lawful_program}
 use Rattle.ags_top.specs.Text.{words_line, fault_line, script_fault_line}
 use Rattle.ags_top.specs.Work.{Work, NoForm, ListSource, PlayScript, Makes}
 use Rattle.ags_top.proofs.CommandLemmas.{command_of-arguments_of, arguments_of-command_of}
@@ -46,53 +47,29 @@ done_work told plan (WorkAt work) text ends comes = (work, ends, comes)
 listing_told : (told : Told) (name bytes text : List ℕ) (work : Work) → told name ≡ Stored bytes
     → EndsAt program Agrees told (command_plan standard_machine (Assemble name)) (WorkAt work) → Makes work text Done
     → (defined : List (Option PlacedWord)) × Defines bytes defined × (text ≡ listing bytes defined)
-listing_told told name bytes text work is (inl (inl (agrees, end))) makes = absurd cc
-listing_told told name bytes text work is (inl (inr (there, agrees, inl (long, end)))) makes = absurd cc
-listing_told told name bytes text work is (inl (inr (there, agrees, inr (line, refuses, end)))) makes = absurd cc
-listing_told told name bytes text work is (inr (assembly, (there, agrees, holds), end)) makes =
-    let same : work ≡ ListSource assembly = cc in
-    let here = told_bytes (told name) bytes there is agrees in
-    let made : Makes (ListSource assembly) text Done = subst (λ (w : Work). Makes w text Done) same makes in (
+listing_told told name bytes text work is ends =
+    work_of_plan program Agrees told (λ work. Makes work text Done → (defined : List (Option PlacedWord)) × Defines bytes defined × (text ≡ listing bytes defined))
+    (command_plan standard_machine (Assemble name)) work (λ assembly sees made.
+    let here = told_bytes (told name) bytes sees.0 is sees.1 in (
       assembly.defined,
-      subst (λ (b : List ℕ). Defines b assembly.defined) here holds.holds.defines,
-      made.0 ∙ ap (λ (b : List ℕ). listing b assembly.defined) (holds.holds.bytes_are ∙ here),
-    )
+      subst (λ (b : List ℕ). Defines b assembly.defined) here sees.2.holds.defines,
+      made.0 ∙ ap (λ (b : List ℕ). listing b assembly.defined) (sees.2.holds.bytes_are ∙ here),
+    )) ends
 
 -- the play of a told script on a told source
 play_told : (told : Told) (source script source_bytes script_bytes text : List ℕ) (work : Work) → told source ≡ Stored source_bytes → told script ≡ Stored script_bytes
     → EndsAt program Agrees told (command_plan standard_machine (Run source script)) (WorkAt work) → Makes work text Done → IsPlayOn standard_machine source_bytes script_bytes text
-play_told told source script source_bytes script_bytes text work is too (inl (inl (agrees, end))) makes = absurd cc
-play_told told source script source_bytes script_bytes text work is too (inl (inr (there, agrees, inl (long, end)))) makes = absurd cc
-play_told told source script source_bytes script_bytes text work is too (inl (inr (there, agrees, inr (line, refuses, end)))) makes = absurd cc
-play_told told source script source_bytes script_bytes text work is too (inr (assembly, sees, inl (inl (agrees, end)))) makes = absurd cc
-play_told told source script source_bytes script_bytes text work is too (inr (assembly, sees, inl (inr (there, agrees, inl (long, end))))) makes = absurd cc
-play_told told source script source_bytes script_bytes text work is too (inr (assembly, sees, inl (inr (there, agrees, inr (line, refuses, end))))) makes = absurd cc
-play_told told source script source_bytes script_bytes text work is too (inr (assembly, (there, agrees, holds), inr (commands, (read, seen, has), end))) makes =
-    let same : work ≡ PlayScript standard_machine assembly.defined commands = cc in
-    let made : Makes (PlayScript standard_machine assembly.defined commands) text Done = subst (λ (w : Work). Makes w text Done) same makes in
-    record {
+play_told told source script source_bytes script_bytes text work is too ends =
+    work_of_plan program Agrees told (λ work. Makes work text Done → IsPlayOn standard_machine source_bytes script_bytes text)
+    (command_plan standard_machine (Run source script)) work (λ assembly sees commands seen made. record {
       defined = assembly.defined;
-      defines = subst (λ (b : List ℕ). Defines b assembly.defined) (told_bytes (told source) source_bytes there is agrees) holds.holds.defines;
+      defines = subst (λ (b : List ℕ). Defines b assembly.defined) (told_bytes (told source) source_bytes sees.0 is sees.1) sees.2.holds.defines;
       commands = commands;
-      is_script = subst (λ (b : List ℕ). IsScript standard_machine b commands) (told_bytes (told script) script_bytes read too seen) has.holds;
+      is_script = subst (λ (b : List ℕ). IsScript standard_machine b commands) (told_bytes (told script) script_bytes seen.0 too seen.1) seen.2.holds;
       play = made.0;
-    }
+    }) ends
 
 -- ---- a command line that is no form
-
--- no command's plan comes to the work that says so
-no_form_of_command : (told : Told) (machine : Machine) (command : Command) → EndsAt program Agrees told (command_plan machine command) (WorkAt NoForm) → ⊥
-no_form_of_command told machine (Assemble name) (inl (inl (agrees, end))) = absurd cc
-no_form_of_command told machine (Assemble name) (inl (inr (there, agrees, inl (long, end)))) = absurd cc
-no_form_of_command told machine (Assemble name) (inl (inr (there, agrees, inr (line, refuses, end)))) = absurd cc
-no_form_of_command told machine (Assemble name) (inr (assembly, sees, end)) = absurd cc
-no_form_of_command told machine (Run name script) (inl (inl (agrees, end))) = absurd cc
-no_form_of_command told machine (Run name script) (inl (inr (there, agrees, inl (long, end)))) = absurd cc
-no_form_of_command told machine (Run name script) (inl (inr (there, agrees, inr (line, refuses, end)))) = absurd cc
-no_form_of_command told machine (Run name script) (inr (assembly, sees, inl (inl (agrees, end)))) = absurd cc
-no_form_of_command told machine (Run name script) (inr (assembly, sees, inl (inr (there, agrees, inl (long, end))))) = absurd cc
-no_form_of_command told machine (Run name script) (inr (assembly, sees, inl (inr (there, agrees, inr (line, refuses, end))))) = absurd cc
-no_form_of_command told machine (Run name script) (inr (assembly, sees, inr (commands, seen, end))) = absurd cc
 
 -- an end with that status is that of no form
 bad_words_end : (told : Told) (plan : Plan program) (end : End program) (text : List ℕ) → EndsAt program Agrees told plan end → ComesWith program end text BadWords → EndsAt program Agrees told plan (WorkAt NoForm)
@@ -106,8 +83,7 @@ bad_words_end told plan (RefusedAt line status) text ends comes =
     of_kind Source is = absurd cc
     of_kind (Script machine) is = absurd cc
 bad_words_end told plan (WorkAt NoForm) text ends comes = ends
-bad_words_end told plan (WorkAt (ListSource assembly)) text ends comes = let is = comes.1 in absurd cc
-bad_words_end told plan (WorkAt (PlayScript machine defined commands)) text ends comes = let is = comes.1 in absurd cc
+bad_words_end told plan (WorkAt _) text ends comes = let is = comes.1 in absurd cc
 
 module _ (told : Told) (arguments : List (List ℕ)) (old new : Option (List ℕ)) (result : Status) (ends : Ends program (IsAnswer program told (plan_of arguments)) old new result) where
   -- what a run with that status answered
@@ -144,7 +120,7 @@ module _ (told : Told) (arguments : List (List ℕ)) (old new : Option (List ℕ
     only = λ is.
         let so : Answered (IsAnswer program told (plan_of arguments)) old new BadWords = answer_with BadWords is in
         let none = bad_words_end told (plan_of arguments) so.answer.end so.text so.answer.ends so.answer.comes in
-        λ command asked. no_form_of_command told standard_machine command
+        λ command asked. comes_to_no_form told command
         (subst (λ (a : Option Command). EndsAt program Agrees told (asked_plan a) (WorkAt NoForm)) (ap command_of asked ∙ command_of-arguments_of command) none);
     always = λ none. exactly_with words_line BadWords
         (work_exactly program plan_of lawful_program told arguments old new result ends NoForm words_line BadWords (no_command (command_of arguments) refl none) (refl, refl));

@@ -14,26 +14,37 @@ abbrev pub arguments_of : Command → List (List ℕ)
 arguments_of (Assemble source) = codes "assemble" ∷ source ∷ []
 arguments_of (Run source script) = codes "run" ∷ source ∷ script ∷ []
 
--- the command of `assemble` and these names, where they are its form
-abbrev pub assemble_of : List (List ℕ) → Option Command
-assemble_of (source ∷ []) = Some (Assemble source)
-assemble_of _ = None
+-- a command of one name
+abbrev pub one_name : (List ℕ → Command) → List (List ℕ) → Option Command
+one_name command (name ∷ []) = Some (command name)
+one_name command _ = None
 
--- the command of `run` and these names, where they are its form
-abbrev pub run_of : List (List ℕ) → Option Command
-run_of (source ∷ script ∷ []) = Some (Run source script)
-run_of _ = None
+-- a command of two names
+abbrev pub two_names : (List ℕ → List ℕ → Command) → List (List ℕ) → Option Command
+two_names command (name ∷ other ∷ []) = Some (command name other)
+two_names command _ = None
 
--- the command of a verb and the names behind it
-abbrev pub command_named : (verb : List ℕ) (names : List (List ℕ)) → Option Command
-command_named verb names = if bytes_eq verb (codes "assemble") then assemble_of names
-    else if bytes_eq verb (codes "run") then run_of names
-    else None
+-- A form: a verb, and the command that the names behind it ask for.
+pub record Form : Type 0 where
+  pub verb : List ℕ
+  pub command_of : List (List ℕ) → Option Command
+
+-- the forms, one for each command
+abbrev pub forms : List Form
+forms =
+    record { verb = codes "assemble"; command_of = one_name Assemble }
+    ∷ record { verb = codes "run"; command_of = two_names Run }
+    ∷ []
+
+-- the command of a verb and the names behind it, by the form of that verb
+abbrev pub command_named : List Form → (verb : List ℕ) (names : List (List ℕ)) → Option Command
+command_named [] verb names = None
+command_named (form ∷ others) verb names = if bytes_eq verb form.verb then form.command_of names else command_named others verb names
 
 -- the command that a command line asks for, by its arguments, and nothing where they are none of the forms
 abbrev pub command_of : List (List ℕ) → Option Command
 command_of [] = None
-command_of (verb ∷ names) = command_named verb names
+command_of (verb ∷ names) = command_named forms verb names
 
 -- the arguments are none of the forms
 abbrev pub AreNoForm : List (List ℕ) → Type 0

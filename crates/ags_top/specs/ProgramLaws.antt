@@ -4,6 +4,7 @@ use Rattle.std.proofs.Common.{refl, sym, ap, subst, ◌∙◌, inl, inr}
 use Rattle.ags_plan.specs.declared.causes.Cause.TheVariants as cause
 use Rattle.ags_plan.specs.Plan.{WorkAt}
 use Rattle.ags_plan.specs.Walk.{Told, Agrees, EndsAt}
+use Rattle.ags_plan.proofs.WorkLemmas.{EachWork, work_of_plan}
 use Rattle.ags_plan.specs.Lawful.{AreReadable, AreDoable, AreApart, IsLawful}
 use Rattle.ags_asm.specs.declared.source_error.SourceError.{SourceError}
 use Rattle.ags_asm.specs.Source.{Defines, placed_words}
@@ -86,28 +87,26 @@ IsAskedFor NoForm = Unit {0}
 IsAskedFor (ListSource assembly) = Unit {0}
 IsAskedFor (PlayScript machine defined commands) = IsMachine machine × ((bytes : List ℕ) × Defines bytes defined)
 
--- of a command's plan
-asked_by_command : (told : Told) (machine : Machine) (command : Command) (work : Work) → IsMachine machine → EndsAt program Agrees told (command_plan machine command) (WorkAt work) → IsAskedFor work
+-- of each work of a command's plan, and it isn't the one that says that the arguments are no form
+each_asked : (told : Told) (machine : Machine) (command : Command) → IsMachine machine
+    → EachWork program Agrees told (λ work. IsAskedFor work × (work ≢ NoForm)) (command_plan machine command)
 unfolding IsAskedFor
-asked_by_command told machine (Assemble name) work is (inl (inl (agrees, end))) = absurd cc
-asked_by_command told machine (Assemble name) work is (inl (inr (bytes, agrees, inl (long, end)))) = absurd cc
-asked_by_command told machine (Assemble name) work is (inl (inr (bytes, agrees, inr (line, refuses, end)))) = absurd cc
-asked_by_command told machine (Assemble name) work is (inr (assembly, sees, end)) =
-    let same : work ≡ ListSource assembly = cc in subst IsAskedFor (sym same) tt
-asked_by_command told machine (Run name script) work is (inl (inl (agrees, end))) = absurd cc
-asked_by_command told machine (Run name script) work is (inl (inr (bytes, agrees, inl (long, end)))) = absurd cc
-asked_by_command told machine (Run name script) work is (inl (inr (bytes, agrees, inr (line, refuses, end)))) = absurd cc
-asked_by_command told machine (Run name script) work is (inr (assembly, sees, inl (inl (agrees, end)))) = absurd cc
-asked_by_command told machine (Run name script) work is (inr (assembly, sees, inl (inr (bytes, agrees, inl (long, end))))) = absurd cc
-asked_by_command told machine (Run name script) work is (inr (assembly, sees, inl (inr (bytes, agrees, inr (line, refuses, end))))) = absurd cc
-asked_by_command told machine (Run name script) work is (inr (assembly, (bytes, agrees, holds), inr (commands, seen, end))) =
-    let same : work ≡ PlayScript machine assembly.defined commands = cc in
-    subst IsAskedFor (sym same) (is, (bytes, holds.holds.defines))
+each_asked told machine (Assemble name) is = λ assembly sees. (tt, λ same. absurd cc)
+each_asked told machine (Run name script) is = λ assembly sees commands seen. ((is, (sees.0, sees.2.holds.defines)), λ same. absurd cc)
+
+asked_by_command : (told : Told) (machine : Machine) (command : Command) (work : Work) → IsMachine machine
+    → EndsAt program Agrees told (command_plan machine command) (WorkAt work) → IsAskedFor work × (work ≢ NoForm)
+asked_by_command told machine command work is ends =
+    work_of_plan program Agrees told (λ work. IsAskedFor work × (work ≢ NoForm)) (command_plan machine command) work (each_asked told machine command is) ends
+
+-- no command comes to the work that says that the arguments are no form
+pub comes_to_no_form : (told : Told) (command : Command) → EndsAt program Agrees told (asked_plan (Some command)) (WorkAt NoForm) → ⊥
+comes_to_no_form told command ends = (asked_by_command told standard_machine command NoForm IsMachine-standard ends).1 refl
 
 asked_by : (told : Told) (asked : Option Command) (work : Work) → EndsAt program Agrees told (asked_plan asked) (WorkAt work) → IsAskedFor work
 unfolding IsAskedFor
 asked_by told None work end = let same : work ≡ NoForm = cc in subst IsAskedFor (sym same) tt
-asked_by told (Some command) work ends = asked_by_command told standard_machine command work IsMachine-standard ends
+asked_by told (Some command) work ends = (asked_by_command told standard_machine command work IsMachine-standard ends).0
 
 -- words of a source have an image
 some_image_of : (bytes : List ℕ) (defined : List (Option PlacedWord)) → Defines bytes defined → (image : List (Option ℕ)) × IsImageOf (placed_words defined) image
@@ -148,23 +147,31 @@ are_doable = record {
 
 -- ---- statuses
 
-made_of_content : (work : Work) (text : List ℕ) (status : Status) → Makes work text status → cause_of status ≡ cause.Content
-made_of_content NoForm text status made = ap cause_of made.1
-made_of_content (ListSource assembly) text status made = ap cause_of made.1
-made_of_content (PlayScript machine defined commands) text status made = ap cause_of made.1
+-- the statuses that works come with
+IsWorkStatus : Status → Type 0
+IsWorkStatus Done = Unit {0}
+IsWorkStatus BadWords = Unit {0}
+IsWorkStatus _ = ⊥
 
-made_not_long : (work : Work) (text : List ℕ) → Makes work text LongFile → ⊥
-made_not_long NoForm text made = let is = made.1 in cc
-made_not_long (ListSource assembly) text made = let is = made.1 in cc
-made_not_long (PlayScript machine defined commands) text made = let is = made.1 in cc
+made_status : (work : Work) (text : List ℕ) (status : Status) → Makes work text status → IsWorkStatus status
+unfolding IsWorkStatus
+made_status NoForm text status made = subst IsWorkStatus (sym made.1) tt
+made_status _ text status made = subst IsWorkStatus (sym made.1) tt
 
-made_not_refused : (work : Work) (text : List ℕ) (kind : Kind) → Makes work text (refused_status kind) → ⊥
-made_not_refused NoForm text Source made = let is = made.1 in cc
-made_not_refused NoForm text (Script machine) made = let is = made.1 in cc
-made_not_refused (ListSource assembly) text Source made = let is = made.1 in cc
-made_not_refused (ListSource assembly) text (Script machine) made = let is = made.1 in cc
-made_not_refused (PlayScript machine defined commands) text Source made = let is = made.1 in cc
-made_not_refused (PlayScript machine defined commands) text (Script other) made = let is = made.1 in cc
+work_status_of_content : (status : Status) → IsWorkStatus status → cause_of status ≡ cause.Content
+unfolding IsWorkStatus
+work_status_of_content Done is = refl
+work_status_of_content BadWords is = refl
+work_status_of_content _ is = absurd is
+
+not_long_work : IsWorkStatus LongFile → ⊥
+unfolding IsWorkStatus
+not_long_work is = is
+
+not_refused_work : (kind : Kind) → IsWorkStatus (refused_status kind) → ⊥
+unfolding IsWorkStatus
+not_refused_work Source is = is
+not_refused_work (Script machine) is = is
 
 refused_of_content : (kind : Kind) → cause_of (refused_status kind) ≡ cause.Content
 refused_of_content Source = refl
@@ -183,9 +190,9 @@ are_apart = record {
   memory = refl;
   refused = refused_of_content;
   refused_not_long = refused_not_long;
-  made = made_of_content;
-  made_not_long = made_not_long;
-  made_not_refused = made_not_refused;
+  made = λ work text status made. work_status_of_content status (made_status work text status made);
+  made_not_long = λ work text made. not_long_work (made_status work text LongFile made);
+  made_not_refused = λ work text kind made. not_refused_work kind (made_status work text (refused_status kind) made);
 }
 
 pub lawful_program : IsLawful program plan_of

@@ -3,7 +3,7 @@
 ghost use Rattle.std.specs.Prelude.{◌≡◌, List, ℕ, map};
 ghost use Rattle.std.specs.Option.{option_map};
 ghost use Rattle.std.specs.String.{string_bytes};
-ghost use Rattle.ags_top.specs.Command.{assemble_of, command_named, command_of, run_of};
+ghost use Rattle.ags_top.specs.Command as asked;
 ghost use Rattle.ags_top.specs.Views.{command_view};
 
 /// What a command line asks for.
@@ -22,7 +22,7 @@ pub(crate) enum Command<'a> {
 
 /// The command of `assemble` and these names.
 fn read_assemble(names: &[String]) -> Option<Command<'_>>
-    ensures { option_map command_view result ≡ assemble_of (map string_bytes names.now) }
+    ensures { option_map command_view result ≡ asked.one_name asked.Assemble (map string_bytes names.now) }
 {
     match names {
         [source] => Some(Command::Assemble(source.as_str())),
@@ -32,7 +32,7 @@ fn read_assemble(names: &[String]) -> Option<Command<'_>>
 
 /// The command of `run` and these names.
 fn read_run(names: &[String]) -> Option<Command<'_>>
-    ensures { option_map command_view result ≡ run_of (map string_bytes names.now) }
+    ensures { option_map command_view result ≡ asked.two_names asked.Run (map string_bytes names.now) }
 {
     match names {
         [source, script] => Some(Command::Run {
@@ -45,7 +45,7 @@ fn read_run(names: &[String]) -> Option<Command<'_>>
 
 /// The command of a verb and the names behind it.
 fn read_names<'a>(verb: &str, names: &'a [String]) -> Option<Command<'a>>
-    ensures { option_map command_view result ≡ command_named verb.now (map string_bytes names.entry.now) }
+    ensures { option_map command_view result ≡ asked.command_named asked.forms verb.now (map string_bytes names.entry.now) }
 {
     match verb {
         "assemble" => read_assemble(names),
@@ -56,7 +56,7 @@ fn read_names<'a>(verb: &str, names: &'a [String]) -> Option<Command<'a>>
 
 /// The command that a command line asks for, by its arguments.
 pub(crate) fn read_command(arguments: &[String]) -> Option<Command<'_>>
-    ensures { option_map command_view result ≡ command_of (map string_bytes arguments.now) }
+    ensures { option_map command_view result ≡ asked.command_of (map string_bytes arguments.now) }
 {
     match arguments {
         [verb, names @ ..] => read_names(verb.as_str(), names),
