@@ -28,6 +28,7 @@ enum Operation {
     Abs,
     Als(u32),
     Lls(u32),
+    Lrs(u32),
     High,
     Round,
     Over,
@@ -48,6 +49,10 @@ fn answer<D: Domain>(rt: &impl Abort, operation: Operation, a: &D, m: &D) -> Res
             assert!(rt; count < 64);
             a.lls_high(count)
         }
+        Operation::Lrs(count) => {
+            assert!(rt; count < 64);
+            Ok(a.lrs_high(count))
+        }
         Operation::High => a.mul_high(m),
         Operation::Round => a.mul_round(m),
         Operation::Over => a.quotient(m),
@@ -55,6 +60,8 @@ fn answer<D: Domain>(rt: &impl Abort, operation: Operation, a: &D, m: &D) -> Res
 }
 
 const FULL: (i32, i32) = (-131_072, 131_071);
+
+const LEAST: (i32, i32) = (-131_072, -131_072);
 
 #[test]
 fn intervals(rt: HostRuntime) {
@@ -82,6 +89,17 @@ fn intervals(rt: HostRuntime) {
         (Operation::Over, (0, 0), (-4, -1), (-131071, 0)),
         (Operation::Over, (-1, -1), (1, 1), (-131072, -1)),
         (Operation::Lls(1), (-65536, 65535), (0, 0), FULL),
+        (Operation::Add, FULL, (0, 0), FULL),
+        (Operation::Add, LEAST, (0, 131071), (-131072, -1)),
+        (Operation::Sub, FULL, (0, 0), FULL),
+        (Operation::Sub, LEAST, LEAST, (0, 0)),
+        (Operation::Com, (-131071, 131071), (0, 0), (-131071, 131071)),
+        (Operation::Abs, (-131071, 131071), (0, 0), (0, 131071)),
+        (Operation::Als(0), FULL, (0, 0), FULL),
+        (Operation::Als(1), (-65536, -65536), (0, 0), LEAST),
+        (Operation::Lls(0), FULL, (0, 0), FULL),
+        (Operation::High, LEAST, (1, 1), (-1, -1)),
+        (Operation::Round, LEAST, (1, 1), (-1, -1)),
     ] {
         let told = answer(&rt, operation, &range(&rt, a), &range(&rt, m));
         assert_eq!(rt; told, Ok(range(&rt, ends)));
@@ -230,32 +248,105 @@ fn texts(rt: HostRuntime) -> Result<(), Fail> {
     Ok(())
 }
 
-/// The least and the greatest product over 2^17, rounded down, of seven values from each of two on, by a walk.
-fn walked(a: i64, m: i64) -> (i64, i64) {
+/// The number, where it is a word's value.
+fn fitting(number: i64) -> Option<i64> {
+    if -131_072 <= number && number <= 131_071 {
+        Some(number)
+    } else {
+        None
+    }
+}
+
+/// The quotient by 2^17 rounded down, where the number is one of a pair.
+fn high_part(number: i64) -> Option<i64> {
+    fitting(number.div_euclid(131_072))
+}
+
+/// What an operation leaves in A, by whole numbers alone, and nothing where it overflows.
+fn left_in_a(operation: Operation, a: i64, q: i64, m: i64) -> Option<i64> {
+    let pair = a.wrapping_mul(131_072).wrapping_add(q);
+    match operation {
+        Operation::Add => fitting(a.wrapping_add(m)),
+        Operation::Sub => fitting(a.wrapping_sub(m)),
+        Operation::Com => fitting(a.wrapping_neg()),
+        Operation::Abs => fitting(a.wrapping_abs()),
+        Operation::Als(count) => fitting(a.wrapping_mul(1i64.wrapping_shl(count))),
+        Operation::Lls(count) => high_part(pair.wrapping_mul(1i64.wrapping_shl(count))),
+        Operation::Lrs(count) => high_part(pair.div_euclid(1i64.wrapping_shl(count).max(1))),
+        Operation::High => high_part(a.wrapping_mul(m)),
+        Operation::Round => high_part(a.wrapping_mul(m).wrapping_add(65_536)),
+        Operation::Over => fitting(pair.checked_div(m)?),
+    }
+}
+
+/// The least and the greatest that an operation leaves in A, of seven values from each of two on, and three low parts of Q,
+/// by a walk over all of them; nothing where it overflows at some of them.
+fn walked(operation: Operation, a: i64, m: i64) -> Option<(i64, i64)> {
     let mut least = i64::MAX;
     let mut greatest = i64::MIN;
     for i in 0..7i64 {
         for j in 0..7i64 {
-            let product = a.wrapping_add(i).wrapping_mul(m.wrapping_add(j));
-            let high = product.div_euclid(131_072);
-            least = least.min(high);
-            greatest = greatest.max(high);
+            for q in [0, 77_777, 131_071] {
+                let left = left_in_a(operation, a.wrapping_add(i), q, m.wrapping_add(j))?;
+                least = least.min(left);
+                greatest = greatest.max(left);
+            }
         }
     }
-    (least, greatest)
+    Some((least, greatest))
+}
+
+/// The ends of an operation's answer, or nothing where it tells operands, which then overflow.
+fn told(rt: &impl Abort, operation: Operation, a: i32, m: i32) -> Option<(i64, i64)> {
+    match answer(
+        rt,
+        operation,
+        &range(rt, (a, a.wrapping_add(6))),
+        &range(rt, (m, m.wrapping_add(6))),
+    ) {
+        Ok(hull) => Some((
+            i64::from(hull.least().value()),
+            i64::from(hull.greatest().value()),
+        )),
+        Err(words) => {
+            let left = left_in_a(
+                operation,
+                i64::from(words.a.value()),
+                i64::from(words.q.number()),
+                i64::from(words.m.value()),
+            );
+            assert!(rt; left.is_none());
+            None
+        }
+    }
 }
 
 #[test]
-fn products_by_a_walk(rt: HostRuntime) {
-    for step in 0..200i32 {
-        let a = step.wrapping_mul(7919).rem_euclid(262_000) - 131_000;
-        let m = step.wrapping_mul(104_729).rem_euclid(262_000) - 131_000;
-        let told = range(&rt, (a, a + 6)).mul_high(&range(&rt, (m, m + 6)));
-        let hull = told.ok().expect(&rt, "the products of small ranges");
-        let ends = (
-            i64::from(hull.least().value()),
-            i64::from(hull.greatest().value()),
-        );
-        assert_eq!(rt; ends, walked(i64::from(a), i64::from(m)));
+fn small_ranges_by_a_walk(rt: HostRuntime) {
+    for operation in [
+        Operation::Add,
+        Operation::Sub,
+        Operation::Com,
+        Operation::Abs,
+        Operation::Als(3),
+        Operation::Lls(2),
+        Operation::Lrs(5),
+        Operation::High,
+        Operation::Round,
+        Operation::Over,
+    ] {
+        for step in 0..120i32 {
+            // every third pair of ranges is small, and every third cell is near 0
+            let size = if step.rem_euclid(3) == 0 {
+                200
+            } else {
+                262_000
+            };
+            let near = if step.rem_euclid(3) == 1 { 20 } else { 262_000 };
+            let a = step.wrapping_mul(7919).rem_euclid(size) - size / 2;
+            let m = step.wrapping_mul(104_729).rem_euclid(near) - near / 2;
+            let ends = walked(operation, i64::from(a), i64::from(m));
+            assert_eq!(rt; told(&rt, operation, a, m), ends);
+        }
     }
 }
