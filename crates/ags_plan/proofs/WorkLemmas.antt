@@ -1,22 +1,22 @@
--- What is so of each work that a plan may come to is so of the work in which a walk ends.
-use Rattle.std.proofs.Common.{◌≡◌, subst, inl, inr}
+-- The work in which a walk ends. Behind the law `walks_lead_to_their_works` of `laws.rt` stand
+--     way_to_work    a walk that ends in a work came past all files to it
+--     work_of_way    and where it comes past all files to a work, it ends in it
+use Rattle.std.proofs.Common.{◌≡◌, refl, sym, ap, inl, inr}
 use Rattle.ags_plan.specs.Plan.{Definition, Plan, Do, Read, Take, WorkAt}
-use Rattle.ags_plan.specs.Walk.{Told, Sight, HoldsWithin, SeesValue, EndsAt}
+use Rattle.ags_plan.specs.Walk.{Told, Sight, EndsAt, LeadsTo}
 
-module _ {Status : Type 0} (D : Definition Status) (See : Sight) (told : Told) (P : D.Work → Type 0) where
-  -- the fact holds of each work of the plan, whatever its files are seen to hold
-  abbrev pub EachWork : Plan D → Type 0
-  EachWork (Do work) = P work
-  EachWork (Read kind name next) = (value : D.Value kind) → SeesValue D See told kind name value → EachWork (next value)
-  EachWork (Take kind name bytes next) = (value : D.Value kind) → HoldsWithin D kind bytes value → EachWork (next value)
+module _ {Status : Type 0} (D : Definition Status) (See : Sight) (told : Told) where
+  pub way_to_work : (plan : Plan D) (work : D.Work) → EndsAt D See told plan (WorkAt work) → LeadsTo D See told plan work
+  way_to_work (Do done) work ends = cc
+  way_to_work (Read kind name next) work (inl (inl (sees, end))) = absurd cc
+  way_to_work (Read kind name next) work (inl (inr (bytes, sees, inl (long, end)))) = absurd cc
+  way_to_work (Read kind name next) work (inl (inr (bytes, sees, inr (line, refuses, end)))) = absurd cc
+  way_to_work (Read kind name next) work (inr (value, sees, later)) = (value, sees, way_to_work (next value) work later)
+  way_to_work (Take kind name bytes next) work (inl (inl (long, end))) = absurd cc
+  way_to_work (Take kind name bytes next) work (inl (inr (line, refuses, end))) = absurd cc
+  way_to_work (Take kind name bytes next) work (inr (value, holds, later)) = (value, holds, way_to_work (next value) work later)
 
-  -- and so of the one that a walk comes to
-  pub work_of_plan : (plan : Plan D) (work : D.Work) → EachWork plan → EndsAt D See told plan (WorkAt work) → P work
-  work_of_plan (Do done) work each ends = let same : done ≡ work = cc in subst P same each
-  work_of_plan (Read kind name next) work each (inl (inl (sees, end))) = absurd cc
-  work_of_plan (Read kind name next) work each (inl (inr (bytes, sees, inl (long, end)))) = absurd cc
-  work_of_plan (Read kind name next) work each (inl (inr (bytes, sees, inr (line, refuses, end)))) = absurd cc
-  work_of_plan (Read kind name next) work each (inr (value, sees, later)) = work_of_plan (next value) work (each value sees) later
-  work_of_plan (Take kind name bytes next) work each (inl (inl (long, end))) = absurd cc
-  work_of_plan (Take kind name bytes next) work each (inl (inr (line, refuses, end))) = absurd cc
-  work_of_plan (Take kind name bytes next) work each (inr (value, holds, later)) = work_of_plan (next value) work (each value holds) later
+  pub work_of_way : (plan : Plan D) (work : D.Work) → LeadsTo D See told plan work → EndsAt D See told plan (WorkAt work)
+  work_of_way (Do done) work leads = ap (λ (w : D.Work). WorkAt w) (sym leads)
+  work_of_way (Read kind name next) work (value, sees, later) = inr (value, sees, work_of_way (next value) work later)
+  work_of_way (Take kind name bytes next) work (value, holds, later) = inr (value, holds, work_of_way (next value) work later)

@@ -63,6 +63,12 @@ module _ {Status : Type 0} (D : Definition Status) (See : Sight) (told : Told) w
   abbrev pub EndsAt : Plan D → End D → Type 0
   EndsAt plan end = ComesTo (EndsHere end) plan
 
+  -- the walk comes past all files to that work: each is seen with a value, which says how it goes on
+  abbrev pub LeadsTo : Plan D → D.Work → Type 0
+  LeadsTo (Do done) work = done ≡ work
+  LeadsTo (Read kind name next) work = (value : D.Value kind) × SeesValue kind name value × LeadsTo (next value) work
+  LeadsTo (Take kind name bytes next) work = (value : D.Value kind) × HoldsWithin D kind bytes value × LeadsTo (next value) work
+
   -- this part of the plan looks for the file of that name, of that kind
   abbrev pub LooksFor : (kind : D.Kind) (name : List ℕ) → Plan D → Type 0
   LooksFor kind name (Read here named next) = (here ≡ kind) × (named ≡ name)

@@ -1,12 +1,12 @@
 //! What plans come to, for every program. Each law is what a function that does nothing ensures, so that it is proved once,
 //! from a program's `lawful` alone. Behind each clause is a lemma of `proofs/`.
 
-ghost use Rattle.std.specs.Prelude.{◌≡◌, ℕ, List, Option, Result, Ok, Err};
+ghost use Rattle.std.specs.Prelude.{◌≡◌, ◌↔◌, ℕ, List, Option, Result, Ok, Err};
 ghost use Rattle.ags_plan.specs.Answer.{IsAnswer, TellsFiles};
 ghost use Rattle.ags_plan.specs.Loading.{Loads, LoadsFile};
 ghost use Rattle.ags_plan.specs.Outcome.{AbsentExactly, Ends, EndsExactly, LongExactly, RefusedExactly, WorkExactly};
-ghost use Rattle.ags_plan.specs.Plan.{End, Plan, Read};
-ghost use Rattle.ags_plan.specs.Walk.{Told};
+ghost use Rattle.ags_plan.specs.Plan.{End, Plan, Read, WorkAt};
+ghost use Rattle.ags_plan.specs.Walk.{Agrees, EndsAt, LeadsTo, Tells, Told};
 
 use crate::program::Program;
 
@@ -53,4 +53,13 @@ pub fn plans_are_loaded_file_by_file<P: Program>()
         (value : P.definition.Value kind) (result : Result P.definition.Work (Option (End P.definition)))
         → LoadsFile P.definition told kind name (Ok value) → Loads P.definition told (next value) result
         → Loads P.definition told (Read kind name next) result }
+{}
+
+/// A walk ends in a work exactly where it comes past all files to it, over files that agree with what the shelf tells, and over
+/// told files.
+pub fn walks_lead_to_their_works<P: Program>()
+    ensures agrees { (told : Told) (plan : Plan P.definition) (work : P.definition.Work)
+        → EndsAt P.definition Agrees told plan (WorkAt work) ↔ LeadsTo P.definition Agrees told plan work }
+    ensures tells { (told : Told) (plan : Plan P.definition) (work : P.definition.Work)
+        → EndsAt P.definition Tells told plan (WorkAt work) ↔ LeadsTo P.definition Tells told plan work }
 {}

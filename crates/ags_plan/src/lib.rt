@@ -17,7 +17,7 @@ mod unloaded;
 pub use causes::{Cause, Stop};
 pub use laws::{
     command_lines_have_one_answer, content_decides, each_command_line_has_an_answer,
-    plans_are_loaded_file_by_file,
+    plans_are_loaded_file_by_file, walks_lead_to_their_works,
 };
 pub use loading::fetch_file;
 pub use program::Program;

@@ -1,13 +1,13 @@
 -- What `ags_main` says, from its content: command by command and status by status.
-use Rattle.std.proofs.Common.{◌≡◌, ℕ, List, ◌++◌, Option, Some, None, refl, ap, subst, ◌∙◌, inl, inr}
+use Rattle.std.proofs.Common.{◌≡◌, ℕ, List, ◌++◌, Option, Some, None, refl, sym, ap, subst, ◌∙◌, inl, inr}
 use Rattle.ags_outside.specs.ToldFile.{Stored}
 use Rattle.ags_outside.specs.Sink.{appended}
 use Rattle.ags_plan.specs.Plan.{Plan, End, AbsentAt, LongAt, RefusedAt, WorkAt}
-use Rattle.ags_plan.specs.Walk.{Told, Agrees, Tells, RefusesWithin, EndsAt, IsGiven}
+use Rattle.ags_plan.specs.Walk.{Told, Agrees, Tells, RefusesWithin, EndsAt, LeadsTo, IsGiven}
 use Rattle.ags_plan.specs.Answer.{ComesWith, IsAnswer}
 use Rattle.ags_plan.specs.Outcome.{Answered, Ends, EndsExactly, FindsRefusal}
 use Rattle.ags_plan.proofs.WalkLemmas.{told_bytes, way_to_refused}
-use Rattle.ags_plan.proofs.WorkLemmas.{work_of_plan}
+use Rattle.ags_plan.proofs.WorkLemmas.{way_to_work}
 use Rattle.ags_plan.proofs.StatusLemmas.{refused_exactly, work_exactly}
 use Rattle.ags_asm.specs.Source.{Defines}
 use Rattle.ags_image.specs.Image.{PlacedWord}
@@ -45,29 +45,28 @@ done_work told plan (WorkAt work) text ends comes = (work, ends, comes)
 
 -- the listing of a told source
 listing_told : (told : Told) (name bytes text : List ℕ) (work : Work) → told name ≡ Stored bytes
-    → EndsAt program Agrees told (command_plan standard_machine (Assemble name)) (WorkAt work) → Makes work text Done
+    → LeadsTo program Agrees told (command_plan standard_machine (Assemble name)) work → Makes work text Done
     → (defined : List (Option PlacedWord)) × Defines bytes defined × (text ≡ listing bytes defined)
-listing_told told name bytes text work is ends =
-    work_of_plan program Agrees told (λ work. Makes work text Done → (defined : List (Option PlacedWord)) × Defines bytes defined × (text ≡ listing bytes defined))
-    (command_plan standard_machine (Assemble name)) work (λ assembly sees made.
-    let here = told_bytes (told name) bytes sees.0 is sees.1 in (
+listing_told told name bytes text work is (assembly, (there, agrees, holds), same) makes =
+    let here = told_bytes (told name) bytes there is agrees in
+    let made : Makes (ListSource assembly) text Done = subst (λ (w : Work). Makes w text Done) (sym same) makes in (
       assembly.defined,
-      subst (λ (b : List ℕ). Defines b assembly.defined) here sees.2.holds.defines,
-      made.0 ∙ ap (λ (b : List ℕ). listing b assembly.defined) (sees.2.holds.bytes_are ∙ here),
-    )) ends
+      subst (λ (b : List ℕ). Defines b assembly.defined) here holds.holds.defines,
+      made.0 ∙ ap (λ (b : List ℕ). listing b assembly.defined) (holds.holds.bytes_are ∙ here),
+    )
 
 -- the play of a told script on a told source
 play_told : (told : Told) (source script source_bytes script_bytes text : List ℕ) (work : Work) → told source ≡ Stored source_bytes → told script ≡ Stored script_bytes
-    → EndsAt program Agrees told (command_plan standard_machine (Run source script)) (WorkAt work) → Makes work text Done → IsPlayOn standard_machine source_bytes script_bytes text
-play_told told source script source_bytes script_bytes text work is too ends =
-    work_of_plan program Agrees told (λ work. Makes work text Done → IsPlayOn standard_machine source_bytes script_bytes text)
-    (command_plan standard_machine (Run source script)) work (λ assembly sees commands seen made. record {
+    → LeadsTo program Agrees told (command_plan standard_machine (Run source script)) work → Makes work text Done → IsPlayOn standard_machine source_bytes script_bytes text
+play_told told source script source_bytes script_bytes text work is too (assembly, (there, agrees, holds), (commands, (read, seen, has), same)) makes =
+    let made : Makes (PlayScript standard_machine assembly.defined commands) text Done = subst (λ (w : Work). Makes w text Done) (sym same) makes in
+    record {
       defined = assembly.defined;
-      defines = subst (λ (b : List ℕ). Defines b assembly.defined) (told_bytes (told source) source_bytes sees.0 is sees.1) sees.2.holds.defines;
+      defines = subst (λ (b : List ℕ). Defines b assembly.defined) (told_bytes (told source) source_bytes there is agrees) holds.holds.defines;
       commands = commands;
-      is_script = subst (λ (b : List ℕ). IsScript standard_machine b commands) (told_bytes (told script) script_bytes seen.0 too seen.1) seen.2.holds;
+      is_script = subst (λ (b : List ℕ). IsScript standard_machine b commands) (told_bytes (told script) script_bytes read too seen) has.holds;
       play = made.0;
-    }) ends
+    }
 
 -- ---- a command line that is no form
 
@@ -96,7 +95,8 @@ module _ (told : Told) (arguments : List (List ℕ)) (old new : Option (List ℕ
       let (work, found, makes) = done_work told (plan_of arguments) so.answer.end so.text so.answer.ends so.answer.comes in
       let ends_so : EndsAt program Agrees told (command_plan standard_machine (Assemble name)) (WorkAt work) =
       subst (λ (a : List (List ℕ)). EndsAt program Agrees told (plan_of a) (WorkAt work)) asked found in
-      let (defined, defines, text_is) = listing_told told name bytes so.text work known ends_so makes in
+      let way = way_to_work program Agrees told (command_plan standard_machine (Assemble name)) work ends_so in
+      let (defined, defines, text_is) = listing_told told name bytes so.text work known way makes in
       (defined, defines, so.sent ∙ ap (λ (o : Option (List ℕ)). appended o so.text) holds ∙ ap (λ (t : List ℕ). Some (held ++ t)) text_is)
 
   pub plays_what_is_defined : PlaysWhatIsDefined told arguments old new result
@@ -105,7 +105,8 @@ module _ (told : Told) (arguments : List (List ℕ)) (old new : Option (List ℕ
       let (work, found, makes) = done_work told (plan_of arguments) so.answer.end so.text so.answer.ends so.answer.comes in
       let ends_so : EndsAt program Agrees told (command_plan standard_machine (Run source script)) (WorkAt work) =
       subst (λ (a : List (List ℕ)). EndsAt program Agrees told (plan_of a) (WorkAt work)) asked found in
-      (so.text, play_told told source script source_bytes script_bytes so.text work known too ends_so makes, so.sent ∙ ap (λ (o : Option (List ℕ)). appended o so.text) holds)
+      let way = way_to_work program Agrees told (command_plan standard_machine (Run source script)) work ends_so in
+      (so.text, play_told told source script source_bytes script_bytes so.text work known too way makes, so.sent ∙ ap (λ (o : Option (List ℕ)). appended o so.text) holds)
 
   -- what is exact of a status is so of the run's end
   exactly_with : (text : List ℕ) (status : Status) → EndsExactly program old new result text status → EndsWith result status

@@ -3,8 +3,8 @@ use Rattle.std.specs.Prelude.{◌≡◌, ◌≢◌, ◌⊎◌, ℕ, List, Option
 use Rattle.std.proofs.Common.{refl, sym, ap, subst, ◌∙◌, inl, inr}
 use Rattle.ags_plan.specs.declared.causes.Cause.TheVariants as cause
 use Rattle.ags_plan.specs.Plan.{WorkAt}
-use Rattle.ags_plan.specs.Walk.{Told, Agrees, EndsAt}
-use Rattle.ags_plan.proofs.WorkLemmas.{EachWork, work_of_plan}
+use Rattle.ags_plan.specs.Walk.{Told, Agrees, EndsAt, LeadsTo}
+use Rattle.ags_plan.proofs.WorkLemmas.{way_to_work}
 use Rattle.ags_plan.specs.Lawful.{AreReadable, AreDoable, AreApart, IsLawful}
 use Rattle.ags_asm.specs.declared.source_error.SourceError.{SourceError}
 use Rattle.ags_asm.specs.Source.{Defines, placed_words}
@@ -87,17 +87,17 @@ IsAskedFor NoForm = Unit {0}
 IsAskedFor (ListSource assembly) = Unit {0}
 IsAskedFor (PlayScript machine defined commands) = IsMachine machine × ((bytes : List ℕ) × Defines bytes defined)
 
--- of each work of a command's plan, and it isn't the one that says that the arguments are no form
-each_asked : (told : Told) (machine : Machine) (command : Command) → IsMachine machine
-    → EachWork program Agrees told (λ work. IsAskedFor work × (work ≢ NoForm)) (command_plan machine command)
+-- of the work that a command leads to, and it isn't the one that says that the arguments are no form
+asked_on_way : (told : Told) (machine : Machine) (command : Command) (work : Work) → IsMachine machine
+    → LeadsTo program Agrees told (command_plan machine command) work → IsAskedFor work × (work ≢ NoForm)
 unfolding IsAskedFor
-each_asked told machine (Assemble name) is = λ assembly sees. (tt, λ same. absurd cc)
-each_asked told machine (Run name script) is = λ assembly sees commands seen. ((is, (sees.0, sees.2.holds.defines)), λ same. absurd cc)
+asked_on_way told machine (Assemble name) work is (assembly, sees, same) = (subst IsAskedFor same tt, λ none. absurd cc)
+asked_on_way told machine (Run name script) work is (assembly, (bytes, agrees, holds), (commands, seen, same)) =
+    (subst IsAskedFor same (is, (bytes, holds.holds.defines)), λ none. absurd cc)
 
 asked_by_command : (told : Told) (machine : Machine) (command : Command) (work : Work) → IsMachine machine
     → EndsAt program Agrees told (command_plan machine command) (WorkAt work) → IsAskedFor work × (work ≢ NoForm)
-asked_by_command told machine command work is ends =
-    work_of_plan program Agrees told (λ work. IsAskedFor work × (work ≢ NoForm)) (command_plan machine command) work (each_asked told machine command is) ends
+asked_by_command told machine command work is ends = asked_on_way told machine command work is (way_to_work program Agrees told (command_plan machine command) work ends)
 
 -- no command comes to the work that says that the arguments are no form
 pub comes_to_no_form : (told : Told) (command : Command) → EndsAt program Agrees told (asked_plan (Some command)) (WorkAt NoForm) → ⊥
