@@ -22,8 +22,3 @@ pub use answer_laws::{
 };
 pub use main_call::ags_main;
 pub use status::Status;
-
-#[cfg(test)]
-mod fault_tests;
-#[cfg(test)]
-mod tests;

@@ -1,20 +1,14 @@
 //! The program over files in memory. The expected lines are typed by hand from docs/SOURCE.md, docs/MACHINE.md and
 //! docs/SCRIPT.md.
 
-use super::*;
+use crate::command_lines::arguments_of;
 use ags_outside::{SteadyShelf, SteadySink};
-use std::alloc::Global;
+use ags_top::{
+    Status, ags_main, arguments_ask_for_one_command, arguments_have_one_answer,
+    each_command_has_an_answer,
+};
 use std::process::Abort;
 use std::test::Fail;
-
-/// The arguments of a command line.
-fn arguments_of(alloc: Global, line: &str) -> Result<Vec<String>, Fail> {
-    let mut arguments = Vec::new(alloc);
-    for argument in line.split_whitespace() {
-        arguments.push(String::from_str(alloc, argument)?)?;
-    }
-    Ok(arguments)
-}
 
 /// Runs a command line over these files, into a sink that takes so many bytes at once, and compares what comes.
 fn compare_over(

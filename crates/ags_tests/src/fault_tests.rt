@@ -3,8 +3,9 @@
 ghost use Rattle.std.specs.Prelude.{None};
 ghost use Rattle.ags_outside.specs.ToldFile.{Untold};
 
-use super::*;
+use crate::command_lines::arguments_of;
 use ags_outside::{Pull, PutDone, Shelf, Sink, SteadyShelf, SteadySink};
+use ags_top::{Status, ags_main};
 use std::alloc::Global;
 use std::process::Abort;
 use std::test::Fail;
@@ -70,15 +71,6 @@ impl Sink for FailingSink {
         }
         PutDone::Took(piece.len())
     }
-}
-
-/// The arguments of a command line.
-fn arguments_of(alloc: Global, line: &str) -> Result<Vec<String>, Fail> {
-    let mut arguments = Vec::new(alloc);
-    for argument in line.split_whitespace() {
-        arguments.push(String::from_str(alloc, argument)?)?;
-    }
-    Ok(arguments)
 }
 
 /// Runs a command line where the file of one name can't be read, and compares what comes.

@@ -1,0 +1,10 @@
+//! Tests of the whole program: command lines over files in memory, and over outsides that fail. They stand in a crate of
+//! their own, so that the program's proofs aren't done a second time for them.
+#![tactic(auto)]
+
+#[cfg(test)]
+mod answer_tests;
+#[cfg(test)]
+mod command_lines;
+#[cfg(test)]
+mod fault_tests;
