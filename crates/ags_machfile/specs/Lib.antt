@@ -1,0 +1,6 @@
+-- what the public contracts cite
+pub mod Value
+pub mod OrderTable
+pub mod PortTable
+pub mod MachineFile
+pub mod FaultText

@@ -1,0 +1,16 @@
+//! Machine files: one TOML document that replaces the standard machine's codes, times and registers (docs/MACHINE.md,
+//! Machine files). The bytes are read by the kit's `toml` alone; the tests on the document are this crate's. It stands on
+//! `ags_ports` for what a machine is and on `ags_isa` for the orders. `read` is exactly the definition `machine_of`: the
+//! machine that the file gives, or the first test that it fails.
+#![tactic(auto)]
+
+mod keys;
+mod mach_error;
+mod order_tables;
+mod port_tables;
+mod reading;
+mod values;
+
+pub use keys::Key;
+pub use mach_error::MachError;
+pub use reading::{MACHINE_LIMIT, read};

@@ -1,0 +1,39 @@
+//! What the values of a document say.
+
+ghost use Rattle.std.specs.Prelude.{◌≡◌, ◌≤◌, option_map, IfSome};
+ghost use Rattle.toml.specs.Data.{get_member};
+ghost use Rattle.toml.specs.View.{view, table_view};
+ghost use Rattle.ags_machfile.specs.Value.{whole_number, address_given};
+
+use toml::{Table, Value};
+
+/// The greatest address.
+const LAST_ADDRESS: u32 = 4095;
+
+/// The value at a key of a table.
+pub(crate) fn value_at<'a>(table: &'a Table, key: &str) -> Option<&'a Value>
+    ensures { option_map (λ value. view value.now) result ≡ get_member key.now (table_view table.now) }
+{
+    table.get(key)
+}
+
+/// The whole number of a value within limits.
+pub(crate) fn whole_number(value: &Value, least: u32, most: u32) -> Option<u32>
+    ensures number { result ≡ whole_number least most (view value.now) }
+    ensures most { IfSome result (λ number. number ≤ most) }
+{
+    let number = u32::try_from(value.as_integer()?).ok()?;
+    if least <= number && number <= most {
+        Some(number)
+    } else {
+        None
+    }
+}
+
+/// The address that a value gives.
+pub(crate) fn address_given(value: &Value) -> Option<u16>
+    ensures { result ≡ address_given (view value.now) }
+{
+    let address = whole_number(value, 0, LAST_ADDRESS)?;
+    Some(address as u16)
+}
