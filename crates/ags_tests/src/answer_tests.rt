@@ -11,7 +11,7 @@ use std::process::Abort;
 use std::test::Fail;
 
 /// Runs a command line over these files, into a sink that takes so many bytes at once, and compares what comes.
-fn compare_over(
+pub(crate) fn compare_over(
     rt: &(impl AllocGlobal + Abort),
     files: &[(&str, &[u8])],
     line: &str,
@@ -83,6 +83,7 @@ fn refuses_arguments_and_files(rt: HostRuntime) -> Result<(), Fail> {
         "workload 0",
         "workload 007",
         "assemble S M N",
+        "assemble S M N O",
         "run",
         "run S",
         "run S P M N",
@@ -122,6 +123,7 @@ fn numbers_statuses(rt: HostRuntime) {
         (Status::AbsentFile, 4),
         (Status::ReadFault, 5),
         (Status::WriteFault, 6),
+        (Status::BadMachine, 7),
         (Status::BadText, 9),
         (Status::LongFile, 10),
         (Status::NoMemory, 11),

@@ -8,3 +8,5 @@ mod answer_tests;
 mod command_lines;
 #[cfg(test)]
 mod fault_tests;
+#[cfg(test)]
+mod machine_tests;

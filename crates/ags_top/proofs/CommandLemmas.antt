@@ -1,34 +1,48 @@
--- Commands and their arguments. Behind `arguments_ask_for_one_command` of `answer_laws.rt` stand
---     command_of-arguments_of   a command's arguments ask for it
---     arguments_of-command_of   and no others do
-use Rattle.std.proofs.Common.{◌≡◌, ℕ, Bool, true, false, List, [], ◌∷◌, Option, Some, None, codes, refl, sym, ap, ◌∙◌}
+-- Command lines and their arguments. Behind `arguments_ask_for_one_command` of `answer_laws.rt` stand
+--     line_of-line_arguments   a command line's arguments ask for it
+--     line_arguments-line_of   and no others do
+use Rattle.std.proofs.Common.{◌≡◌, ℕ, Bool, true, false, List, [], ◌∷◌, ◌++◌, Option, Some, None, codes, refl, sym, ap, ◌∙◌}
 use Rattle.std.specs.Prelude.{if◌then◌else◌}
 use Rattle.std.specs.Str.{bytes_eq}
 use Rattle.std.proofs.lemmas.Slice.Eq.{bytes_eq-Decides}
-use Rattle.ags_top.specs.Command.{Command, Assemble, Run, arguments_of, one_name, two_names, Form, forms, command_named, command_of}
+use Rattle.ags_top.specs.Command.{Command, Assemble, Run, CommandLine, arguments_of, machine_argument, line_arguments, line_with, one_name, two_names, Form, forms, line_named, line_of}
 
-pub command_of-arguments_of : (command : Command) → command_of (arguments_of command) ≡ Some command
-command_of-arguments_of (Assemble source) = refl
-command_of-arguments_of (Run source script) = refl
+-- what stands behind a command's names is read back
+line_with-machine_argument : (command : Command) (machine : Option (List ℕ)) → line_with command (machine_argument machine) ≡ Some (record { command = command; machine = machine })
+line_with-machine_argument command None = refl
+line_with-machine_argument command (Some name) = refl
+
+pub line_of-line_arguments : (line : CommandLine) → line_of (line_arguments line) ≡ Some line
+line_of-line_arguments line = of_command line.command line.machine
+  where
+    of_command : (command : Command) (machine : Option (List ℕ)) → line_of (arguments_of command ++ machine_argument machine) ≡ Some (record { command = command; machine = machine })
+    of_command (Assemble source) machine = line_with-machine_argument (Assemble source) machine
+    of_command (Run source script) machine = line_with-machine_argument (Run source script) machine
+
+-- and nothing else asks for it
+of_line_with : (command : Command) (behind : List (List ℕ)) (line : CommandLine) → line_with command behind ≡ Some line → arguments_of command ++ behind ≡ line_arguments line
+of_line_with command [] line asked = let same : record { command = command; machine = None } ≡ line = cc in ap line_arguments same
+of_line_with command (name ∷ []) line asked = let same : record { command = command; machine = Some name } ≡ line = cc in ap line_arguments same
+of_line_with command (name ∷ other ∷ names) line asked = absurd cc
 
 -- a verb and names that are of this form are the arguments of what they ask for
 IsForm : Form → Type 0
-IsForm form = (names : List (List ℕ)) (command : Command) → form.command_of names ≡ Some command → form.verb ∷ names ≡ arguments_of command
+IsForm form = (names : List (List ℕ)) (line : CommandLine) → form.line_of names ≡ Some line → form.verb ∷ names ≡ line_arguments line
 
 of_one_name : (verb : List ℕ) (command : List ℕ → Command) → ((name : List ℕ) → arguments_of (command name) ≡ verb ∷ name ∷ [])
-    → IsForm (record { verb = verb; command_of = one_name command })
+    → IsForm (record { verb = verb; line_of = one_name command })
 unfolding IsForm
-of_one_name verb command arguments [] asked_for asked = absurd cc
-of_one_name verb command arguments (name ∷ []) asked_for asked = let same : command name ≡ asked_for = cc in sym (arguments name) ∙ ap arguments_of same
-of_one_name verb command arguments (name ∷ other ∷ names) asked_for asked = absurd cc
+of_one_name verb command arguments [] line asked = absurd cc
+of_one_name verb command arguments (name ∷ behind) line asked =
+    ap (λ (a : List (List ℕ)). a ++ behind) (sym (arguments name)) ∙ of_line_with (command name) behind line asked
 
 of_two_names : (verb : List ℕ) (command : List ℕ → List ℕ → Command) → ((name other : List ℕ) → arguments_of (command name other) ≡ verb ∷ name ∷ other ∷ [])
-    → IsForm (record { verb = verb; command_of = two_names command })
+    → IsForm (record { verb = verb; line_of = two_names command })
 unfolding IsForm
-of_two_names verb command arguments [] asked_for asked = absurd cc
-of_two_names verb command arguments (name ∷ []) asked_for asked = absurd cc
-of_two_names verb command arguments (name ∷ other ∷ []) asked_for asked = let same : command name other ≡ asked_for = cc in sym (arguments name other) ∙ ap arguments_of same
-of_two_names verb command arguments (name ∷ other ∷ third ∷ names) asked_for asked = absurd cc
+of_two_names verb command arguments [] line asked = absurd cc
+of_two_names verb command arguments (name ∷ []) line asked = absurd cc
+of_two_names verb command arguments (name ∷ other ∷ behind) line asked =
+    ap (λ (a : List (List ℕ)). a ++ behind) (sym (arguments name other)) ∙ of_line_with (command name other) behind line asked
 
 AreForms : List Form → Type 0
 AreForms [] = Unit {0}
@@ -39,20 +53,20 @@ unfolding AreForms
 are_forms = (of_one_name (codes "assemble") Assemble (λ name. refl), (of_two_names (codes "run") Run (λ name other. refl), tt))
 
 -- by whether it is a form's verb, and for the other forms
-by_verb : (form : Form) (others : List Form) (verb : List ℕ) (names : List (List ℕ)) (command : Command) (same : Bool) → IsForm form
-    → (command_named others verb names ≡ Some command → verb ∷ names ≡ arguments_of command) → bytes_eq verb form.verb ≡ same
-    → (if same then form.command_of names else command_named others verb names) ≡ Some command → verb ∷ names ≡ arguments_of command
+by_verb : (form : Form) (others : List Form) (verb : List ℕ) (names : List (List ℕ)) (line : CommandLine) (same : Bool) → IsForm form
+    → (line_named others verb names ≡ Some line → verb ∷ names ≡ line_arguments line) → bytes_eq verb form.verb ≡ same
+    → (if same then form.line_of names else line_named others verb names) ≡ Some line → verb ∷ names ≡ line_arguments line
 unfolding IsForm
-by_verb form others verb names command true is later test asked = ap (λ (v : List ℕ). v ∷ names) ((bytes_eq-Decides verb form.verb).0 test) ∙ is names command asked
-by_verb form others verb names command false is later test asked = later asked
+by_verb form others verb names line true is later test asked = ap (λ (v : List ℕ). v ∷ names) ((bytes_eq-Decides verb form.verb).0 test) ∙ is names line asked
+by_verb form others verb names line false is later test asked = later asked
 
-by_forms : (known : List Form) (verb : List ℕ) (names : List (List ℕ)) (command : Command) → AreForms known → command_named known verb names ≡ Some command
-    → verb ∷ names ≡ arguments_of command
+by_forms : (known : List Form) (verb : List ℕ) (names : List (List ℕ)) (line : CommandLine) → AreForms known → line_named known verb names ≡ Some line
+    → verb ∷ names ≡ line_arguments line
 unfolding AreForms
-by_forms [] verb names command are asked = absurd cc
-by_forms (form ∷ others) verb names command are asked =
-    by_verb form others verb names command (bytes_eq verb form.verb) are.0 (λ later. by_forms others verb names command are.1 later) refl asked
+by_forms [] verb names line are asked = absurd cc
+by_forms (form ∷ others) verb names line are asked =
+    by_verb form others verb names line (bytes_eq verb form.verb) are.0 (λ later. by_forms others verb names line are.1 later) refl asked
 
-pub arguments_of-command_of : (arguments : List (List ℕ)) (command : Command) → command_of arguments ≡ Some command → arguments ≡ arguments_of command
-arguments_of-command_of [] command asked = absurd cc
-arguments_of-command_of (verb ∷ names) command asked = by_forms forms verb names command are_forms asked
+pub line_arguments-line_of : (arguments : List (List ℕ)) (line : CommandLine) → line_of arguments ≡ Some line → arguments ≡ line_arguments line
+line_arguments-line_of [] line asked = absurd cc
+line_arguments-line_of (verb ∷ names) line asked = by_forms forms verb names line are_forms asked

@@ -1,51 +1,73 @@
--- The commands, by the arguments of a command line: a verb, and the names of files behind it.
-use Rattle.std.specs.Prelude.{◌≡◌, ℕ, List, [], ◌∷◌, Option, Some, None, codes, if◌then◌else◌}
+-- The commands, by the arguments of a command line: a verb, the names of files behind it, and, last, the name of a machine file
+-- where one is given.
+use Rattle.std.specs.Prelude.{◌≡◌, ℕ, List, [], ◌∷◌, ◌++◌, Option, Some, None, codes, if◌then◌else◌}
 use Rattle.std.specs.Str.{bytes_eq}
 
--- what a command line asks for
+-- what is done
 pub data Command : Type 0 where
   -- the listing of the source of this name
   Assemble : (source : List ℕ) → Command
   -- what the script of this name shows of the machine that begins with the words of that source
   Run : (source script : List ℕ) → Command
 
--- the arguments that ask for it
+-- What a command line asks for: a command, and the name of the file of the machine that it is for, or nothing, where it is for
+-- the standard machine.
+pub record CommandLine : Type 0 where
+  pub command : Command
+  pub machine : Option (List ℕ)
+
+-- the arguments that ask for a command on the standard machine
 abbrev pub arguments_of : Command → List (List ℕ)
 arguments_of (Assemble source) = codes "assemble" ∷ source ∷ []
 arguments_of (Run source script) = codes "run" ∷ source ∷ script ∷ []
 
+-- the argument that names a machine file, where one is named
+abbrev pub machine_argument : Option (List ℕ) → List (List ℕ)
+machine_argument None = []
+machine_argument (Some name) = name ∷ []
+
+-- the arguments of a command line: those of its command, and the machine file's behind them
+abbrev pub line_arguments : CommandLine → List (List ℕ)
+line_arguments line = arguments_of line.command ++ machine_argument line.machine
+
+-- a command with what stands behind its names: nothing, or a machine file's name
+abbrev pub line_with : Command → List (List ℕ) → Option CommandLine
+line_with command [] = Some (record { command = command; machine = None })
+line_with command (machine ∷ []) = Some (record { command = command; machine = Some machine })
+line_with command _ = None
+
 -- a command of one name
-abbrev pub one_name : (List ℕ → Command) → List (List ℕ) → Option Command
-one_name command (name ∷ []) = Some (command name)
+abbrev pub one_name : (List ℕ → Command) → List (List ℕ) → Option CommandLine
+one_name command (name ∷ behind) = line_with (command name) behind
 one_name command _ = None
 
 -- a command of two names
-abbrev pub two_names : (List ℕ → List ℕ → Command) → List (List ℕ) → Option Command
-two_names command (name ∷ other ∷ []) = Some (command name other)
+abbrev pub two_names : (List ℕ → List ℕ → Command) → List (List ℕ) → Option CommandLine
+two_names command (name ∷ other ∷ behind) = line_with (command name other) behind
 two_names command _ = None
 
--- A form: a verb, and the command that the names behind it ask for.
+-- A form: a verb, and what the names behind it ask for.
 pub record Form : Type 0 where
   pub verb : List ℕ
-  pub command_of : List (List ℕ) → Option Command
+  pub line_of : List (List ℕ) → Option CommandLine
 
 -- the forms, one for each command
 abbrev pub forms : List Form
 forms =
-    record { verb = codes "assemble"; command_of = one_name Assemble }
-    ∷ record { verb = codes "run"; command_of = two_names Run }
+    record { verb = codes "assemble"; line_of = one_name Assemble }
+    ∷ record { verb = codes "run"; line_of = two_names Run }
     ∷ []
 
--- the command of a verb and the names behind it, by the form of that verb
-abbrev pub command_named : List Form → (verb : List ℕ) (names : List (List ℕ)) → Option Command
-command_named [] verb names = None
-command_named (form ∷ others) verb names = if bytes_eq verb form.verb then form.command_of names else command_named others verb names
+-- what a verb and the names behind it ask for, by the form of that verb
+abbrev pub line_named : List Form → (verb : List ℕ) (names : List (List ℕ)) → Option CommandLine
+line_named [] verb names = None
+line_named (form ∷ others) verb names = if bytes_eq verb form.verb then form.line_of names else line_named others verb names
 
--- the command that a command line asks for, by its arguments, and nothing where they are none of the forms
-abbrev pub command_of : List (List ℕ) → Option Command
-command_of [] = None
-command_of (verb ∷ names) = command_named forms verb names
+-- what a command line asks for, by its arguments, and nothing where they are none of the forms
+abbrev pub line_of : List (List ℕ) → Option CommandLine
+line_of [] = None
+line_of (verb ∷ names) = line_named forms verb names
 
 -- the arguments are none of the forms
 abbrev pub AreNoForm : List (List ℕ) → Type 0
-AreNoForm arguments = (command : Command) → arguments ≡ arguments_of command → ⊥
+AreNoForm arguments = (line : CommandLine) → arguments ≡ line_arguments line → ⊥

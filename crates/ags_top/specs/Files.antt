@@ -1,8 +1,11 @@
 -- The kinds of files that commands read: how long each may be, what it holds, and when it is refused, with which line and status.
-use Rattle.std.specs.Prelude.{◌≡◌, ℕ, List, Option}
+use Rattle.std.specs.Prelude.{◌≡◌, ℕ, List, Option, Ok, Err}
 use Rattle.ags_asm.specs.declared.source_error.SourceError.{SourceError}
 use Rattle.ags_asm.specs.Source.{Defines, IsFaulty}
 use Rattle.ags_image.specs.Image.{PlacedWord}
+use Rattle.ags_machfile.specs.declared.mach_error.MachError.{MachError}
+use Rattle.ags_machfile.specs.declared.reading.TheConstants.{MACHINE_LIMIT}
+use Rattle.ags_machfile.specs.MachineFile.{machine_of}
 use Rattle.ags_ports.specs.declared.machines.Machine.{Machine}
 use Rattle.ags_run.specs.declared.plain.Plain.{Plain}
 use Rattle.ags_run.specs.declared.script_error.ScriptKind.{ScriptKind}
@@ -11,11 +14,12 @@ use Rattle.ags_run.specs.Script.{IsScript, IsFaultyScript}
 use Rattle.ags_run.specs.declared.script.TheConstants.{SCRIPT_LIMIT}
 use Rattle.ags_top.specs.declared.files.TheConstants.{SOURCE_LIMIT}
 use Rattle.ags_top.specs.declared.status.Status.{Status}
-use Rattle.ags_top.specs.declared.status.Status.TheVariants.{BadSource, BadText}
-use Rattle.ags_top.specs.Text.{fault_line, script_fault_line}
+use Rattle.ags_top.specs.declared.status.Status.TheVariants.{BadMachine, BadSource, BadText}
+use Rattle.ags_top.specs.Text.{fault_line, machine_fault_line, script_fault_line}
 
--- a source; or a script for a machine
+-- a machine file; a source; or a script for a machine
 pub data Kind : Type 0 where
+  MachineFile : Kind
   Source : Kind
   Script : (machine : Machine) → Kind
 
@@ -26,11 +30,13 @@ pub record Assembly : Type 0 where
 
 -- what a file of a kind holds
 abbrev pub Value : Kind → Type 0
+Value MachineFile = Machine
 Value Source = Assembly
 Value (Script machine) = List Plain
 
 -- how many bytes a file of a kind has at most
 abbrev pub limit_of : Kind → ℕ
+limit_of MachineFile = MACHINE_LIMIT
 limit_of Source = SOURCE_LIMIT
 limit_of (Script machine) = SCRIPT_LIMIT
 
@@ -41,8 +47,15 @@ pub record HoldsSource (bytes : List ℕ) (assembly : Assembly) : Type 0 where
 
 -- the bytes hold this value
 abbrev pub Holds : (kind : Kind) → (bytes : List ℕ) → Value kind → Type 0
+Holds MachineFile bytes machine = machine_of bytes ≡ Ok machine
 Holds Source bytes assembly = HoldsSource bytes assembly
 Holds (Script machine) bytes commands = IsScript machine bytes commands
+
+-- the bytes are no machine file, and this is the line of the first test that they fail
+pub record RefusesMachine (bytes line : List ℕ) : Type 0 where
+  pub error : MachError
+  pub faulty : machine_of bytes ≡ Err error
+  pub line_is : line ≡ machine_fault_line error
 
 -- the bytes are a source with a fault, and this is the line of its first one
 pub record RefusesSource (bytes line : List ℕ) : Type 0 where
@@ -59,10 +72,12 @@ pub record RefusesScript (machine : Machine) (bytes line : List ℕ) : Type 0 wh
 
 -- the bytes are refused with this line
 abbrev pub Refuses : (kind : Kind) → (bytes line : List ℕ) → Type 0
+Refuses MachineFile bytes line = RefusesMachine bytes line
 Refuses Source bytes line = RefusesSource bytes line
 Refuses (Script machine) bytes line = RefusesScript machine bytes line
 
 -- the status of a refused file
 abbrev pub refused_status : Kind → Status
+refused_status MachineFile = BadMachine
 refused_status Source = BadSource
 refused_status (Script machine) = BadText

@@ -4,8 +4,8 @@ use Rattle.ags_plan.specs.Plan.{Definition, Plan, Do, Read}
 use Rattle.ags_ports.specs.declared.machines.Machine.{Machine}
 use Rattle.ags_ports.specs.Machine.{standard_machine}
 use Rattle.ags_top.specs.declared.status.Status.{Status}
-use Rattle.ags_top.specs.Command.{Command, Assemble, Run, command_of}
-use Rattle.ags_top.specs.Files.{Kind, Source, Script, Value, limit_of, Holds, Refuses, refused_status}
+use Rattle.ags_top.specs.Command.{Command, Assemble, Run, CommandLine, line_of}
+use Rattle.ags_top.specs.Files.{Kind, MachineFile, Source, Script, Value, limit_of, Holds, Refuses, refused_status}
 use Rattle.ags_top.specs.Status.{cause_of, stop_status}
 use Rattle.ags_top.specs.Work.{Work, NoForm, ListSource, PlayScript, Makes}
 
@@ -30,11 +30,16 @@ command_plan machine (Assemble source) = Read Source source (λ assembly. Do (Li
 command_plan machine (Run source script) =
     Read Source source (λ assembly. Read (Script machine) script (λ commands. Do (PlayScript machine assembly.defined commands)))
 
--- what is asked for, on the standard machine: where it is no command, that is said
-abbrev pub asked_plan : Option Command → Plan program
+-- what is read and done on the machine of a file of that name, or on the standard one, where none is named
+abbrev pub plan_on : Option (List ℕ) → (Machine → Plan program) → Plan program
+plan_on None next = next standard_machine
+plan_on (Some name) next = Read MachineFile name next
+
+-- what is asked for: where the arguments are no form, that is said
+abbrev pub asked_plan : Option CommandLine → Plan program
 asked_plan None = Do NoForm
-asked_plan (Some command) = command_plan standard_machine command
+asked_plan (Some line) = plan_on line.machine (λ machine. command_plan machine line.command)
 
 -- what a command line asks for, by its arguments
 abbrev pub plan_of : List (List ℕ) → Plan program
-plan_of arguments = asked_plan (command_of arguments)
+plan_of arguments = asked_plan (line_of arguments)

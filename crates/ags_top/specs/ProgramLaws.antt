@@ -1,5 +1,5 @@
 -- That the program's definition is lawful: its files mean one thing each, and its works make one text each.
-use Rattle.std.specs.Prelude.{◌≡◌, ◌≢◌, ◌⊎◌, ℕ, List, Option, Some, None}
+use Rattle.std.specs.Prelude.{◌≡◌, ◌≢◌, ◌⊎◌, ℕ, List, Option, Some, None, Result, Ok, Err}
 use Rattle.std.proofs.Common.{refl, sym, ap, subst, ◌∙◌, inl, inr}
 use Rattle.ags_plan.specs.declared.causes.Cause.TheVariants as cause
 use Rattle.ags_plan.specs.Plan.{WorkAt}
@@ -13,6 +13,8 @@ use Rattle.ags_asm.proofs.MeaningLemmas as source
 use Rattle.ags_asm.proofs.MemoryLemmas.{words_of_memory}
 use Rattle.ags_image.specs.Image.{PlacedWord, IsImageOf}
 use Rattle.ags_image.proofs.ImageLaws.{one_image, one_word_a_place, some_image}
+use Rattle.ags_machfile.specs.declared.mach_error.MachError.{MachError}
+use Rattle.ags_machfile.specs.MachineFile.{machine_of}
 use Rattle.ags_ports.specs.declared.machines.Machine.{Machine}
 use Rattle.ags_ports.specs.Machine.{IsMachine, standard_machine}
 use Rattle.ags_ports.proofs.MachineLemmas.{IsMachine-standard}
@@ -25,18 +27,27 @@ use Rattle.ags_run.proofs.PlayLemmas.{one_play, play_runs, some_play}
 use Rattle.ags_run.proofs.ScriptLemmas as script
 use Rattle.ags_top.specs.declared.status.Status.{Status}
 use Rattle.ags_top.specs.declared.status.Status.TheVariants.{Done, BadWords, LongFile}
-use Rattle.ags_top.specs.Command.{Command, Assemble, Run, command_of}
-use Rattle.ags_top.specs.Files.{Kind, Source, Script, Assembly, Value, HoldsSource, Holds, Refuses, refused_status}
+use Rattle.ags_top.specs.Command.{Command, Assemble, Run, CommandLine, line_of}
+use Rattle.ags_top.specs.Files.{Kind, MachineFile, Source, Script, Assembly, Value, HoldsSource, Holds, Refuses, refused_status}
 use Rattle.ags_top.specs.Listing.{listing}
-use Rattle.ags_top.specs.Program.{program, command_plan, asked_plan, plan_of}
+use Rattle.ags_top.specs.Program.{program, command_plan, plan_on, asked_plan, plan_of}
 use Rattle.ags_top.specs.Status.{cause_of}
-use Rattle.ags_top.specs.Text.{words_line, fault_line, script_fault_line}
+use Rattle.ags_top.specs.Text.{words_line, fault_line, machine_fault_line, script_fault_line}
 use Rattle.ags_top.specs.Work.{Work, NoForm, ListSource, PlayScript, IsPlayOf, Makes}
 
 -- ---- files
 
+-- a machine file's bytes give a machine, or fail a test
+machine_or_fault : (read : Result Machine MachError) → ((machine : Machine) × (read ≡ Ok machine)) ⊎ ((error : MachError) × (read ≡ Err error))
+machine_or_fault (Ok machine) = inl (machine, refl)
+machine_or_fault (Err error) = inr (error, refl)
+
 -- a file of a kind holds something, or is refused
 some_reading : (kind : Kind) (bytes : List ℕ) → ((value : Value kind) × Holds kind bytes value) ⊎ ((line : List ℕ) × Refuses kind bytes line)
+some_reading MachineFile bytes = elim (machine_or_fault (machine_of bytes)) [
+  | inl (machine, is) ↦ inl (machine, is)
+  | inr (error, faulty) ↦ inr (machine_fault_line error, record { error = error; faulty = faulty; line_is = refl })
+]
 some_reading Source bytes = elim (source.each_means bytes) [
   | inl (defined, defines) ↦ inl (record { bytes = bytes; defined = defined }, record { bytes_are = refl; defines = defines })
   | inr (error, faulty) ↦ inr (fault_line error, record { error = error; faulty = faulty; line_is = refl })
@@ -53,6 +64,7 @@ one_assembly bytes one other first second =
     ∙ ap (λ (d : List (Option PlacedWord)). record { bytes = other.bytes; defined = d }) (source.one_meaning bytes one.defined other.defined first.defines second.defines)
 
 one_reading : (kind : Kind) (bytes : List ℕ) (one other : Value kind) → Holds kind bytes one → Holds kind bytes other → one ≡ other
+one_reading MachineFile bytes one other first second = cc
 one_reading Source bytes one other first second = one_assembly bytes one other first second
 one_reading (Script machine) bytes one other first second = script.one_script machine bytes one other first second
 
@@ -61,6 +73,9 @@ same_line : (line other : ℕ) (kind another : ScriptKind) → line ≡ other �
 same_line line other kind another lines kinds = ap (λ (n : ℕ). script_fault_line (At n kind)) lines ∙ ap (λ (k : ScriptKind). script_fault_line (At other k)) kinds
 
 one_refusal : (kind : Kind) (bytes line other : List ℕ) → Refuses kind bytes line → Refuses kind bytes other → line ≡ other
+one_refusal MachineFile bytes line other first second =
+    let same : first.error ≡ second.error = cc in
+    first.line_is ∙ ap (λ (e : MachError). machine_fault_line e) same ∙ sym second.line_is
 one_refusal Source bytes line other first second =
     first.line_is ∙ ap (λ (e : SourceError). fault_line e) (source.one_fault bytes first.error second.error first.faulty second.faulty) ∙ sym second.line_is
 one_refusal (Script machine) bytes line other first second =
@@ -68,6 +83,7 @@ one_refusal (Script machine) bytes line other first second =
     first.line_is ∙ same_line first.number second.number first.kind second.kind same.0 same.1 ∙ sym second.line_is
 
 not_both : (kind : Kind) (bytes line : List ℕ) (value : Value kind) → Holds kind bytes value → Refuses kind bytes line → ⊥
+not_both MachineFile bytes line machine holds refuses = let faulty = refuses.faulty in absurd cc
 not_both Source bytes line assembly holds refuses = source.not_both bytes assembly.defined refuses.error holds.defines refuses.faulty
 not_both (Script machine) bytes line commands is refuses = script.not_faulty machine bytes commands refuses.number refuses.kind is refuses.faulty
 
@@ -80,6 +96,9 @@ are_readable = record {
 }
 
 -- ---- works
+
+IsMachine-machine_of : (bytes : List ℕ) (machine : Machine) → machine_of bytes ≡ Ok machine → IsMachine machine
+IsMachine-machine_of bytes machine is = ?
 
 -- what is so of a work in which a walk ends: its machine is one, and its words are a source's
 IsAskedFor : Work → Type 0
@@ -95,18 +114,22 @@ asked_on_way told machine (Assemble name) work is (assembly, sees, same) = (subs
 asked_on_way told machine (Run name script) work is (assembly, (bytes, agrees, holds), (commands, seen, same)) =
     (subst IsAskedFor same (is, (bytes, holds.holds.defines)), λ none. absurd cc)
 
-asked_by_command : (told : Told) (machine : Machine) (command : Command) (work : Work) → IsMachine machine
-    → EndsAt program Agrees told (command_plan machine command) (WorkAt work) → IsAskedFor work × (work ≢ NoForm)
-asked_by_command told machine command work is ends = asked_on_way told machine command work is (way_to_work program Agrees told (command_plan machine command) work ends)
+-- the same, of the work that a command line leads to
+asked_by_line : (told : Told) (machine : Option (List ℕ)) (command : Command) (work : Work)
+    → LeadsTo program Agrees told (plan_on machine (λ m. command_plan m command)) work → IsAskedFor work × (work ≢ NoForm)
+asked_by_line told None command work leads = asked_on_way told standard_machine command work IsMachine-standard leads
+asked_by_line told (Some name) command work (machine, (bytes, agrees, holds), leads) =
+    asked_on_way told machine command work (IsMachine-machine_of bytes machine holds.holds) leads
 
--- no command comes to the work that says that the arguments are no form
-pub comes_to_no_form : (told : Told) (command : Command) → EndsAt program Agrees told (asked_plan (Some command)) (WorkAt NoForm) → ⊥
-comes_to_no_form told command ends = (asked_by_command told standard_machine command NoForm IsMachine-standard ends).1 refl
+-- no command line comes to the work that says that the arguments are no form
+pub comes_to_no_form : (told : Told) (line : CommandLine) → EndsAt program Agrees told (asked_plan (Some line)) (WorkAt NoForm) → ⊥
+comes_to_no_form told line ends =
+    (asked_by_line told line.machine line.command NoForm (way_to_work program Agrees told (asked_plan (Some line)) NoForm ends)).1 refl
 
-asked_by : (told : Told) (asked : Option Command) (work : Work) → EndsAt program Agrees told (asked_plan asked) (WorkAt work) → IsAskedFor work
+asked_by : (told : Told) (asked : Option CommandLine) (work : Work) → EndsAt program Agrees told (asked_plan asked) (WorkAt work) → IsAskedFor work
 unfolding IsAskedFor
 asked_by told None work end = let same : work ≡ NoForm = cc in subst IsAskedFor (sym same) tt
-asked_by told (Some command) work ends = (asked_by_command told standard_machine command work IsMachine-standard ends).0
+asked_by told (Some line) work ends = (asked_by_line told line.machine line.command work (way_to_work program Agrees told (asked_plan (Some line)) work ends)).0
 
 -- words of a source have an image
 some_image_of : (bytes : List ℕ) (defined : List (Option PlacedWord)) → Defines bytes defined → (image : List (Option ℕ)) × IsImageOf (placed_words defined) image
@@ -141,8 +164,8 @@ one_making (PlayScript machine defined commands) text other status ended asked f
 
 are_doable : AreDoable program plan_of
 are_doable = record {
-  some = λ told arguments work ends. some_making work (asked_by told (command_of arguments) work ends);
-  one = λ told arguments work text other status ended ends first second. one_making work text other status ended (asked_by told (command_of arguments) work ends) first second;
+  some = λ told arguments work ends. some_making work (asked_by told (line_of arguments) work ends);
+  one = λ told arguments work text other status ended ends first second. one_making work text other status ended (asked_by told (line_of arguments) work ends) first second;
 }
 
 -- ---- statuses
@@ -170,14 +193,17 @@ not_long_work is = is
 
 not_refused_work : (kind : Kind) → IsWorkStatus (refused_status kind) → ⊥
 unfolding IsWorkStatus
+not_refused_work MachineFile is = is
 not_refused_work Source is = is
 not_refused_work (Script machine) is = is
 
 refused_of_content : (kind : Kind) → cause_of (refused_status kind) ≡ cause.Content
+refused_of_content MachineFile = refl
 refused_of_content Source = refl
 refused_of_content (Script machine) = refl
 
 refused_not_long : (kind : Kind) → refused_status kind ≢ LongFile
+refused_not_long MachineFile = λ is. absurd cc
 refused_not_long Source = λ is. absurd cc
 refused_not_long (Script machine) = λ is. absurd cc
 

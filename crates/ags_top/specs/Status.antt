@@ -5,7 +5,7 @@ use Rattle.ags_plan.specs.declared.causes.Cause.TheVariants as cause
 use Rattle.ags_plan.specs.declared.causes.Stop.{Stop}
 use Rattle.ags_plan.specs.declared.causes.Stop.TheVariants as stop
 use Rattle.ags_top.specs.declared.status.Status.{Status}
-use Rattle.ags_top.specs.declared.status.Status.TheVariants.{Done, BadSource, BadWords, AbsentFile, ReadFault, WriteFault, BadText, LongFile, NoMemory}
+use Rattle.ags_top.specs.declared.status.Status.TheVariants.{Done, BadSource, BadWords, AbsentFile, ReadFault, WriteFault, BadMachine, BadText, LongFile, NoMemory}
 
 -- the number with which the program ends
 abbrev pub number_of : Status → ℕ
@@ -15,6 +15,7 @@ number_of BadWords = 3
 number_of AbsentFile = 4
 number_of ReadFault = 5
 number_of WriteFault = 6
+number_of BadMachine = 7
 number_of BadText = 9
 number_of LongFile = 10
 number_of NoMemory = 11

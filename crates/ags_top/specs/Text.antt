@@ -2,12 +2,18 @@
 use Rattle.std.specs.Prelude.{ℕ, List, ◌++◌, codes}
 use Rattle.ags_asm.specs.declared.source_error.SourceError.{SourceError}
 use Rattle.ags_asm.specs.FaultText.{fault_text}
+use Rattle.ags_machfile.specs.declared.mach_error.MachError.{MachError}
+use Rattle.ags_machfile.specs.FaultText as machine
 use Rattle.ags_run.specs.declared.script_error.ScriptError.{ScriptError}
 use Rattle.ags_run.specs.FaultText.{error_text}
 
 -- the arguments are none of the forms
 abbrev pub words_line : List ℕ
 words_line = codes "WORDS\n"
+
+-- the machine file fails that test
+abbrev pub machine_fault_line : MachError → List ℕ
+machine_fault_line error = machine.fault_text error ++ codes "\n"
 
 -- the source has that fault
 abbrev pub fault_line : SourceError → List ℕ

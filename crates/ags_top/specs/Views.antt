@@ -1,31 +1,37 @@
 -- What clauses see of the program's own values.
-use Rattle.std.specs.Prelude.{ℕ, ◌≤◌, List, All, length, map}
+use Rattle.std.specs.Prelude.{◌≡◌, ℕ, ◌≤◌, List, All, length, map, option_map, Err}
 use Rattle.ags_asm.specs.declared.placed.Placed.{Placed}
 use Rattle.ags_asm.specs.Phase.{IsInMemory, defined}
 use Rattle.ags_asm.specs.Source.{AreSpans, IsAssembled, IsFaulty, Defines, placed_words}
 use Rattle.ags_image.specs.Image.{EachPlaceOnce}
+use Rattle.ags_machfile.specs.MachineFile.{machine_of}
 use Rattle.ags_plan.specs.declared.unloaded.Unloaded.{Unloaded}
 use Rattle.ags_plan.specs.declared.unloaded.Unloaded.TheVariants.{Refused, NoMemory}
 use Rattle.ags_run.specs.Playable.{IsPlayable}
 use Rattle.ags_top.specs.declared.command.Command.{Command}
 use Rattle.ags_top.specs.declared.command.Command.TheVariants as named
+use Rattle.ags_top.specs.declared.command.CommandLine.{CommandLine}
 use Rattle.ags_top.specs.declared.files.SourceFile.{SourceFile}
 use Rattle.ags_top.specs.declared.files.TheConstants.{SOURCE_LIMIT}
 use Rattle.ags_top.specs.declared.refusal.Refusal.{Refusal}
 use Rattle.ags_top.specs.declared.refusal.Refusal.TheVariants as refusal
 use Rattle.ags_top.specs.declared.status.Status.{Status}
-use Rattle.ags_top.specs.declared.status.Status.TheVariants.{BadSource, BadText}
+use Rattle.ags_top.specs.declared.status.Status.TheVariants.{BadMachine, BadSource, BadText}
 use Rattle.ags_top.specs.declared.works.Work.{Work}
 use Rattle.ags_top.specs.declared.works.Work.TheVariants as loaded
 use Rattle.ags_top.specs.Command as asked
 use Rattle.ags_top.specs.Files.{Assembly}
-use Rattle.ags_top.specs.Text.{fault_line, script_fault_line}
+use Rattle.ags_top.specs.Text.{fault_line, machine_fault_line, script_fault_line}
 use Rattle.ags_top.specs.Work as work
 
 -- a command without where its names lie in memory
 abbrev pub command_view : Command → asked.Command
 command_view (named.Assemble source) = asked.Assemble source.now
 command_view (named.Run source script) = asked.Run source.now script.now
+
+-- and a command line
+abbrev pub line_view : CommandLine → asked.CommandLine
+line_view line = record { command = command_view line.command; machine = option_map (λ name. name.now) line.machine }
 
 -- a source that was read, as its bytes and what its cards define
 abbrev pub assembly_of : SourceFile → Assembly
@@ -51,6 +57,12 @@ IsSourceUnread bytes (Refused (refusal.Source error)) = IsFaulty bytes error
 IsSourceUnread bytes NoMemory = Unit {0}
 IsSourceUnread bytes _ = ⊥
 
+-- why the bytes are no machine file that was read: the first test that they fail, or want of memory
+abbrev pub IsMachineUnread : (bytes : List ℕ) → Unloaded Refusal → Type 0
+IsMachineUnread bytes (Refused (refusal.Machine error)) = machine_of bytes ≡ Err error
+IsMachineUnread bytes NoMemory = Unit {0}
+IsMachineUnread bytes _ = ⊥
+
 -- the cards' words are at places of the memory, no two at one
 pub record AreWordsApart (placed : List Placed) : Type 0 where
   pub within : All IsInMemory placed
@@ -64,10 +76,12 @@ IsReady (loaded.PlayScript machine placed commands) = AreWordsApart placed.items
 
 -- the line of a refusal
 abbrev pub line_of : Refusal → List ℕ
+line_of (refusal.Machine error) = machine_fault_line error
 line_of (refusal.Source error) = fault_line error
 line_of (refusal.Script error) = script_fault_line error
 
 -- the status of a refusal
 abbrev pub status_of : Refusal → Status
+status_of (refusal.Machine error) = BadMachine
 status_of (refusal.Source error) = BadSource
 status_of (refusal.Script error) = BadText

@@ -3,7 +3,7 @@
 ghost use Rattle.std.specs.Prelude.{◌≡◌, ℕ, List, Some};
 ghost use Rattle.ags_plan.specs.Answer.{IsAnswer, TellsFiles};
 ghost use Rattle.ags_plan.specs.Walk.{Told};
-ghost use Rattle.ags_top.specs.Command.{Command, arguments_of, command_of};
+ghost use Rattle.ags_top.specs.Command.{CommandLine, line_arguments, line_of};
 ghost use Rattle.ags_top.specs.Program.{plan_of, program};
 
 use crate::program::Ags;
@@ -27,8 +27,8 @@ pub fn arguments_have_one_answer()
     command_lines_have_one_answer::<Ags>();
 }
 
-/// A command's arguments ask for it, and no others do.
+/// A command line's arguments ask for it, and no others do.
 pub fn arguments_ask_for_one_command()
-    ensures form { (command : Command) → command_of (arguments_of command) ≡ Some command }
-    ensures only { (arguments : List (List ℕ)) (command : Command) → command_of arguments ≡ Some command → arguments ≡ arguments_of command }
+    ensures form { (line : CommandLine) → line_of (line_arguments line) ≡ Some line }
+    ensures only { (arguments : List (List ℕ)) (line : CommandLine) → line_of arguments ≡ Some line → arguments ≡ line_arguments line }
 {}

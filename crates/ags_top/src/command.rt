@@ -4,9 +4,9 @@ ghost use Rattle.std.specs.Prelude.{◌≡◌, List, ℕ, map};
 ghost use Rattle.std.specs.Option.{option_map};
 ghost use Rattle.std.specs.String.{string_bytes};
 ghost use Rattle.ags_top.specs.Command as asked;
-ghost use Rattle.ags_top.specs.Views.{command_view};
+ghost use Rattle.ags_top.specs.Views.{command_view, line_view};
 
-/// What a command line asks for.
+/// What is done.
 #[derive(Clone, Copy)]
 pub(crate) enum Command<'a> {
     /// The listing of the source of this name.
@@ -20,32 +20,61 @@ pub(crate) enum Command<'a> {
     },
 }
 
-/// The command of `assemble` and these names.
-fn read_assemble(names: &[String]) -> Option<Command<'_>>
-    ensures { option_map command_view result ≡ asked.one_name asked.Assemble (map string_bytes names.now) }
-{
-    match names {
-        [source] => Some(Command::Assemble(source.as_str())),
-        _ => None,
-    }
+/// What a command line asks for.
+#[derive(Clone, Copy)]
+pub(crate) struct CommandLine<'a> {
+    /// The command.
+    pub(crate) command: Command<'a>,
+    /// The name of the file of its machine, and nothing where that is the standard one.
+    pub(crate) machine: Option<&'a str>,
 }
 
-/// The command of `run` and these names.
-fn read_run(names: &[String]) -> Option<Command<'_>>
-    ensures { option_map command_view result ≡ asked.two_names asked.Run (map string_bytes names.now) }
+/// A command with what stands behind its names: nothing, or a machine file's name.
+fn line_with<'a>(command: Command<'a>, behind: &'a [String]) -> Option<CommandLine<'a>>
+    ensures { option_map line_view result ≡ asked.line_with (command_view command.entry) (map string_bytes behind.entry.now) }
 {
-    match names {
-        [source, script] => Some(Command::Run {
-            source: source.as_str(),
-            script: script.as_str(),
+    match behind {
+        [] => Some(CommandLine {
+            command,
+            machine: None,
+        }),
+        [machine] => Some(CommandLine {
+            command,
+            machine: Some(machine.as_str()),
         }),
         _ => None,
     }
 }
 
-/// The command of a verb and the names behind it.
-fn read_names<'a>(verb: &str, names: &'a [String]) -> Option<Command<'a>>
-    ensures { option_map command_view result ≡ asked.command_named asked.forms verb.now (map string_bytes names.entry.now) }
+/// What `assemble` and these names ask for.
+fn read_assemble(names: &[String]) -> Option<CommandLine<'_>>
+    ensures { option_map line_view result ≡ asked.one_name asked.Assemble (map string_bytes names.now) }
+{
+    match names {
+        [source, behind @ ..] => line_with(Command::Assemble(source.as_str()), behind),
+        _ => None,
+    }
+}
+
+/// What `run` and these names ask for.
+fn read_run(names: &[String]) -> Option<CommandLine<'_>>
+    ensures { option_map line_view result ≡ asked.two_names asked.Run (map string_bytes names.now) }
+{
+    match names {
+        [source, script, behind @ ..] => line_with(
+            Command::Run {
+                source: source.as_str(),
+                script: script.as_str(),
+            },
+            behind,
+        ),
+        _ => None,
+    }
+}
+
+/// What a verb and the names behind it ask for.
+fn read_names<'a>(verb: &str, names: &'a [String]) -> Option<CommandLine<'a>>
+    ensures { option_map line_view result ≡ asked.line_named asked.forms verb.now (map string_bytes names.entry.now) }
 {
     match verb {
         "assemble" => read_assemble(names),
@@ -54,9 +83,9 @@ fn read_names<'a>(verb: &str, names: &'a [String]) -> Option<Command<'a>>
     }
 }
 
-/// The command that a command line asks for, by its arguments.
-pub(crate) fn read_command(arguments: &[String]) -> Option<Command<'_>>
-    ensures { option_map command_view result ≡ asked.command_of (map string_bytes arguments.now) }
+/// What a command line asks for, by its arguments.
+pub(crate) fn read_line(arguments: &[String]) -> Option<CommandLine<'_>>
+    ensures { option_map line_view result ≡ asked.line_of (map string_bytes arguments.now) }
 {
     match arguments {
         [verb, names @ ..] => read_names(verb.as_str(), names),

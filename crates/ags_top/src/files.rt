@@ -1,16 +1,18 @@
 //! The files that commands read, each fetched whole and then read.
 
-ghost use Rattle.std.specs.Prelude.{◌≡◌, ◌≤◌, IfOk, IfErr, false, length};
+ghost use Rattle.std.specs.Prelude.{◌≡◌, ◌≤◌, IfOk, IfErr, Ok, false, length};
 ghost use Rattle.std.specs.Result.{result_map_both};
+ghost use Rattle.ags_machfile.specs.MachineFile.{machine_of};
 ghost use Rattle.ags_outside.specs.Count.{HasCause};
 ghost use Rattle.ags_plan.specs.Loading.{LoadsFile, end_of, is_absence, is_read_fault};
 ghost use Rattle.ags_run.specs.Playable.{IsPlayable};
 ghost use Rattle.ags_top.specs.Files as file;
 ghost use Rattle.ags_top.specs.Program.{program};
-ghost use Rattle.ags_top.specs.Views.{IsSourceRead, IsSourceUnread, assembly_of, line_of, status_of};
+ghost use Rattle.ags_top.specs.Views.{IsMachineUnread, IsSourceRead, IsSourceUnread, assembly_of, line_of, status_of};
 
 use crate::refusal::Refusal;
 use ags_asm::{AssembleError, Placed, assemble};
+use ags_machfile::{MACHINE_LIMIT, MachError};
 use ags_outside::Shelf;
 use ags_plan::{Unloaded, fetch_file};
 use ags_ports::Machine;
@@ -27,6 +29,36 @@ pub(crate) struct SourceFile {
     pub(crate) bytes: Vec<u8>,
     /// A card for each of its lines.
     pub(crate) placed: Vec<Placed>,
+}
+
+/// Reads a machine file's bytes.
+fn read_machine<'a>(alloc: Global, bytes: &[u8]) -> Result<Machine, Unloaded<'a, Refusal>>
+    requires { length bytes.now ≤ MACHINE_LIMIT }
+    ensures ready { IfOk result (λ machine. machine_of bytes.now ≡ Ok machine) }
+    ensures unread { IfErr result (IsMachineUnread bytes.now) }
+    ensures no_fault { is_read_fault result ≡ false }
+    ensures no_absence { is_absence result ≡ false }
+{
+    match ags_machfile::read(alloc, bytes) {
+        Ok(machine) => Ok(machine),
+        Err(MachError::NoMemory) => Err(Unloaded::NoMemory),
+        Err(error) => Err(Unloaded::Refused(Refusal::Machine(error))),
+    }
+}
+
+/// Loads the machine of a file of that name.
+pub(crate) fn load_machine<'a, S: Shelf>(
+    alloc: Global,
+    name: &'a str,
+    shelf: &mut S,
+) -> Result<Machine, Unloaded<'a, Refusal>>
+    ensures same { S.told shelf.new ≡ S.told shelf.old }
+    ensures loads { LoadsFile program (S.told shelf.old) file.MachineFile name.entry.now (result_map_both (λ machine. machine) (end_of program line_of status_of) result) }
+    ensures faults { HasCause (S.faults shelf.old) (S.faults shelf.new) (is_read_fault result) }
+    ensures absences { HasCause (S.absences shelf.old) (S.absences shelf.new) (is_absence result) }
+{
+    let bytes = fetch_file(alloc, shelf, name, MACHINE_LIMIT as u64)?;
+    read_machine(alloc, &bytes)
 }
 
 /// Reads a source's bytes.

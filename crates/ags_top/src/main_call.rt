@@ -5,7 +5,7 @@ ghost use Rattle.std.specs.String.{string_bytes};
 ghost use Rattle.ags_outside.specs.Count.{Rose};
 ghost use Rattle.ags_plan.specs.Answer.{IsAnswer, TellsFiles};
 ghost use Rattle.ags_plan.specs.Outcome.{AbsentExactly, Ends, EndsExactly, IsCleanOnShelf, IsCleanOnSink, LongExactly};
-ghost use Rattle.ags_top.specs.Outcome.{BadSourceExactly, BadTextExactly, BadWordsExactly, DoneAlways, ListsWhatIsDefined, PlaysWhatIsDefined};
+ghost use Rattle.ags_top.specs.Outcome.{BadMachineExactly, BadSourceExactly, BadTextExactly, BadWordsExactly, DoneAlways, ListsWhatIsDefined, PlaysWhatIsDefined};
 ghost use Rattle.ags_top.specs.Program.{plan_of, program};
 
 use crate::program::Ags;
@@ -38,6 +38,7 @@ pub fn ags_main<S: Shelf, K: Sink>(
 
     // Status by status.
     ensures bad_words { BadWordsExactly (map string_bytes arguments.now) result }
+    ensures bad_machine { BadMachineExactly (S.told shelf.old) (map string_bytes arguments.now) (K.told out.old) (K.told out.new) result }
     ensures bad_source { BadSourceExactly (S.told shelf.old) (map string_bytes arguments.now) (K.told out.old) (K.told out.new) result }
     ensures bad_text { BadTextExactly (S.told shelf.old) (map string_bytes arguments.now) (K.told out.old) (K.told out.new) result }
     ensures absent { AbsentExactly program (S.told shelf.old) (plan_of (map string_bytes arguments.now)) (K.told out.old) (K.told out.new) result }

@@ -1,6 +1,7 @@
 //! The program as the walk along its plans sees it: how the files of a command line are loaded, and how a work is done.
 
-ghost use Rattle.std.specs.Prelude.{◌≡◌, IfOk, map};
+ghost use Rattle.std.specs.Prelude.{◌≡◌, IfOk, Some, map};
+ghost use Rattle.std.specs.Option.{option_map};
 ghost use Rattle.std.specs.Result.{result_map_both};
 ghost use Rattle.std.specs.String.{string_bytes};
 ghost use Rattle.ags_outside.specs.Count.{HasCause};
@@ -14,7 +15,8 @@ ghost use Rattle.ags_top.specs.Views as views;
 ghost use Rattle.ags_top.specs.Work as work;
 
 use crate::assemble_command::{list_source, load_listing};
-use crate::command::{Command, read_command};
+use crate::command::{Command, CommandLine, read_line};
+use crate::files::load_machine;
 use crate::refusal::Refusal;
 use crate::run_command::{load_play, play_script};
 use crate::status::Status;
@@ -34,6 +36,60 @@ fn say_forms<K: Sink>(out: &mut K) -> Result<Status, SendError>
 {
     send(out, b"WORDS\n")?;
     Ok(Status::BadWords)
+}
+
+/// Loads the files of a command, for a machine.
+fn load_command<'a, S: Shelf>(
+    alloc: Global,
+    machine: Machine,
+    command: Command<'a>,
+    shelf: &mut S,
+) -> Result<Work, Unloaded<'a, Refusal>>
+    ensures loads { Loads definition.program (S.told shelf.old) (definition.command_plan machine (views.command_view command.entry))
+        (result_map_both views.work_of (end_of definition.program views.line_of views.status_of) result) }
+    ensures ready { IfOk result views.IsReady }
+    ensures faults { HasCause (S.faults shelf.old) (S.faults shelf.new) (is_read_fault result) }
+    ensures absences { HasCause (S.absences shelf.old) (S.absences shelf.new) (is_absence result) }
+{
+    match command {
+        Command::Assemble(source) => load_listing(alloc, source, shelf),
+        Command::Run { source, script } => load_play(alloc, machine, source, script, shelf),
+    }
+}
+
+/// Loads the files of a command on the machine of a file.
+fn load_on<'a, S: Shelf>(
+    alloc: Global,
+    name: &'a str,
+    command: Command<'a>,
+    shelf: &mut S,
+) -> Result<Work, Unloaded<'a, Refusal>>
+    ensures loads { Loads definition.program (S.told shelf.old) (definition.plan_on (Some name.entry.now) (λ machine. definition.command_plan machine (views.command_view command.entry)))
+        (result_map_both views.work_of (end_of definition.program views.line_of views.status_of) result) }
+    ensures ready { IfOk result views.IsReady }
+    ensures faults { HasCause (S.faults shelf.old) (S.faults shelf.new) (is_read_fault result) }
+    ensures absences { HasCause (S.absences shelf.old) (S.absences shelf.new) (is_absence result) }
+{
+    let machine = load_machine(alloc, name, shelf)?;
+    load_command(alloc, machine, command, shelf)
+}
+
+/// Loads the files of a command line, that of its machine first.
+fn load_line<'a, S: Shelf>(
+    alloc: Global,
+    line: CommandLine<'a>,
+    shelf: &mut S,
+) -> Result<Work, Unloaded<'a, Refusal>>
+    ensures loads { Loads definition.program (S.told shelf.old) (definition.asked_plan (Some (views.line_view line.entry)))
+        (result_map_both views.work_of (end_of definition.program views.line_of views.status_of) result) }
+    ensures ready { IfOk result views.IsReady }
+    ensures faults { HasCause (S.faults shelf.old) (S.faults shelf.new) (is_read_fault result) }
+    ensures absences { HasCause (S.absences shelf.old) (S.absences shelf.new) (is_absence result) }
+{
+    match line.machine {
+        Some(name) => load_on(alloc, name, line.command, shelf),
+        None => load_command(alloc, Machine::standard(), line.command, shelf),
+    }
 }
 
 impl Program for Ags {
@@ -78,11 +134,8 @@ impl Program for Ags {
         arguments: &'a [String],
         shelf: &mut S,
     ) -> Result<Work, Unloaded<'a, Refusal>> {
-        match read_command(arguments) {
-            Some(Command::Assemble(source)) => load_listing(alloc, source, shelf),
-            Some(Command::Run { source, script }) => {
-                load_play(alloc, Machine::standard(), source, script, shelf)
-            }
+        match read_line(arguments) {
+            Some(line) => load_line(alloc, line, shelf),
             None => Ok(Work::NoForm),
         }
     }

@@ -6,12 +6,15 @@ ghost use Rattle.ags_top.specs.Views.{line_of, status_of};
 
 use crate::status::Status;
 use ags_asm::SourceError;
+use ags_machfile::MachError;
 use ags_run::ScriptError;
 use std::alloc::{AllocError, Global};
 
 /// Why a file is refused: the first fault of its text.
 #[derive(Clone, Copy)]
 pub(crate) enum Refusal {
+    /// A machine file fails this test.
+    Machine(MachError),
     /// A source has this fault.
     Source(SourceError),
     /// A script has this fault.
@@ -24,6 +27,7 @@ impl Refusal {
         ensures { result ≡ status_of self.now }
     {
         match self {
+            Refusal::Machine(_) => Status::BadMachine,
             Refusal::Source(_) => Status::BadSource,
             Refusal::Script(_) => Status::BadText,
         }
@@ -34,6 +38,7 @@ impl Refusal {
         ensures { IfOk result (λ line. string_bytes line ≡ line_of self.now) }
     {
         match *self {
+            Refusal::Machine(error) => format!(in alloc; "{error}\n"),
             Refusal::Source(error) => format!(in alloc; "{error}\n"),
             Refusal::Script(error) => format!(in alloc; "{error}\n"),
         }

@@ -10,7 +10,7 @@ pub enum Status {
     Done,
     /// The source has a fault.
     BadSource,
-    /// The words are none of the forms.
+    /// The arguments are none of the forms.
     BadWords,
     /// A file is absent.
     AbsentFile,
@@ -18,6 +18,8 @@ pub enum Status {
     ReadFault,
     /// The output couldn't be written.
     WriteFault,
+    /// The machine file fails a test.
+    BadMachine,
     /// The script has a fault.
     BadText,
     /// A file is longer than its limit.
@@ -38,6 +40,7 @@ impl Status {
             Status::AbsentFile => 4,
             Status::ReadFault => 5,
             Status::WriteFault => 6,
+            Status::BadMachine => 7,
             Status::BadText => 9,
             Status::LongFile => 10,
             Status::NoMemory => 11,

@@ -1,8 +1,8 @@
-use Rattle.ags_top.proofs.CommandLemmas.{command_of-arguments_of, arguments_of-command_of}
+use Rattle.ags_top.proofs.CommandLemmas.{line_of-line_arguments, line_arguments-line_of}
 use Rattle.ags_top.proofs.answer_laws.arguments_ask_for_one_command.Goals as goal
 
 pub returns-clause-form : goal.returns-clause-form
-returns-clause-form c = command_of-arguments_of
+returns-clause-form c = line_of-line_arguments
 
 pub returns-clause-only : goal.returns-clause-only
-returns-clause-only c = arguments_of-command_of
+returns-clause-only c = line_arguments-line_of
