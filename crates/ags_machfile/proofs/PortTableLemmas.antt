@@ -1,21 +1,23 @@
 -- The registers of a direction: how they are listed, entry by entry.
-use Rattle.std.proofs.Common.{◌≡◌, ◌≢◌, ℕ, ◌+◌, ◌<◌, ◌≤◌, ◌==◌, Bool, true, false, List, [], ◌∷◌, ◌++◌, length, get_or, drop, map, refl, sym, ◌∙◌, arith, All, AllPairs}
-use Rattle.std.specs.Prelude.{Result, Ok, Err}
+use Rattle.std.proofs.Common.{◌≡◌, ◌≢◌, ℕ, zero, suc, ◌+◌, ◌<◌, ◌≤◌, ◌==◌, Bool, true, false, ◌||◌, List, [], ◌∷◌, ◌++◌, length, get_or, drop, map, refl, sym, ◌∙◌, arith, All, AllPairs}
+use Rattle.std.specs.Prelude.{Result, Ok, Err, Option, Some, nat_le}
 use Rattle.std.specs.List.{list_any}
 use Rattle.std.proofs.lemmas.Bool.Decides.{nat_tests}
-use Rattle.std.proofs.lemmas.List.{drop_more, drop_all, length-append}
+use Rattle.std.proofs.lemmas.List.{drop_more, drop_all, length-append, length-map}
+use Rattle.std.proofs.Common.{le-leb, true≢false}
+use Rattle.std.proofs.lemmas.List.Elements.{All-push}
 use Rattle.std.proofs.lemmas.List.Quantifiers.{all_pairs_push}
 use Rattle.toml.specs.Data.{as_table}
 use Rattle.toml.specs.View.{view, items_of}
-use Rattle.toml.specs.Data.{Data}
+use Rattle.toml.specs.Data.{Data, Items}
 use Rattle.toml.specs.declared.value.Value.{Value}
 use Rattle.ags_ports.specs.declared.registers.Port.{Port}
 use Rattle.ags_ports.specs.Port.{AreRegisters}
 use Rattle.ags_machfile.specs.declared.mach_error.MachError.{MachError}
-use Rattle.ags_machfile.specs.declared.mach_error.MachError.TheVariants.{SamePort}
+use Rattle.ags_machfile.specs.declared.mach_error.MachError.TheVariants.{BadValue, SamePort}
 use Rattle.ags_machfile.specs.declared.port_tables.Direction.{Direction}
 use Rattle.ags_machfile.specs.Value.{values_of}
-use Rattle.ags_machfile.specs.PortTable.{entry_port, ports_behind}
+use Rattle.ags_machfile.specs.PortTable.{direction_key, entry_port, ports_behind, ports_listed}
 
 pub values_of-items : (values : List Data) → values_of (items_of values) ≡ values
 values_of-items [] = refl
@@ -38,11 +40,19 @@ listed_none direction values = record {
   registers = record { few = omega arith; below = λ k d within. absurd (omega (arith, within)); distinct = λ i j d before within. absurd (omega (arith, within)) };
 }
 
-unlike_all : (ports : List Port) (address : ℕ) → has_address ports address ≡ false → (k : ℕ) (d : Port) → k < length ports → (get_or ports k d).address ≢ address
-unlike_all ports address none k d within = ?
+neither : (test rest : Bool) → (test || rest) ≡ false → (test ≡ false) × (rest ≡ false)
+neither true rest none = absurd (true≢false none)
+neither false rest none = (refl, none)
 
-All-push : {X : Type 0} (P : X → Type 0) (xs : List X) (x : X) → All P xs → P x → All P (xs ++ x ∷ [])
-All-push P xs x all last = ?
+unlike_all : (ports : List Port) (address : ℕ) → has_address ports address ≡ false → (k : ℕ) (d : Port) → k < length ports → (get_or ports k d).address ≢ address
+unlike_all [] address none k d within = absurd (omega (arith, within))
+unlike_all (port ∷ ports) address none zero d within =
+    λ same. true≢false (sym (rw same (same_is_true address)) ∙ (neither (port.address == address) (has_address ports address) none).0)
+  where
+    same_is_true : (n : ℕ) → (n == n) ≡ true
+    same_is_true n = grind (arith, nat_tests)
+unlike_all (port ∷ ports) address none (suc k) d within =
+    unlike_all ports address (neither (port.address == address) (has_address ports address) none).1 k d (omega (arith, within))
 
 more_registers : (ports : List Port) (port : Port) → length ports < 32 → port.address < 4096 → has_address ports port.address ≡ false → AreRegisters ports
     → AreRegisters (ports ++ port ∷ [])
@@ -81,3 +91,18 @@ listed_twice direction values ports place value port within at is same listed = 
 pub listed_whole : (direction : Direction) (values : List Value) (ports : List Port) (place : ℕ) → length values ≤ place → AreListed direction values ports place
     → ports_behind direction [] (map view values) ≡ Ok ports
 listed_whole direction values ports place past listed = listed.rest ∙ rw (drop_all place values past) refl
+
+-- ---- an array of entries
+
+pub ports_listed-few : (direction : Direction) (items : Option Items) (values : List Value) → items ≡ Some (items_of (map view values)) → length values ≤ 32
+    → ports_listed direction items ≡ ports_behind direction [] (map view values)
+ports_listed-few direction items values is few =
+    rw (is, values_of-items (map view values), le-leb (length (map view values)) 32 (rw (length-map values view) few)) refl
+
+pub ports_listed-many : (direction : Direction) (items : Option Items) (values : List Value) → items ≡ Some (items_of (map view values)) → 32 < length values
+    → ports_listed direction items ≡ Err (BadValue (direction_key direction))
+ports_listed-many direction items values is many =
+    rw (is, values_of-items (map view values), not_le (length (map view values)) (rw (length-map values view) many)) refl
+  where
+    not_le : (n : ℕ) → 32 < n → nat_le n 32 ≡ false
+    not_le n above = grind (arith, nat_tests)

@@ -30,11 +30,8 @@ pub fn read(alloc: Global, bytes: &[u8]) -> Result<Machine, MachError>
 {
     match toml::table_from_slice(alloc, bytes) {
         Ok(document) => machine_in(&document),
-        Err(error) => Err(if error.is_memory() {
-            MachError::NoMemory
-        } else {
-            MachError::NotToml
-        }),
+        Err(error) if error.is_memory() => Err(MachError::NoMemory),
+        Err(_) => Err(MachError::NotToml),
     }
 }
 
