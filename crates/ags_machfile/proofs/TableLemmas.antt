@@ -73,6 +73,7 @@ unfound table order (other ∷ others) none =
   where
     some_is_none : (other : Order) → None ≡ Some other → ⊥
     some_is_none other h = cc
+
     true_is_false : (n : ℕ) → (n == n) ≡ false → ⊥
     true_is_false n h = grind (arith, nat_tests, h)
 
@@ -86,6 +87,7 @@ unpaired table (order ∷ others) none =
   where
     some_is_none : (pair : Order × Order) → Some pair ≡ None → ⊥
     some_is_none pair h = cc
+
     neither : (found : Option Order) (rest : Option (Order × Order)) → option_or (option_map (λ other. (order, other)) found) rest ≡ None → (found ≡ None) × (rest ≡ None)
     neither None rest none = (refl, none)
     neither (Some other) rest none = absurd (some_is_none (order, other) none)
