@@ -1,5 +1,5 @@
 -- What a machine file says: the machine that it gives, or the first test that it fails (docs/MACHINE.md, Machine files).
-use Rattle.std.specs.Prelude.{◌≡◌, ℕ, List, codes, Option, Some, None, Result, Ok, Err, if◌then◌else◌, Unit}
+use Rattle.std.specs.Prelude.{◌≡◌, ℕ, List, codes, Option, Some, None, Result, Ok, Err, if◌then◌else◌}
 use Rattle.std.specs.Option.{ok_or}
 use Rattle.std.specs.Str.{is_utf8}
 use Rattle.toml.specs.Data.{Data, Members, get_member}
@@ -10,10 +10,9 @@ use Rattle.ags_machfile.specs.declared.keys.Key.{Key}
 use Rattle.ags_machfile.specs.declared.keys.Key.TheVariants.{DedaIn, DedaOut}
 use Rattle.ags_machfile.specs.declared.mach_error.MachError.{MachError}
 use Rattle.ags_machfile.specs.declared.mach_error.MachError.TheVariants.{NotToml, MissingKey, BadValue, SameCode, SamePort, NoMemory}
-use Rattle.ags_machfile.specs.declared.port_tables.Direction.TheVariants.{Input, Output}
 use Rattle.ags_machfile.specs.Value.{◌>>=◌, address_given}
 use Rattle.ags_machfile.specs.OrderTable.{codes_in, times_in}
-use Rattle.ags_machfile.specs.PortTable.{ports_in}
+use Rattle.ags_machfile.specs.PortTable.{registers_in}
 
 -- the document that bytes are: they are UTF-8, and a text of TOML
 unfoldable pub document_of : List ℕ → Option Members
@@ -30,14 +29,13 @@ unfoldable pub machine_in : Members → Result Machine MachError
 machine_in members = do
   order_codes ← codes_in (get_member (codes "codes") members)
   order_times ← times_in (get_member (codes "times") members)
-  inputs ← ports_in Input (get_member (codes "input") members)
-  outputs ← ports_in Output (get_member (codes "output") members)
+  registers ← registers_in members
   deda_in ← address_in DedaIn standard_machine.deda_in (get_member (codes "deda_in") members)
   deda_out ← address_in DedaOut standard_machine.deda_out (get_member (codes "deda_out") members)
   Ok (record {
     codes = order_codes;
     times = order_times;
-    ports = record { inputs = inputs; outputs = outputs };
+    ports = registers;
     deda_in = deda_in;
     deda_out = deda_out;
   })

@@ -3,7 +3,7 @@ use Rattle.std.specs.Prelude.{ℕ, ◌==◌, nat_le, Bool, false, List, [], ◌�
 use Rattle.std.specs.List.{list_any}
 use Rattle.toml.specs.Data.{Data, Members, Items, get_member, as_table, as_array, as_bool}
 use Rattle.ags_ports.specs.declared.registers.Port.{Port}
-use Rattle.ags_ports.specs.Port.{standard_inputs, standard_outputs}
+use Rattle.ags_ports.specs.Port.{Registers, standard_inputs, standard_outputs}
 use Rattle.ags_machfile.specs.declared.keys.Key.{Key}
 use Rattle.ags_machfile.specs.declared.keys.Key.TheVariants as key
 use Rattle.ags_machfile.specs.declared.mach_error.MachError.{MachError}
@@ -36,7 +36,7 @@ once_at (Some value) = as_bool value
 -- so for an entry; an output register never does, whatever stands at the key
 abbrev pub once_given : Direction → Members → Option Bool
 once_given Input members = once_at (get_member (codes "once") members)
-once_given Output members = Some false
+once_given Output _ = Some false
 
 -- The register of an entry, by its address, where one stands there, and by whether it holds its word once. Where a value is
 -- wrong that is told, and else where the address is missing.
@@ -75,3 +75,10 @@ ports_listed direction (Some items) =
 abbrev pub ports_in : Direction → Option Data → Result (List Port) MachError
 ports_in direction None = Ok (standard_ports direction)
 ports_in direction (Some value) = ports_listed direction (as_array value)
+
+-- the registers of a file, first the input and then the output ones
+abbrev pub registers_in : Members → Result Registers MachError
+registers_in members = do
+  inputs ← ports_in Input (get_member (codes "input") members)
+  outputs ← ports_in Output (get_member (codes "output") members)
+  Ok (record { inputs = inputs; outputs = outputs })

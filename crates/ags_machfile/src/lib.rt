@@ -4,13 +4,17 @@
 //! machine that the file gives, or the first test that it fails.
 #![tactic(auto)]
 
+mod code_tables;
 mod keys;
 mod mach_error;
-mod order_tables;
 mod port_tables;
 mod reading;
+mod time_tables;
 mod values;
 
 pub use keys::Key;
 pub use mach_error::MachError;
 pub use reading::{MACHINE_LIMIT, read};
+
+#[cfg(test)]
+mod tests;

@@ -3,4 +3,4 @@ use Rattle.ags_text.proofs.NumeralLemmas.{text_of_digits, IsAscii-numeral}
 use Rattle.ags_machfile.proofs.mach_error.FourDigitsDisplay.fmt.Goals as goal
 
 pub unwrap-requires : goal.unwrap-requires
-unwrap-requires g c = text_of_digits _ _ _ c.from_utf8.result c.from_utf8.ensures.cases (rw c.octal4-digits.ensures (IsAscii-numeral 8 4 c.args.self.now.0 (omega arith) (omega arith)))
+unwrap-requires g c = text_of_digits _ _ _ c.from_utf8.result c.from_utf8.ensures.cases (rw c.octal4-digits.ensures (IsAscii-numeral 8 4 c.from.result (omega arith) (omega arith)))
