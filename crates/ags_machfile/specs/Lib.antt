@@ -4,3 +4,4 @@ pub mod OrderTable
 pub mod PortTable
 pub mod MachineFile
 pub mod FaultText
+pub mod Rule
