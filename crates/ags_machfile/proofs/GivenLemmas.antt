@@ -49,7 +49,7 @@ chosen false m n h = absurd (none_not_some n h)
 le_of_test : (m n : ℕ) → nat_le m n ≡ true → m ≤ n
 le_of_test m n test = grind (arith, nat_tests)
 
-within-limits : (least most : ℕ) (z : Option ℤ) (n : ℕ) → within least most z ≡ Some n → (least ≤ n) × (n ≤ most)
+pub within-limits : (least most : ℕ) (z : Option ℤ) (n : ℕ) → within least most z ≡ Some n → (least ≤ n) × (n ≤ most)
 within-limits least most None n h = absurd (none_not_some n h)
 within-limits least most (Some (negsuc m)) n h = absurd (none_not_some n h)
 within-limits least most (Some (pos m)) n h =

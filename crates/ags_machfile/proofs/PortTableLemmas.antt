@@ -44,7 +44,7 @@ neither : (test rest : Bool) → (test || rest) ≡ false → (test ≡ false) �
 neither true rest none = absurd (true≢false none)
 neither false rest none = (refl, none)
 
-unlike_all : (ports : List Port) (address : ℕ) → has_address ports address ≡ false → (k : ℕ) (d : Port) → k < length ports → (get_or ports k d).address ≢ address
+pub unlike_all : (ports : List Port) (address : ℕ) → has_address ports address ≡ false → (k : ℕ) (d : Port) → k < length ports → (get_or ports k d).address ≢ address
 unlike_all [] address none k d within = absurd (omega (arith, within))
 unlike_all (port ∷ ports) address none zero d within =
     λ same. true≢false (sym (rw same (same_is_true address)) ∙ (neither (port.address == address) (has_address ports address) none).0)

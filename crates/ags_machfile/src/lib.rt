@@ -6,6 +6,7 @@
 
 mod code_tables;
 mod keys;
+pub mod laws;
 mod mach_error;
 mod port_tables;
 mod reading;
