@@ -15,6 +15,7 @@ use Rattle.ags_image.specs.Image.{PlacedWord, IsImageOf}
 use Rattle.ags_image.proofs.ImageLaws.{one_image, one_word_a_place, some_image}
 use Rattle.ags_machfile.specs.declared.mach_error.MachError.{MachError}
 use Rattle.ags_machfile.specs.MachineFile.{machine_of}
+use Rattle.ags_machfile.proofs.FileLemmas.{machine_of-IsMachine}
 use Rattle.ags_ports.specs.declared.machines.Machine.{Machine}
 use Rattle.ags_ports.specs.Machine.{IsMachine, standard_machine}
 use Rattle.ags_ports.proofs.MachineLemmas.{IsMachine-standard}
@@ -97,9 +98,6 @@ are_readable = record {
 
 -- ---- works
 
-IsMachine-machine_of : (bytes : List ℕ) (machine : Machine) → machine_of bytes ≡ Ok machine → IsMachine machine
-IsMachine-machine_of bytes machine is = ?
-
 -- what is so of a work in which a walk ends: its machine is one, and its words are a source's
 IsAskedFor : Work → Type 0
 IsAskedFor NoForm = Unit {0}
@@ -119,7 +117,7 @@ asked_by_line : (told : Told) (machine : Option (List ℕ)) (command : Command) 
     → LeadsTo program Agrees told (plan_on machine (λ m. command_plan m command)) work → IsAskedFor work × (work ≢ NoForm)
 asked_by_line told None command work leads = asked_on_way told standard_machine command work IsMachine-standard leads
 asked_by_line told (Some name) command work (machine, (bytes, agrees, holds), leads) =
-    asked_on_way told machine command work (IsMachine-machine_of bytes machine holds.holds) leads
+    asked_on_way told machine command work (machine_of-IsMachine bytes machine holds.holds) leads
 
 -- no command line comes to the work that says that the arguments are no form
 pub comes_to_no_form : (told : Told) (line : CommandLine) → EndsAt program Agrees told (asked_plan (Some line)) (WorkAt NoForm) → ⊥
