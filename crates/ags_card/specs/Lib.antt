@@ -1,4 +1,7 @@
 -- what the public contracts cite
 pub mod Symbol
+pub mod Term
+pub mod Operation
+pub mod Reading
 -- what serves inside
 pub mod Padding
