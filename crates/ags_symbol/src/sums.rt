@@ -1,7 +1,7 @@
 //! What an expression comes to: the sum of its terms (docs/SOURCE.md, Expressions).
 
 ghost use Rattle.std.specs.Prelude.{◌≡◌, ◌≤◌, ◌*◌, length, All, IfSome};
-ghost use Rattle.ags_card.specs.Terms.{IsAtom};
+ghost use Rattle.ags_card.specs.Term.{HasSmallNumber};
 ghost use Rattle.ags_symbol.specs.Symbol.{atom_value, term_value, sum_of};
 ghost use Rattle.ags_symbol.specs.Bound.{IsAtMost};
 
@@ -12,7 +12,7 @@ impl Symbols {
     /// What an atom stands for at a place.
     fn atom_value(&self, atom: &Atom, here: u16) -> Option<i32>
         requires place { here ≤ 4096 }
-        requires number { IsAtom atom.now }
+        requires number { HasSmallNumber atom.now }
         ensures value { result ≡ atom_value self.now here atom.now }
         ensures small { IfSome result (IsAtMost 999999) }
     {
@@ -26,7 +26,7 @@ impl Symbols {
     /// What a term stands for at a place, by its sign.
     fn term_value(&self, term: &Term, here: u16) -> Option<i32>
         requires place { here ≤ 4096 }
-        requires number { IsAtom term.now.atom }
+        requires number { HasSmallNumber term.now.atom }
         ensures value { result ≡ term_value self.now here term.now }
         ensures small { IfSome result (IsAtMost 999999) }
     {
@@ -38,7 +38,7 @@ impl Symbols {
     fn sum(&self, terms: &[Term], here: u16) -> Option<i32>
         requires place { here ≤ 4096 }
         requires few { length terms.now ≤ 64 }
-        requires numbers { All (λ term. IsAtom term.atom) terms.now }
+        requires numbers { All (λ term. HasSmallNumber term.atom) terms.now }
         ensures value { result ≡ sum_of self.now here terms.now }
         ensures small { IfSome result (IsAtMost (999999 * length terms.now)) }
     {
