@@ -27,6 +27,10 @@ has_word (Dec decimal) = true
 has_word (Oct word) = true
 has_word End = false
 
+-- the place of a card's word, where it has one
+abbrev pub place_of_word : ℕ → Body → Option ℕ
+place_of_word at body = if has_word body then Some at else None
+
 -- how many words of the memory a card takes or passes over
 abbrev pub size : List Entry → ℕ → Body → ℕ
 size early at Comment = 0
@@ -88,14 +92,10 @@ pairs_after S before (card ∷ cards) =
 abbrev pub Fits : List Entry → List Card → Type 0
 Fits S cards = S ≡ pairs_after S [] cards
 
--- the place of a card that has a word
-abbrev pub word_place : List Entry → List Card → Card → Option ℕ
-word_place S before card = if has_word card.body then Some (place S before) else None
-
 -- the places of the words of the cards that follow those before, one entry for each card
 unfoldable pub places_after : List Entry → List Card → List Card → List (Option ℕ)
 places_after S before [] = []
-places_after S before (card ∷ cards) = word_place S before card ∷ places_after S (card ∷ before) cards
+places_after S before (card ∷ cards) = place_of_word (place S before) card.body ∷ places_after S (card ∷ before) cards
 
 -- the places of the cards' words, one entry for each card
 abbrev pub places : List Entry → List Card → List (Option ℕ)

@@ -2,10 +2,16 @@
 //! values of its symbols, or to the first fault of these phases.
 #![tactic(auto)]
 
+mod laws;
+
 mod placed;
 mod placing;
+mod reading;
 mod source_error;
+mod sources;
 
+pub use laws::{card_lines_follow, one_list_of_pairs_fits};
+pub use sources::{PlacedSource, SOURCE_LIMIT, place_all};
 pub use placed::Placed;
 pub use placing::MEMORY_WORDS;
 pub use source_error::{AssembleError, SourceError, SourceKind};
