@@ -1,20 +1,26 @@
 -- The loops over a source's lines, one line further.
 use Rattle.std.proofs.Common.{◌≡◌, ℕ, suc, ◌+◌, ◌<◌, ◌≤◌, Bool, true, false, cond, List, [], ◌∷◌, ◌++◌, length, Option, Some, None, refl, sym, ap, subst, ◌∙◌, append_assoc, arith}
-use Rattle.std.specs.Prelude.{Result, Ok, Err}
+use Rattle.std.specs.Prelude.{Result, Ok, Err, nat_lt, IfSome}
+use Rattle.std.proofs.lemmas.Bool.{ltb-true}
 use Rattle.std.proofs.lemmas.List.{append-nil, length-append}
 use Rattle.ags_text.specs.Fault.{first_fault, first_fault-nil, first_fault-faulty, first_fault-faultless}
 use Rattle.ags_text.specs.Line.{LineAt, LiesIn, Follow, lines_of}
+use Rattle.ags_card.specs.declared.cards.Body.{Body}
+use Rattle.ags_card.specs.declared.cards.Body.TheVariants.{Comment, Order, Org, Equ, Bss, Dec, Oct, End}
 use Rattle.ags_card.specs.declared.cards.Card.{Card}
 use Rattle.ags_card.specs.declared.cards.CardFault.{CardFault}
 use Rattle.ags_card.specs.Reading.{reading}
 use Rattle.ags_symbol.specs.Symbol.{Entry}
 use Rattle.ags_places.specs.declared.placed.Placed.{Placed}
+use Rattle.ags_places.specs.declared.placing.Stop.{Stop}
+use Rattle.ags_places.specs.declared.placing.Stop.TheVariants as stop
 use Rattle.ags_places.specs.declared.source_error.SourceKind.{SourceKind}
 use Rattle.ags_places.specs.Deck.{is_end, ends, deck, card_lines, readings, card_of, cards_in, cards}
-use Rattle.ags_places.specs.Fault.{kind_of, card_fault, place_fault_at, first_card_fault, first_place_fault}
+use Rattle.ags_places.specs.Fault.{kind_of, card_fault, twice, unless, or_else, body_fault, place_fault_at, first_card_fault, first_place_fault}
 use Rattle.ags_places.specs.Place.{Fits, place_after, symbol_value, pair_of, place_of_word, places}
-use Rattle.ags_places.specs.Source.{placed_at, placed_cards, IsPlaced}
-use Rattle.ags_places.specs.Stopping.{IsFirstPlaceFault}
+use Rattle.ags_places.specs.Source.{placed_at, placed_cards, IsPlaced, IsInMemory}
+use Rattle.ags_places.specs.Stopping.{IsFirstPlaceFault, IsStopped, stopped_at}
+use Rattle.ags_places.specs.Effect.{IsStop}
 use Rattle.ags_places.proofs.RunningLemmas.{known, next_pair, next_pairs, known_fault, known_places, fits_some, fits_only, faults-known, places-known}
 
 -- ---- the lines of a deck
@@ -199,3 +205,38 @@ Placing-all text placed E at so =
       faultless = rw (Reading-all text (length placed) so.reading, none) refl;
       cards_are = sym (append-nil placed) ∙ sym so.cards_are ∙ rw (places-known E (cards text) fits) refl;
     }
+
+-- ---- places of words
+
+unless_within : (at : ℕ) → unless (nat_lt at 4096) ≡ None → at < 4096
+unless_within at none = by (nat_lt at 4096) refl none
+  where
+    by : (b : Bool) → nat_lt at 4096 ≡ b → unless b ≡ None → at < 4096
+    by true is none = ltb-true at 4096 is
+    by false is none = absurd cc
+
+-- the symbol's fault is none, nor is the body's
+body_faultless : (first later : Option SourceKind) → or_else first later ≡ None → later ≡ None
+body_faultless None later none = none
+body_faultless (Some kind) later none = absurd cc
+
+word_within : (E : List Entry) (at : ℕ) (body : Body) → body_fault E at body ≡ None → IfSome (place_of_word at body) (λ place. place < 4096)
+word_within E at Comment none = tt
+word_within E at (Order order terms indexed) none = unless_within at none
+word_within E at (Org terms) none = tt
+word_within E at (Equ terms) none = tt
+word_within E at (Bss terms) none = tt
+word_within E at (Dec decimal) none = unless_within at none
+word_within E at (Oct word) none = unless_within at none
+word_within E at End none = tt
+
+-- a card without a fault has its word in the memory
+pub place_within : (E : List Entry) (at : ℕ) (card : Card) (line : LineAt) → place_fault_at E at card ≡ None → IsInMemory (placed_at line (place_of_word at card.body))
+place_within E at card line none = word_within E at card.body (body_faultless (twice E card.symbol) (body_fault E at card.body) none)
+
+-- ---- why it stops
+
+pub stopped_there : (text : List ℕ) (number : ℕ) (fault : Option SourceKind) (stop : Stop) → IsStop fault stop
+    → ((kind : SourceKind) → fault ≡ Some kind → IsFirstPlaceFault text (record { card = number; kind = kind })) → IsStopped text (stopped_at number stop)
+stopped_there text number fault (stop.Fault kind) is first = first kind is
+stopped_there text number fault stop.NoMemory is first = tt

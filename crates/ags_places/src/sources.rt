@@ -117,6 +117,35 @@ fn place_cards(alloc: Global, bytes: &[u8]) -> Result<PlacedSource, Stopped>
     Ok(PlacedSource { cards, symbols })
 }
 
+/// Why a source whose cards are stopped so is refused: a line that is no card comes first, wherever it stands.
+fn refusal(bytes: &[u8], stopped: Stopped) -> AssembleError
+    requires limit { length bytes.now ≤ SOURCE_LIMIT }
+    requires stopped { IsStopped bytes.now stopped }
+    ensures { IsRefused bytes.now result }
+{
+    match stopped {
+        Stopped::Misread(error) => AssembleError::Source(error),
+        Stopped::Misplaced(error) => match first_misread(bytes) {
+            Some(earlier) => AssembleError::Source(earlier),
+            None => AssembleError::Source(error),
+        },
+        Stopped::NoMemory => AssembleError::NoMemory,
+    }
+}
+
+/// The phases, one after the other.
+fn run_phases(alloc: Global, bytes: &[u8]) -> Result<PlacedSource, AssembleError>
+    requires { length bytes.now ≤ SOURCE_LIMIT }
+    ensures placed { IfOk result (λ source. IsPlaced bytes.now source.cards.items source.symbols) }
+    ensures refused { IfErr result (IsRefused bytes.now) }
+    ensures within { IfOk result (λ source. All IsInMemory source.cards.items) }
+{
+    match place_cards(alloc, bytes) {
+        Ok(source) => Ok(source),
+        Err(stopped) => Err(refusal(bytes, stopped)),
+    }
+}
+
 /// Reads a source of at most 4,194,304 bytes and places its cards: each card, comments too, up to and with the first END,
 /// with the span of its bytes and the place of its word, and the values of the symbols (docs/SOURCE.md, Places), or the
 /// source's first fault up to the phase of places (docs/SOURCE.md, Faults). A line that is no card comes before every card that
@@ -137,12 +166,5 @@ pub fn place_all(alloc: Global, bytes: &[u8]) -> Result<PlacedSource, AssembleEr
     // Each place is one of the memory's.
     ensures within { IfOk result (λ source. All IsInMemory source.cards.items) }
 {
-    match place_cards(alloc, bytes) {
-        Ok(source) => Ok(source),
-        Err(Stopped::Misread(error)) => Err(AssembleError::Source(error)),
-        Err(Stopped::Misplaced(error)) => Err(AssembleError::Source(
-            first_misread(bytes).unwrap_or(error),
-        )),
-        Err(Stopped::NoMemory) => Err(AssembleError::NoMemory),
-    }
+    run_phases(alloc, bytes)
 }
