@@ -100,3 +100,24 @@ places_after S before (card ∷ cards) = place_of_word (place S before) card.bod
 -- the places of the cards' words, one entry for each card
 abbrev pub places : List Entry → List Card → List (Option ℕ)
 places S cards = places_after S [] cards
+
+-- ---- a place as a sum
+
+-- whether a card sets the place: an ORG does
+abbrev pub sets_place : Body → Bool
+sets_place Comment = false
+sets_place (Order order terms indexed) = false
+sets_place (Org terms) = true
+sets_place (Equ terms) = false
+sets_place (Bss terms) = false
+sets_place (Dec decimal) = false
+sets_place (Oct word) = false
+sets_place End = false
+
+abbrev pub is_org : Card → Bool
+is_org card = sets_place card.body
+
+-- the sizes of the cards since those before, nearest first
+unfoldable pub sizes : List Entry → (since before : List Card) → ℕ
+sizes S [] before = 0
+sizes S (card ∷ since) before = sizes S since before + size (early S (length (since ++ before))) (place S (since ++ before)) card.body

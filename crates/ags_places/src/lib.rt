@@ -10,7 +10,7 @@ mod reading;
 mod source_error;
 mod sources;
 
-pub use laws::{card_lines_follow, one_list_of_pairs_fits};
+pub use laws::{card_lines_follow, each_symbol_has_a_pair, one_list_of_pairs_fits, places_are_sums};
 pub use sources::{PlacedSource, SOURCE_LIMIT, place_all};
 pub use placed::Placed;
 pub use placing::MEMORY_WORDS;
