@@ -1,1 +1,4 @@
+pub mod NumberLemmas
+pub mod OperationLemmas
 pub mod SymbolLemmas
+pub mod TermLemmas
