@@ -1,3 +1,5 @@
+pub mod ByteLemmas
+pub mod ExpressionLaws
 pub mod NumberLemmas
 pub mod OperationLemmas
 pub mod SymbolLemmas

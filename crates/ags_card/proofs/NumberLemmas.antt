@@ -13,7 +13,8 @@ use Rattle.std.proofs.Math.Nat.{pow-le-pow_right}
 use Rattle.ags_text.specs.Numeral.{IsNumber}
 use Rattle.ags_word.specs.Word.{val, wrap, IsCongruent}
 use Rattle.ags_word.proofs.WordLaws.{val-low, val-high, wrap_same}
-use Rattle.ags_card.specs.Reading.{number_of, signed_word}
+use Rattle.ags_card.specs.Reading.{number_of}
+use Rattle.ags_card.specs.Spelling.{signed_word}
 
 -- digits pass the test of digits
 pub digits_pass : (base : ℕ) (text : List ℕ) → AllDigits base text → list_all (λ b. nat_lt (digit_value b) base) text ≡ true

@@ -1,0 +1,5 @@
+use Rattle.ags_card.proofs.ExpressionLaws.{expression_spelled}
+use Rattle.ags_card.proofs.reading_laws.lines_spell_what_is_read.Goals as goal
+
+pub returns-clause-found : goal.returns-clause-found
+returns-clause-found c = ?
