@@ -1,5 +1,8 @@
+pub mod BodyLaws
 pub mod ByteLemmas
+pub mod CardLaws
 pub mod ExpressionLaws
+pub mod FieldLemmas
 pub mod NumberLemmas
 pub mod OperandLaws
 pub mod OperationLemmas
