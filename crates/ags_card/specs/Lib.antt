@@ -2,6 +2,7 @@
 pub mod Symbol
 pub mod Term
 pub mod Operation
+pub mod Spelling
 pub mod Reading
 -- what serves inside
 pub mod Padding

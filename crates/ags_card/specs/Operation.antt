@@ -39,3 +39,23 @@ takes_operand op.Bss = true
 takes_operand op.Dec = true
 takes_operand op.Oct = true
 takes_operand op.End = false
+
+-- whether its operand is an expression
+abbrev pub takes_expression : Operation → Bool
+takes_expression (op.OfOrder order) = not (is_bare order)
+takes_expression op.Org = true
+takes_expression op.Equ = true
+takes_expression op.Bss = true
+takes_expression op.Dec = false
+takes_expression op.Oct = false
+takes_expression op.End = false
+
+-- whether its operand is one without a comma
+abbrev pub takes_one : Operation → Bool
+takes_one (op.OfOrder order) = false
+takes_one op.Org = true
+takes_one op.Equ = true
+takes_one op.Bss = true
+takes_one op.Dec = true
+takes_one op.Oct = true
+takes_one op.End = false

@@ -1,13 +1,12 @@
 -- What a line is read as: its card, or the first fault that a reader meets from left to right. It looks at the fields
 -- that are cut from the line.
-use Rattle.std.specs.Prelude.{ℕ, ◌-◌, ◌+◌, Bool, true, false, not, ◌&&◌, ◌||◌, ◌==◌, nat_lt, nat_le, nat_eq, pos, neg_ℤ, List, [], ◌∷◌, ◌++◌, length, take, drop, slice_index, Option, Some, None, Result, Ok, Err, if◌then◌else◌, codes}
+use Rattle.std.specs.Prelude.{ℕ, ◌-◌, ◌+◌, Bool, true, false, not, ◌&&◌, ◌||◌, ◌==◌, nat_lt, nat_le, nat_eq, List, [], ◌∷◌, ◌++◌, length, take, drop, slice_index, Option, Some, None, Result, Ok, Err, if◌then◌else◌, codes}
 use Rattle.std.specs.Option.{option_map, ok_or}
 use Rattle.std.specs.Char.{digit_value}
 use Rattle.std.specs.Cmp.Lexicographic.{pointwise}
 use Rattle.std.specs.List.{list_all, list_any}
 use Rattle.std.specs.Str.Parse.{digits_value, starts_with_minus, without_leading_sign}
 use Rattle.ags_text.specs.Field.{is_blank, leading_field, behind_leading_field, next_field, behind_field}
-use Rattle.ags_word.specs.Word.{wrap}
 use Rattle.ags_isa.specs.declared.orders.Order.{Order}
 use Rattle.ags_decimal.specs.Decimal.{Parts}
 use Rattle.ags_decimal.specs.Reading as decimal
@@ -23,11 +22,8 @@ use Rattle.ags_card.specs.declared.terms.Atom.TheVariants.{Number, Here, Symbol}
 use Rattle.ags_card.specs.declared.terms.Term.{Term}
 use Rattle.ags_card.specs.Operation.{operation_named, is_bare}
 use Rattle.ags_card.specs.Symbol.{is_symbol}
+use Rattle.ags_card.specs.Spelling.{is_allowed, signed_word, comment_card}
 use Rattle.ags_card.specs.Term.{zero_terms}
-
--- a byte that may stand on a card: a tab, or a character from the space to the tilde
-abbrev pub is_allowed : ℕ → Bool
-is_allowed b = b == 9 || (nat_lt 31 b && nat_lt b 127)
 
 -- ---- numbers and expressions
 
@@ -100,10 +96,6 @@ plain_terms operand = one_operand operand (ok_or (expression_reading operand) Ba
 unfoldable pub decimal_operand : List ℕ → Result Parts CardFault
 decimal_operand operand = one_operand operand (ok_or (decimal.reading operand) BadDecimal)
 
--- the word of a number with its sign
-abbrev pub signed_word : Bool → ℕ → ℕ
-signed_word negative number = if negative then wrap (neg_ℤ (pos number)) else number
-
 -- the word that an octal number with a sign or without writes
 unfoldable pub octal_reading : List ℕ → Option ℕ
 octal_reading text = option_map (signed_word (starts_with_minus text)) (number_of 8 6 (without_leading_sign text))
@@ -159,10 +151,6 @@ operand_field line = next_field (behind_field (behind_leading_field line))
 -- whether a line is a comment
 abbrev pub is_comment : List ℕ → Bool
 is_comment line = slice_index line 0 == 42 || list_all is_blank line
-
--- the card of a comment
-abbrev pub comment_card : Card
-comment_card = record { symbol = None; body = body.Comment }
 
 -- the card that a line is, or its least fault
 unfoldable pub reading : List ℕ → Result Card CardFault

@@ -3,7 +3,8 @@
 ghost use Rattle.std.specs.Prelude.{◌≡◌, ◌≤◌, ◌&&◌, ◌||◌, ◌==◌, nat_lt, length, slice_index, codes, nat_eq};
 ghost use Rattle.std.specs.List.{list_all};
 ghost use Rattle.std.specs.Cmp.Lexicographic.{pointwise};
-ghost use Rattle.ags_card.specs.Reading.{is_allowed, is_comment, fits_symbol, body_reading, fields_reading, reading};
+ghost use Rattle.ags_card.specs.Spelling.{is_allowed};
+ghost use Rattle.ags_card.specs.Reading.{is_comment, fits_symbol, body_reading, fields_reading, reading};
 ghost use Rattle.ags_card.specs.declared.operations.Operation.TheVariants.{OfOrder};
 
 use crate::cards::{Body, Card, CardFault};
