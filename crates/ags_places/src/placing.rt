@@ -85,10 +85,8 @@ fn set_place(symbols: &Symbols, place: u16, terms: &Terms) -> Result<Effect, Sou
     if value < 0 || value > 4095 {
         return Err(SourceKind::PlaceRange);
     }
-    Ok(Effect {
-        value,
-        next: value as u16,
-    })
+    let next = value as u16;
+    Ok(Effect { value, next })
 }
 
 /// An EQU.
@@ -101,7 +99,8 @@ fn give_value(symbols: &Symbols, place: u16, terms: &Terms) -> Result<Effect, So
     if value < -VALUE_LIMIT || value > VALUE_LIMIT {
         return Err(SourceKind::PlaceRange);
     }
-    Ok(Effect { value, next: place })
+    let next = place;
+    Ok(Effect { value, next })
 }
 
 /// A BSS.
@@ -114,10 +113,9 @@ fn move_place(symbols: &Symbols, place: u16, terms: &Terms) -> Result<Effect, So
     if size < 0 || size > 4096 - i32::from(place) {
         return Err(SourceKind::PlaceRange);
     }
-    Ok(Effect {
-        value: i32::from(place),
-        next: place + size as u16,
-    })
+    let value = i32::from(place);
+    let next = place + size as u16;
+    Ok(Effect { value, next })
 }
 
 /// What a card does at its place.

@@ -4,8 +4,8 @@ ghost use Rattle.std.specs.Prelude.{◌≡◌, ◌≤◌, length, None, Some, If
 ghost use Rattle.ags_places.specs.Deck.{is_end};
 ghost use Rattle.ags_places.specs.Fault.{kind_of, first_card_fault};
 
-use crate::sources::SOURCE_LIMIT;
 use crate::source_error::{SourceError, SourceKind};
+use crate::sources::SOURCE_LIMIT;
 use ags_card::{Body, CardFault, read_card};
 use ags_text::Lines;
 

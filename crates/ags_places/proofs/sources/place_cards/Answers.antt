@@ -60,10 +60,10 @@ loop-line-preserved c =
     let right = c.in-Ok-place_card.ensures.faultless in
     record {
       placing = rw (c.in_ok-push.ensures.items, c.place_line.ensures, c.in-Ok-place_card.ensures.pair, c.in-Ok-place_card.ensures.next, c.len.ensures, c.loop-line.cards.ok.0)
-      (placing_next c.args.bytes.now (line_at c.in-Some.line) c.next.new.self c.loop-line.cards.items c.loop-line.symbols c.loop-line.place c.in-Ok.card _ placing (sym c.in-Ok.ensures) (sym c.if-is_end.ensures) right);
+          (placing_next c.args.bytes.now (line_at c.in-Some.line) c.next.new.self c.loop-line.cards.items c.loop-line.symbols c.loop-line.place c.in-Ok.card _ placing (sym c.in-Ok.ensures) (sym c.if-is_end.ensures) right);
       small = c.in-Ok-place_card.ensures.small;
       within = rw (c.in_ok-push.ensures.items, c.place_line.ensures)
-      (All-push IsInMemory c.loop-line.cards.items _ c.loop-line.invariant.within (place_within c.loop-line.symbols c.loop-line.place c.in-Ok.card (line_at c.in-Some.line) right));
+          (All-push IsInMemory c.loop-line.cards.items _ c.loop-line.invariant.within (place_within c.loop-line.symbols c.loop-line.place c.in-Ok.card (line_at c.in-Some.line) right));
     }
 
 pub returns-clause-placed : goal.returns-clause-placed
