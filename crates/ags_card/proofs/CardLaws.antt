@@ -99,7 +99,7 @@ record FitsField (symbol : List ℕ) (operation : Operation) : Type 0 where
   same : unwrap_or (symbol_of symbol) [] ≡ symbol
   fits : FitsSymbol (symbol_of symbol) operation
 
-empty_of_length : (symbol : List ℕ) → (length symbol == 0) ≡ true → symbol ≡ []
+pub empty_of_length : (symbol : List ℕ) → (length symbol == 0) ≡ true → symbol ≡ []
 empty_of_length [] is = refl
 empty_of_length (b ∷ symbol) is = absurd (grind (arith, nat_tests))
 
@@ -153,7 +153,7 @@ fields_spelled line card is =
         let begins = first_some operand others one.1 first in
         rw (one.0) (begins.others, begins.fields_are)
 
-comment_is : (line : List ℕ) → is_comment line ≡ true → IsComment line
+pub comment_is : (line : List ℕ) → is_comment line ≡ true → IsComment line
 comment_is line is =
     elim (or_cases (slice_index line 0 == 42) (list_all is_blank line) is) [
       | inl at ↦ inr (eqb-true (slice_index line 0) 42 at)
@@ -207,7 +207,7 @@ other_name operation other =
       let found : Some operation ≡ Some op.Equ = sym (name_named operation) ∙ ap operation_named name ∙ name_named op.Equ in
       other (cc))
 
-some_not_zero : (symbol : List ℕ) → 0 < length symbol → (length symbol == 0) ≡ false
+pub some_not_zero : (symbol : List ℕ) → 0 < length symbol → (length symbol == 0) ≡ false
 some_not_zero symbol some = ne_eqb (length symbol) 0 (λ none. omega (arith, some, none))
 
 field_fits : (symbol : Option (List ℕ)) (operation : Operation) → FitsSymbol symbol operation → fits_symbol (unwrap_or symbol []) (operation_name operation) ≡ true
@@ -238,7 +238,7 @@ writes_read line card writes =
       asked,
     ) refl
 
-is_comment_from : (line : List ℕ) → IsComment line → is_comment line ≡ true
+pub is_comment_from : (line : List ℕ) → IsComment line → is_comment line ≡ true
 is_comment_from line (inl blanks) = or_right (slice_index line 0 == 42) (list_all is_blank line) blanks
 is_comment_from line (inr at) = or_left (slice_index line 0 == 42) (list_all is_blank line) (eq-eqb (slice_index line 0) 42 at)
 

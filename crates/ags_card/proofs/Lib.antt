@@ -2,6 +2,7 @@ pub mod BodyLaws
 pub mod ByteLemmas
 pub mod CardLaws
 pub mod ExpressionLaws
+pub mod FaultLaws
 pub mod FieldLemmas
 pub mod NumberLemmas
 pub mod OperandLaws
