@@ -4,6 +4,7 @@ pub mod CardLaws
 pub mod ExpressionLaws
 pub mod FaultLaws
 pub mod FieldLemmas
+pub mod LimitLaws
 pub mod NumberLemmas
 pub mod OperandLaws
 pub mod OperationLemmas
