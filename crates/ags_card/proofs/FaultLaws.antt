@@ -25,13 +25,13 @@ use Rattle.ags_card.specs.Spelling.{is_allowed, comment_card, HasCardFields, Hol
 use Rattle.ags_card.specs.Reading.{checked, mapped, one_operand, expression_reading, is_indexed, without_index, order_terms, plain_terms, decimal_operand, octal_reading, octal_operand, body_reading, fits_symbol, symbol_of, operation_reading, fields_reading, symbol_field, operation_field, operand_field, is_comment, reading}
 use Rattle.ags_card.proofs.ByteLemmas.{some_fails, fails_not_all}
 use Rattle.ags_card.proofs.SymbolLemmas.{is_symbol-IsSymbol, IsSymbol-is_symbol}
-use Rattle.ags_card.proofs.OperationLemmas.{named_name, name_named}
+use Rattle.ags_card.proofs.OperationLemmas.{named_name, name_named, name_some}
 use Rattle.ags_card.proofs.ResultLemmas.{checked_err, mapped_err, ok_or_err, none_found, AtMost, at_most_checked, at_most_failed, at_most_mapped, at_most_none, at_most-ok, at_most-err}
 use Rattle.ags_card.proofs.ExpressionLaws.{expression_spelled}
 use Rattle.ags_card.proofs.OperandLaws.{is_no_comma, marked, octal_spells}
 use Rattle.ags_card.proofs.FieldLemmas.{card_fields, first_field, second_field, cut_read, fields_read}
 use Rattle.ags_card.proofs.BodyLaws.{body_read}
-use Rattle.ags_card.proofs.CardLaws.{name_some, first_some, comment_is, is_comment_from, empty_of_length, some_not_zero, reading-spells, spelled-reading}
+use Rattle.ags_card.proofs.CardLaws.{first_some, comment_is, is_comment_from, empty_of_length, some_not_zero, reading-spells, spelled-reading}
 
 -- ---- what is told of an operation and its operand
 

@@ -1,5 +1,5 @@
 -- What holds of each card that a line spells: its symbol, its limits, and the orders without an operand.
-use Rattle.std.proofs.Common.{◌≡◌, ℕ, ◌+◌, ◌*◌, ◌^◌, ◌<◌, ◌≤◌, Bool, true, false, List, [], ◌∷◌, ◌++◌, length, Option, Some, None, refl, sym, ap, ◌∙◌, inl, inr, arith}
+use Rattle.std.proofs.Common.{◌≡◌, ℕ, ◌+◌, ◌*◌, ◌^◌, ◌<◌, ◌≤◌, Bool, true, false, List, [], ◌∷◌, ◌++◌, length, Option, Some, None, unwrap_or, refl, sym, ap, ◌∙◌, inl, inr, arith}
 use Rattle.std.specs.Prelude.{All, IfSome, IsSome, Result, Ok, neg_ℤ, pos}
 use Rattle.std.proofs.lemmas.Bool.{cases_Bool}
 use Rattle.std.proofs.lemmas.List.{length-append}
@@ -19,11 +19,11 @@ use Rattle.ags_card.specs.Operation.{operation_name, is_bare}
 use Rattle.ags_card.specs.Symbol.{IsSymbol}
 use Rattle.ags_card.specs.Term.{HasSmallNumber, AreTerms, zero_terms}
 use Rattle.ags_card.specs.Limit.{KeepsLimits}
-use Rattle.ags_card.specs.Spelling.{IsAtom, sign_byte, IsSum, IsExpression, index_mark, IsOrderOperand, IsOctalOperand, IsOrder, IsWritten, FitsSymbol, comment_card, WritesCard, Spells}
+use Rattle.ags_card.specs.Spelling.{IsAtom, sign_byte, IsSum, IsExpression, index_mark, IsOrderOperand, signed_word, IsOctalOperand, IsOrder, IsWritten, FitsSymbol, comment_card, WritesCard, Spells}
 use Rattle.ags_card.specs.Reading.{operand_field, reading}
 use Rattle.ags_card.proofs.NumberLemmas.{number_below, small_decimal}
-use Rattle.ags_card.proofs.TermLemmas.{none_empty, operand_short}
-use Rattle.ags_card.proofs.ExpressionLaws.{atom_read}
+use Rattle.ags_card.proofs.TermLemmas.{operand_short}
+use Rattle.ags_card.proofs.ExpressionLaws.{atom_some}
 use Rattle.ags_card.proofs.FieldLemmas.{fields_read}
 use Rattle.ags_card.proofs.CardLaws.{reading-spells}
 
@@ -34,9 +34,6 @@ small_atom text (Number number) (inl octal) = let below : number < 8 ^ 6 = numbe
 small_atom text (Number number) (inr decimal) = small_decimal text number decimal
 small_atom text Here is = tt
 small_atom text (Symbol name) is = tt
-
-atom_some : (text : List ℕ) (atom : Atom) → IsAtom text atom → 0 < length text
-atom_some text atom is = none_empty text atom (atom_read text atom is)
 
 small_sum : (terms : List Term) (text : List ℕ) → IsSum text terms → All (λ term. HasSmallNumber term.atom) terms
 small_sum [] text is = absurd is
@@ -76,7 +73,7 @@ order_terms_of false terms indexed operands short is =
 octal_word : (operand : List ℕ) (word : ℕ) → IsOctalOperand operand word → word < 2 ^ 18
 octal_word operand word is = rw (is.word_is) (signed_below is.negative)
   where
-    signed_below : (negative : Bool) → Rattle.ags_card.specs.Spelling.signed_word negative is.number < 2 ^ 18
+    signed_below : (negative : Bool) → signed_word negative is.number < 2 ^ 18
     signed_below true = wrap_below (neg_ℤ (pos is.number))
     signed_below false = let below : is.number < 8 ^ 6 = number_below 8 6 is.digits is.number (omega arith) is.is_octal in omega (arith, below)
 
@@ -95,7 +92,7 @@ body_limits body.End operation operands short is = tt
 -- the operand of a card is no longer than its line
 operand_within : (line : List ℕ) (card : Card) (writes : WritesCard line card) → length line ≤ 120 → (operand : List ℕ) → writes.operands ≡ operand ∷ [] → length operand ≤ 120
 operand_within line card writes short operand is =
-    let read = fields_read line (Rattle.std.proofs.Common.unwrap_or card.symbol []) (operation_name writes.operation ∷ (writes.operands ++ writes.remark)) writes.fields in
+    let read = fields_read line (unwrap_or card.symbol []) (operation_name writes.operation ∷ (writes.operands ++ writes.remark)) writes.fields in
     let same : operand_field line ≡ operand = rw is at (read.read.operand) in
     omega (arith, ap length same, operand_short line, short)
 
