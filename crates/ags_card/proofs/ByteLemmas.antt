@@ -1,5 +1,5 @@
 -- Tests of the bytes of a text: of each, of the first, and of some byte; and the digits among them.
-use Rattle.std.proofs.Common.{◌≡◌, ℕ, ◌<◌, ◌≤◌, ◌&&◌, ◌||◌, ◌==◌, Bool, true, false, not, List, [], ◌∷◌, ◌++◌, length, drop, refl, sym, ap, ◌∙◌, inl, inr, nat_eq, arith}
+use Rattle.std.proofs.Common.{◌≡◌, ℕ, ◌<◌, ◌≤◌, ◌⊎◌, ◌&&◌, ◌||◌, ◌==◌, Bool, true, false, not, List, [], ◌∷◌, ◌++◌, length, drop, refl, sym, ap, ◌∙◌, inl, inr, nat_eq, arith}
 use Rattle.std.specs.Prelude.{nat_lt, slice_index}
 use Rattle.std.specs.Char.{digit_value}
 use Rattle.std.specs.Cmp.Lexicographic.{pointwise, same_text}
@@ -11,6 +11,11 @@ use Rattle.std.proofs.lemmas.List.Folds.{list_all-append}
 use Rattle.ags_decimal.specs.Spelling.{is_digit, IsSign}
 use Rattle.ags_card.specs.Spelling.{Holds}
 use Rattle.ags_card.proofs.NumberLemmas.{digits_pass}
+
+-- a text is empty or has some bytes
+pub list_cases : (text : List ℕ) → (text ≡ []) ⊎ (0 < length text)
+list_cases [] = inl refl
+list_cases (b ∷ text) = inr (omega arith)
 
 -- ---- each byte
 

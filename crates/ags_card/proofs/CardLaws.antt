@@ -7,9 +7,6 @@ use Rattle.std.proofs.lemmas.Bool.{cases_Bool, lt-ltb, ltb-true, eqb-true, eq-eq
 use Rattle.std.proofs.lemmas.Bool.Decides.{nat_tests}
 use Rattle.std.proofs.lemmas.List.{append-nil}
 use Rattle.ags_text.specs.Field.{is_blank, AreBlanks}
-use Rattle.ags_isa.specs.declared.orders.Order.{Order}
-use Rattle.ags_isa.specs.declared.orders.Order.TheVariants.{Abs, Add, Adz, Als, Axt, Cla, Clz, Com, Dly, Dvp, Inp, Ldq, Lls, Lrs, Mpr, Mpy, Mpz, Out, Sto, Stq, Sub, Suz, Tix, Tmi, Tov, Tra, Tsq}
-use Rattle.ags_isa.specs.Order.{order_name}
 use Rattle.ags_card.specs.declared.cards.Card.{Card}
 use Rattle.ags_card.specs.declared.cards.Body.{Body}
 use Rattle.ags_card.specs.declared.cards.CardFault.TheVariants.{BadByte, LongCard, BadSymbol}
@@ -21,52 +18,13 @@ use Rattle.ags_card.specs.Spelling.{is_allowed, IsComment, comment_card, HasCard
 use Rattle.ags_card.specs.Reading.{checked, mapped, body_reading, fits_symbol, symbol_of, operation_reading, fields_reading, symbol_field, operation_field, operand_field, is_comment, reading}
 use Rattle.ags_card.proofs.ByteLemmas.{first_by}
 use Rattle.ags_card.proofs.SymbolLemmas.{is_symbol-IsSymbol, IsSymbol-is_symbol}
-use Rattle.ags_card.proofs.OperationLemmas.{named_name, name_named}
+use Rattle.ags_card.proofs.OperationLemmas.{named_name, name_named, name_some}
 use Rattle.ags_card.proofs.ResultLemmas.{checked_ok, mapped_ok}
 use Rattle.ags_card.proofs.FieldLemmas.{card_fields, first_field, second_field, cut_read, fields_read, not_blank}
-use Rattle.ags_card.proofs.BodyLaws.{Stands, body_spelled, IsFirst, body_read}
+use Rattle.ags_card.proofs.BodyLaws.{Stands, BodyIsWritten, body_spelled, IsFirst, body_read}
 use Rattle.ags_decimal.specs.Spelling.{is_digit}
 
 -- ---- operations
-
-order_name_some : (order : Order) → 0 < length (order_name order)
-order_name_some Abs = omega arith
-order_name_some Add = omega arith
-order_name_some Adz = omega arith
-order_name_some Als = omega arith
-order_name_some Axt = omega arith
-order_name_some Cla = omega arith
-order_name_some Clz = omega arith
-order_name_some Com = omega arith
-order_name_some Dly = omega arith
-order_name_some Dvp = omega arith
-order_name_some Inp = omega arith
-order_name_some Ldq = omega arith
-order_name_some Lls = omega arith
-order_name_some Lrs = omega arith
-order_name_some Mpr = omega arith
-order_name_some Mpy = omega arith
-order_name_some Mpz = omega arith
-order_name_some Out = omega arith
-order_name_some Sto = omega arith
-order_name_some Stq = omega arith
-order_name_some Sub = omega arith
-order_name_some Suz = omega arith
-order_name_some Tix = omega arith
-order_name_some Tmi = omega arith
-order_name_some Tov = omega arith
-order_name_some Tra = omega arith
-order_name_some Tsq = omega arith
-
--- a name is not empty
-pub name_some : (operation : Operation) → 0 < length (operation_name operation)
-name_some (op.OfOrder order) = order_name_some order
-name_some op.Org = omega arith
-name_some op.Equ = omega arith
-name_some op.Bss = omega arith
-name_some op.Dec = omega arith
-name_some op.Oct = omega arith
-name_some op.End = omega arith
 
 -- the operation that was read
 pub record IsOperation (found : Option Operation) (operand : List ℕ) (asked : Body) : Type 0 where
@@ -99,7 +57,7 @@ record FitsField (symbol : List ℕ) (operation : Operation) : Type 0 where
   same : unwrap_or (symbol_of symbol) [] ≡ symbol
   fits : FitsSymbol (symbol_of symbol) operation
 
-empty_of_length : (symbol : List ℕ) → (length symbol == 0) ≡ true → symbol ≡ []
+pub empty_of_length : (symbol : List ℕ) → (length symbol == 0) ≡ true → symbol ≡ []
 empty_of_length [] is = refl
 empty_of_length (b ∷ symbol) is = absurd (grind (arith, nat_tests))
 
@@ -124,36 +82,70 @@ fits_field symbol operation fits =
 
 -- ---- from what is read to what is spelled
 
-fields_spelled : (line : List ℕ) (card : Card) → fields_reading (symbol_field line) (operation_field line) (operand_field line) ≡ Ok card → WritesCard line card
-unfolding fields_reading
-fields_spelled line card is =
-    let fits = checked_ok (fits_symbol (symbol_field line) (operation_field line)) BadSymbol _ card is in
-    let made = mapped_ok (λ asked. record { symbol = symbol_of (symbol_field line); body = asked }) (operation_reading (operation_named (operation_field line)) (operand_field line)) card fits.1 in
-    let read = operation_ok (operation_named (operation_field line)) (operand_field line) made.x made.result_is in
-    let name = named_name (operation_field line) read.operation read.found_is in
-    let written = body_spelled read.operation (operand_field line) made.x read.body_is in
-    let of = card_fields line in
-    let cut = cut_read line of.fields of.cut in
-    let begins = first_some (operation_name read.operation) of.fields (name_some read.operation) (sym cut.operation ∙ sym name) in
-    let field = fits_field (symbol_field line) read.operation (ap (fits_symbol (symbol_field line)) name ∙ fits.0) in
-    let rest = remark_of written.operands (operand_field line) begins.others written.stands (sym begins.second_is ∙ sym cut.operand) in
-    rw (made.made) (record {
-      operation = read.operation;
+-- what stands behind the operands is the remark
+record IsRemark (operands others : List (List ℕ)) : Type 0 where
+  remark : List (List ℕ)
+  whole : others ≡ operands ++ remark
+
+remark_of : (operands : List (List ℕ)) (operand : List ℕ) (others : List (List ℕ)) → Stands operands operand → first_field others ≡ operand → IsRemark operands others
+remark_of operands operand others (inl none) first = rw none (record { remark = others; whole = refl })
+remark_of operands operand others (inr one) first =
+    let begins = first_some operand others one.1 first in
+    rw (one.0) (record { remark = begins.others; whole = begins.fields_are })
+
+-- the card of fields that were read
+written_card : (line symbol : List ℕ) (fields : List (List ℕ)) (operation : Operation) (operand : List ℕ) (asked : Body) → HasCardFields line symbol fields
+    → first_field fields ≡ operation_name operation → second_field fields ≡ operand → fits_symbol symbol (operation_name operation) ≡ true → BodyIsWritten asked operation operand
+    → WritesCard line (record { symbol = symbol_of symbol; body = asked })
+written_card line symbol fields operation operand asked has first second fits written =
+    let begins = first_some (operation_name operation) fields (name_some operation) first in
+    let rest = remark_of written.operands operand begins.others written.stands (sym begins.second_is ∙ second) in
+    let field = fits_field symbol operation fits in
+    let all : fields ≡ operation_name operation ∷ (written.operands ++ rest.remark) = begins.fields_are ∙ ap (λ (x : List (List ℕ)). operation_name operation ∷ x) rest.whole in
+    record {
+      operation = operation;
       operands = written.operands;
-      remark = rest.0;
-      fields = subst (λ fields. HasCardFields line (unwrap_or (symbol_of (symbol_field line)) []) fields) (begins.fields_are ∙ ap (λ x. operation_name read.operation ∷ x) rest.1)
-      (subst (λ symbol. HasCardFields line symbol of.fields) (sym field.same) of.has);
+      remark = rest.remark;
+      fields = rw (field.same, ← all) has;
       fits = field.fits;
       written = written.written;
-    })
-  where
-    remark_of : (operands : List (List ℕ)) (operand : List ℕ) (others : List (List ℕ)) → Stands operands operand → first_field others ≡ operand → (remark : List (List ℕ)) × (others ≡ operands ++ remark)
-    remark_of operands operand others (inl none) first = rw none (others, refl)
-    remark_of operands operand others (inr one) first =
-        let begins = first_some operand others one.1 first in
-        rw (one.0) (begins.others, begins.fields_are)
+    }
 
-comment_is : (line : List ℕ) → is_comment line ≡ true → IsComment line
+-- a card that was read of its fields
+record ReadsAs (symbol operation operand : List ℕ) (card : Card) : Type 0 where
+  named : Operation
+  asked : Body
+  fits : fits_symbol symbol operation ≡ true
+  name : operation_name named ≡ operation
+  written : BodyIsWritten asked named operand
+  card_is : card ≡ record { symbol = symbol_of symbol; body = asked }
+
+reads_as : (symbol operation operand : List ℕ) (card : Card) → fields_reading symbol operation operand ≡ Ok card → ReadsAs symbol operation operand card
+unfolding fields_reading
+reads_as symbol operation operand card is =
+    let fits = checked_ok (fits_symbol symbol operation) BadSymbol _ card is in
+    let made = mapped_ok (λ asked. record { symbol = symbol_of symbol; body = asked }) (operation_reading (operation_named operation) operand) card fits.1 in
+    let read = operation_ok (operation_named operation) operand made.x made.result_is in
+    record {
+      named = read.operation;
+      asked = made.x;
+      fits = fits.0;
+      name = named_name operation read.operation read.found_is;
+      written = body_spelled read.operation operand made.x read.body_is;
+      card_is = made.made;
+    }
+
+fields_spelled : (line : List ℕ) (card : Card) → fields_reading (symbol_field line) (operation_field line) (operand_field line) ≡ Ok card → WritesCard line card
+fields_spelled line card is =
+    let read = reads_as (symbol_field line) (operation_field line) (operand_field line) card is in
+    let of = card_fields line in
+    let cut = cut_read line of.fields of.cut in
+    let fits : fits_symbol (symbol_field line) (operation_name read.named) ≡ true = rw (read.name) read.fits in
+    rw (read.card_is) (
+      written_card line (symbol_field line) of.fields read.named (operand_field line) read.asked of.has (sym cut.operation ∙ sym read.name) (sym cut.operand) fits read.written
+    )
+
+pub comment_is : (line : List ℕ) → is_comment line ≡ true → IsComment line
 comment_is line is =
     elim (or_cases (slice_index line 0 == 42) (list_all is_blank line) is) [
       | inl at ↦ inr (eqb-true (slice_index line 0) 42 at)
@@ -207,7 +199,7 @@ other_name operation other =
       let found : Some operation ≡ Some op.Equ = sym (name_named operation) ∙ ap operation_named name ∙ name_named op.Equ in
       other (cc))
 
-some_not_zero : (symbol : List ℕ) → 0 < length symbol → (length symbol == 0) ≡ false
+pub some_not_zero : (symbol : List ℕ) → 0 < length symbol → (length symbol == 0) ≡ false
 some_not_zero symbol some = ne_eqb (length symbol) 0 (λ none. omega (arith, some, none))
 
 field_fits : (symbol : Option (List ℕ)) (operation : Operation) → FitsSymbol symbol operation → fits_symbol (unwrap_or symbol []) (operation_name operation) ≡ true
@@ -238,7 +230,7 @@ writes_read line card writes =
       asked,
     ) refl
 
-is_comment_from : (line : List ℕ) → IsComment line → is_comment line ≡ true
+pub is_comment_from : (line : List ℕ) → IsComment line → is_comment line ≡ true
 is_comment_from line (inl blanks) = or_right (slice_index line 0 == 42) (list_all is_blank line) blanks
 is_comment_from line (inr at) = or_left (slice_index line 0 == 42) (list_all is_blank line) (eq-eqb (slice_index line 0) 42 at)
 

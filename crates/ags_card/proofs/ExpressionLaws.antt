@@ -93,7 +93,7 @@ atom_bytes text (Number number) (inr decimal) = list_all-weaken is_digit is_atom
 atom_bytes text Here is = rw is refl
 atom_bytes text (Symbol name) is = rw (is.0) (list_all-weaken is_symbol_byte is_atom_byte symbol_byte name is.1.bytes)
 
-atom_some : (text : List ℕ) (atom : Atom) → IsAtom text atom → 0 < length text
+pub atom_some : (text : List ℕ) (atom : Atom) → IsAtom text atom → 0 < length text
 atom_some text atom is = none_empty text atom (atom_read text atom is)
 
 -- ---- terms
@@ -252,22 +252,12 @@ expression_bytes text [] is = absurd is
 expression_bytes text (term ∷ terms) is =
     rw (is.2) (list_all-join is_expression_byte is.0 is.1 (sign_bytes term.minus is.0 is.3) (sum_bytes (term ∷ terms) is.1 is.4))
 
--- no comma is among them, and no blank
+-- no comma is among them
 pub expression_no_comma : (text : List ℕ) (terms : List Term) → IsExpression text terms → list_all (λ b. not (b == 44)) text ≡ true
 expression_no_comma text terms is = list_all-weaken is_expression_byte (λ b. not (b == 44)) (is_not is_expression_byte 44 refl) text (expression_bytes text terms is)
 
+-- an expression is not empty
 pub expression_some : (text : List ℕ) (terms : List Term) → IsExpression text terms → 0 < length text
-expression_some text [] is = absurd is
-expression_some text (term ∷ []) is = rw (is.2) (longer is.0 is.1 (atom_some is.1 term.atom is.4))
-  where
-    longer : (sign behind : List ℕ) → 0 < length behind → 0 < length (sign ++ behind)
-    longer [] behind some = some
-    longer (b ∷ sign) behind some = omega arith
-expression_some text (term ∷ next ∷ terms) is = rw (is.2) (longer is.0 is.1 (rw (is.4.2) (front is.4.0 (sign_byte next.minus ∷ is.4.1) (atom_some is.4.0 term.atom is.4.3))))
-  where
-    longer : (sign behind : List ℕ) → 0 < length behind → 0 < length (sign ++ behind)
-    longer [] behind some = some
-    longer (b ∷ sign) behind some = omega arith
-    front : (atom behind : List ℕ) → 0 < length atom → 0 < length (atom ++ behind)
-    front [] behind some = absurd (omega arith)
-    front (b ∷ atom) behind some = omega arith
+unfolding expression_reading terms_reading atom_reading is_symbol number_of
+expression_some [] terms is = let none : ◌≡◌ {A = Option (List Term)} None (Some terms) = expression_read [] terms is in absurd (cc)
+expression_some (b ∷ text) terms is = omega arith

@@ -7,12 +7,8 @@ use Rattle.std.proofs.lemmas.List.Folds.{list_all-append}
 use Rattle.ags_text.specs.Field.{is_blank, AreBlanks, HasNoBlank, IsField, AreFields, AreSome, Behind, leading_field, behind_leading_field, behind_blanks, next_field, behind_field, AreCut}
 use Rattle.ags_text.proofs.FieldLaws.{standing_behind, cut_behind, blanks_end, none_blank}
 use Rattle.ags_card.specs.Spelling.{HasCardFields}
+use Rattle.ags_card.proofs.ByteLemmas.{list_cases}
 use Rattle.ags_card.specs.Reading.{symbol_field, operation_field, operand_field}
-
--- a list is empty or has some
-list_cases : (xs : List ℕ) → (xs ≡ []) ⊎ (0 < length xs)
-list_cases [] = inl refl
-list_cases (x ∷ xs) = inr (omega arith)
 
 -- what stands behind a field is shorter than the text
 behind_field_shorter : (text : List ℕ) → 0 < length (next_field text) → length (behind_field text) < length text

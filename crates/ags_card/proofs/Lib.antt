@@ -2,7 +2,9 @@ pub mod BodyLaws
 pub mod ByteLemmas
 pub mod CardLaws
 pub mod ExpressionLaws
+pub mod FaultLaws
 pub mod FieldLemmas
+pub mod LimitLaws
 pub mod NumberLemmas
 pub mod OperandLaws
 pub mod OperationLemmas

@@ -76,7 +76,7 @@ pub some_length : (operand : List ℕ) → 0 < length operand → nat_lt 0 (leng
 some_length operand some = lt-ltb 0 (length operand) some
 
 -- what stands before the mark or without it is the expression
-marked : (operand : List ℕ) (terms : List Term) → IsExpression (without_index operand) terms → IsOrderOperand terms (is_indexed operand) operand
+pub marked : (operand : List ℕ) (terms : List Term) → IsExpression (without_index operand) terms → IsOrderOperand terms (is_indexed operand) operand
 unfolding without_index
 marked operand terms expression =
     elim (cases_Bool (is_indexed operand)) [
@@ -175,7 +175,7 @@ decimal_read operand parts is =
 
 -- ---- octal numbers
 
-octal_spells : (text : List ℕ) (word : ℕ) → octal_reading text ≡ Some word → IsOctalOperand text word
+pub octal_spells : (text : List ℕ) (word : ℕ) → octal_reading text ≡ Some word → IsOctalOperand text word
 unfolding octal_reading
 octal_spells text word is =
     let found = option_map_some (signed_word (starts_with_minus text)) (number_of 8 6 (without_leading_sign text)) word is in

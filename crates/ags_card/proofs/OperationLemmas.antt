@@ -1,5 +1,5 @@
 -- Operations and their names.
-use Rattle.std.proofs.Common.{◌≡◌, ℕ, Bool, true, false, cond, ◌==◌, ◌||◌, List, [], ◌∷◌, Option, Some, None, refl, sym, ap, ◌∙◌, nat_eq, inl, inr}
+use Rattle.std.proofs.Common.{◌≡◌, ℕ, ◌<◌, length, Bool, true, false, cond, ◌==◌, ◌||◌, List, [], ◌∷◌, Option, Some, None, refl, sym, ap, ◌∙◌, nat_eq, inl, inr}
 use Rattle.std.specs.Prelude.{IfSome}
 use Rattle.std.specs.List.{find}
 use Rattle.std.specs.Cmp.Lexicographic.{pointwise, same_text}
@@ -12,6 +12,7 @@ use Rattle.ags_card.specs.declared.operations.Operation.{Operation}
 use Rattle.ags_card.specs.declared.operations.Operation.TheVariants as op
 use Rattle.ags_card.specs.Operation.{operation_name, operation_named, all_operations, is_bare}
 use Rattle.ags_card.proofs.NumberLemmas.{same_answer}
+use Rattle.ags_card.proofs.ByteLemmas.{list_cases}
 
 -- what is found passes the test
 found_passes : {X : Type 0} (p : X → Bool) (xs : List X) (x : X) → find p xs ≡ Some x → p x ≡ true
@@ -68,6 +69,18 @@ name_named op.Bss = refl
 name_named op.Dec = refl
 name_named op.Oct = refl
 name_named op.End = refl
+
+-- no operation has the empty name
+nothing_named : operation_named [] ≡ None
+unfolding operation_named
+nothing_named = refl
+
+pub name_some : (operation : Operation) → 0 < length (operation_name operation)
+name_some operation =
+    elim (list_cases (operation_name operation)) [
+      | inl none ↦ let both : ◌≡◌ {A = Option Operation} None (Some operation) = sym nothing_named ∙ ap operation_named (sym none) ∙ name_named operation in absurd (cc)
+      | inr some ↦ some
+    ]
 
 pub named : (text : List ℕ) (result : Option Operation) → IfSome result (λ operation. operation_name operation ≡ text)
     → ((operation : Operation) → operation_name operation ≡ text → result ≡ Some operation) → result ≡ operation_named text

@@ -4,5 +4,6 @@ pub mod Term
 pub mod Operation
 pub mod Spelling
 pub mod Reading
+pub mod Limit
 -- what serves inside
 pub mod Padding

@@ -19,5 +19,7 @@ pub use cards::{Body, Card, CardFault};
 pub use laws::symbols_are_capitals_and_digits;
 pub use names::Name;
 pub use reading::read_card;
-pub use reading_laws::{each_line_is_a_card_or_has_a_fault, lines_spell_what_is_read};
+pub use reading_laws::{
+    cards_keep_to_their_form, each_line_is_a_card_or_has_a_fault, lines_spell_what_is_read,
+};
 pub use terms::{Atom, Term, Terms};
