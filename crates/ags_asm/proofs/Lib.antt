@@ -1,10 +1,1 @@
-pub mod ApartLemmas
-pub mod AssembleLemmas
-pub mod CardLemmas
-pub mod ListLemmas
-pub mod MeaningLemmas
-pub mod MemoryLemmas
-pub mod PlaceLemmas
-pub mod ReadingExists
-pub mod ReadingLemmas
-pub mod WordLemmas
+pub mod MakingLemmas

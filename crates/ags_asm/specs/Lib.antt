@@ -1,9 +1,5 @@
 -- what the public contracts cite
-pub mod FaultText
-pub mod Phase
-pub mod Place
 pub mod Source
-pub mod Spelling
+pub mod Word
 -- what serves inside
-pub mod CardView
-pub mod Field
+pub mod Making

@@ -1,39 +1,77 @@
-//! The phase of words: no two cards have their words at one place (docs/SOURCE.md, Places).
+//! The word of a card (docs/SOURCE.md, Orders, DEC and OCT).
 
-ghost use Rattle.std.specs.Prelude.{◌≡◌, ◌<◌, ◌^◌, length, [], None, map, replicate, All, OnOk, IfOk, IfErr};
-ghost use Rattle.ags_text.specs.Fault.{first_fault};
-ghost use Rattle.ags_asm.specs.Place.{word_fault};
-ghost use Rattle.ags_asm.specs.Phase.{defined, IsInMemory, Stops};
+ghost use Rattle.std.specs.Prelude.{◌≡◌, ◌≤◌, ◌<◌, None, Some, OnOk, IfOk, IfErr, IsOk, unsigned_abs};
+ghost use Rattle.ags_card.specs.Reading.{reading};
+ghost use Rattle.ags_symbol.specs.Symbol.{sum_of};
+ghost use Rattle.ags_places.specs.Deck.{card_of};
+ghost use Rattle.ags_places.specs.Place.{operand};
+ghost use Rattle.ags_asm.specs.Word.{address_fault, word_at, word_fault_at};
 
-use crate::placed::{MEMORY_WORDS, Placed};
-use crate::source_error::{AssembleError, SourceKind};
-use std::alloc::{AllocError, Global};
+use ags_card::{Body, Terms, read_card};
+use ags_isa::{Codes, encode};
+use ags_places::SourceKind;
+use ags_symbol::Symbols;
+use ags_word::Word;
 
-/// For each place of the memory 0, since no card's word stands there yet.
-fn no_owners(alloc: Global) -> Result<Vec<u32>, AllocError>
-    ensures { IfOk result (λ owners. owners.items ≡ replicate 4096 0) }
+/// The address that an operand comes to.
+fn address_of(symbols: &Symbols, place: u16, terms: &Terms) -> Result<u16, SourceKind>
+    requires { place ≤ 4096 }
+    ensures address { IfOk result (λ address. address ≡ unsigned_abs (operand symbols.now place terms.now)) }
+    ensures small { IfOk result (λ address. address < 4096) }
+    ensures faultless { OnOk result (address_fault (sum_of symbols.now place terms.now) ≡ None) }
+    ensures fault { IfErr result (λ kind. address_fault (sum_of symbols.now place terms.now) ≡ Some kind) }
 {
-    vec![in alloc; 0u32; MEMORY_WORDS as usize]
+    let Some(value) = symbols.value_of(terms, place) else {
+        return Err(SourceKind::Undefined);
+    };
+    if value < 0 || value > 4095 {
+        return Err(SourceKind::AddressRange { value });
+    }
+    Ok(value as u16)
 }
 
-/// Finds the first card whose place has the word of an earlier one.
-pub(crate) fn check_words(alloc: Global, placed: &[Placed]) -> Result<(), AssembleError>
-    requires few { length placed.now < 2 ^ 32 }
-    requires within { All IsInMemory placed.now }
-    ensures faultless { OnOk result (first_fault word_fault [] (map defined placed.now) ≡ None) }
-    ensures refused { IfErr result (Stops (first_fault word_fault [] (map defined placed.now))) }
+/// The word of a card at its place, and 000000 where it has none.
+fn make_word(
+    codes: &Codes,
+    symbols: &Symbols,
+    place: u16,
+    body: &Body,
+) -> Result<Word, SourceKind>
+    requires { place ≤ 4096 }
+    ensures word { IfOk result (λ word. word ≡ word_at codes.now symbols.now place body.now) }
+    ensures faultless { OnOk result (word_fault_at symbols.now place body.now ≡ None) }
+    ensures fault { IfErr result (λ kind. word_fault_at symbols.now place body.now ≡ Some kind) }
 {
-    // the number of the card whose word stands at each place, or 0
-    let mut owners = no_owners(alloc)?;
-    for (index, card) in placed.iter().enumerate() {
-        let Some(place) = card.place else {
-            continue;
-        };
-        let first = owners[place as usize];
-        if first != 0 {
-            return Err(AssembleError::at(index, SourceKind::PlaceTwice { first }));
+    match body {
+        Body::Comment | Body::Org(_) | Body::Equ(_) | Body::Bss(_) | Body::End => Ok(Word::ZERO),
+        Body::Order {
+            order,
+            terms,
+            indexed,
+        } => {
+            let address = address_of(symbols, place, terms)?;
+            Ok(encode(codes, *order, *indexed, address))
         }
-        owners[place as usize] = index as u32 + 1;
+        Body::Dec(decimal) => ags_decimal::word(decimal).ok_or(SourceKind::ValueRange),
+        Body::Oct(word) => Ok(*word),
     }
-    Ok(())
+}
+
+/// The word of a line's card at its place.
+pub(crate) fn word_of_line(
+    codes: &Codes,
+    symbols: &Symbols,
+    place: u16,
+    line: &[u8],
+) -> Result<Word, SourceKind>
+    requires place { place ≤ 4096 }
+    requires card { IsOk (reading line.now) }
+    ensures word { IfOk result (λ word. word ≡ word_at codes.now symbols.now place (card_of (reading line.now)).body) }
+    ensures faultless { OnOk result (word_fault_at symbols.now place (card_of (reading line.now)).body ≡ None) }
+    ensures fault { IfErr result (λ kind. word_fault_at symbols.now place (card_of (reading line.now)).body ≡ Some kind) }
+{
+    match read_card(line) {
+        Ok(card) => make_word(codes, symbols, place, &card.body),
+        Err(_) => Ok(Word::ZERO),
+    }
 }

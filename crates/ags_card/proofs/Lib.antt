@@ -1,1 +1,13 @@
+pub mod BodyLaws
+pub mod ByteLemmas
+pub mod CardLaws
+pub mod ExpressionLaws
+pub mod FaultLaws
+pub mod FieldLemmas
+pub mod LimitLaws
+pub mod NumberLemmas
+pub mod OperandLaws
+pub mod OperationLemmas
+pub mod ResultLemmas
 pub mod SymbolLemmas
+pub mod TermLemmas

@@ -4,7 +4,8 @@ use Rattle.std.specs.Prelude.{nat_lt}
 use Rattle.std.specs.List.{list_all}
 use Rattle.std.proofs.lemmas.Bool.{and_parts}
 use Rattle.std.proofs.lemmas.Bool.Decides.{nat_tests}
-use Rattle.ags_card.specs.Symbol.{is_capital, is_digit, is_symbol, IsSymbol}
+use Rattle.ags_decimal.specs.Spelling.{is_digit}
+use Rattle.ags_card.specs.Symbol.{is_capital, is_symbol, IsSymbol}
 use Rattle.ags_card.specs.Padding.{padded}
 
 -- a text of six bytes at most is the front of its six bytes

@@ -1,14 +1,11 @@
 -- What a source may name a value by: a symbol.
 use Rattle.std.specs.Prelude.{ℕ, ◌≡◌, ◌<◌, ◌≤◌, Bool, ◌&&◌, ◌||◌, nat_lt, List, length, not, IsTrue, false}
 use Rattle.std.specs.List.{list_all}
+use Rattle.ags_decimal.specs.Spelling.{is_digit}
 
 -- a capital letter
 abbrev pub is_capital : ℕ → Bool
 is_capital b = nat_lt 64 b && nat_lt b 91
-
--- a decimal digit
-abbrev pub is_digit : ℕ → Bool
-is_digit b = nat_lt 47 b && nat_lt b 58
 
 -- one to six capitals and digits, which are not all digits
 unfoldable pub is_symbol : List ℕ → Bool

@@ -1,11 +1,25 @@
-//! What stands on a card of a source. So far it has the names that a card may define and use. Each call is pinned by a
-//! definition in `specs/`, and none takes memory.
+//! What stands on a card of a source: the card that a line is, or its least fault. `read_card` is pinned by a computing
+//! definition in `specs/`, and laws say that it is the spelling of cards, both ways. No call takes memory.
 #![tactic(auto)]
 
+mod cards;
+mod expressions;
+mod fields;
 mod laws;
 mod names;
+mod operands;
+mod operations;
+mod reading;
+mod reading_laws;
+mod terms;
 #[cfg(test)]
 mod tests;
 
+pub use cards::{Body, Card, CardFault};
 pub use laws::symbols_are_capitals_and_digits;
 pub use names::Name;
+pub use reading::read_card;
+pub use reading_laws::{
+    cards_keep_to_their_form, each_line_is_a_card_or_has_a_fault, lines_spell_what_is_read,
+};
+pub use terms::{Atom, Term, Terms};

@@ -2,9 +2,17 @@
 
 ghost use Rattle.std.specs.Prelude.{◌≡◌, ℕ, ◌≤◌, Some, None, if◌then◌else◌, ◌||◌, true, get_or};
 ghost use Rattle.std.specs.List.{list_all};
-ghost use Rattle.ags_card.specs.Symbol.{is_capital, is_digit, is_symbol};
+ghost use Rattle.std.specs.Hash as fed;
+ghost use Rattle.std.specs.Cmp.{partial_equiv_from_equiv};
+ghost use Rattle.std.specs.Cmp.Lexicographic.{pointwise, nat_list_eq_equiv};
+ghost use Rattle.std.specs.Cmp.Rules.{hashing};
+ghost use Rattle.std.proofs.Common.{rules};
+ghost use Rattle.std.specs.Prelude.{nat_eq};
+ghost use Rattle.ags_decimal.specs.Spelling.{is_digit};
+ghost use Rattle.ags_card.specs.Symbol.{is_capital, is_symbol};
 ghost use Rattle.ags_card.specs.Padding.{padded};
 
+use std::hash::{Hash, Hasher};
 use std::marker::Model;
 
 /// The most bytes of a symbol.
@@ -15,7 +23,7 @@ const MOST_BYTES: usize = 6;
 pub struct Name {
     /// The symbol's bytes, with zeros behind them.
     bytes: [u8; 6],
-    length: usize,
+    length: u8,
 }
 
 impl Model for Name {
@@ -77,7 +85,7 @@ fn are_digits(text: &[u8]) -> bool
 
 /// Whether a text is a symbol.
 #[tactic(auto, unfolding(crate::specs::Symbol::is_symbol))]
-fn is_symbol(text: &[u8]) -> bool
+pub(crate) fn is_symbol(text: &[u8]) -> bool
     ensures { result ≡ is_symbol text.now }
 {
     are_symbol_bytes(text) && !are_digits(text) && !text.is_empty() && text.len() <= MOST_BYTES
@@ -93,7 +101,7 @@ impl Name {
         }
         Some(Name {
             bytes: pad(text),
-            length: text.len(),
+            length: text.len() as u8,
         })
     }
 
@@ -102,6 +110,30 @@ impl Name {
         ensures same { result.now ≡ self.now }
         ensures symbol { is_symbol result.now ≡ true }
     {
-        &self.bytes[..self.length]
+        &self.bytes[..usize::from(self.length)]
+    }
+}
+
+impl PartialEq for Name {
+    ghost eq = { pointwise nat_eq };
+
+    ghost laws = { partial_equiv_from_equiv nat_list_eq_equiv };
+
+    fn eq(&self, other: &Name) -> bool {
+        self.bytes() == other.bytes()
+    }
+}
+
+impl Eq for Name {
+    ghost laws = { nat_list_eq_equiv };
+}
+
+impl Hash for Name {
+    ghost hash_input = { fed.slice fed.u8 };
+
+    ghost respects_eq = { Prim.search (hashing, rules) };
+
+    fn hash<H: Hasher>(&self, state: &mut H) {
+        self.bytes().hash(state);
     }
 }

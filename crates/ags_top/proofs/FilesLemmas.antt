@@ -8,35 +8,32 @@ use Rattle.ags_machfile.specs.MachineFile.{machine_of}
 use Rattle.ags_ports.specs.declared.machines.Machine.{Machine}
 use Rattle.ags_plan.specs.declared.unloaded.Unloaded.{Unloaded}
 use Rattle.ags_plan.specs.declared.unloaded.Unloaded.TheVariants.{Absent, TooLong, Refused, ReadFault, NoMemory}
-use Rattle.ags_asm.specs.declared.placed.Placed.{Placed}
-use Rattle.ags_asm.specs.Phase.{defined}
-use Rattle.ags_asm.proofs.ApartLemmas.{each_place_once}
+use Rattle.ags_places.specs.declared.sources.TheConstants.{SOURCE_LIMIT}
 use Rattle.ags_plan.specs.Loading.{LoadsFile, end_of}
 use Rattle.ags_plan.specs.Plan.{End}
 use Rattle.ags_plan.specs.Walk.{Told, Agrees}
 use Rattle.ags_top.specs.declared.files.SourceFile.{SourceFile}
-use Rattle.ags_top.specs.declared.files.TheConstants.{SOURCE_LIMIT}
 use Rattle.ags_top.specs.declared.refusal.Refusal.{Refusal}
 use Rattle.ags_top.specs.declared.refusal.Refusal.TheVariants as refusal
 use Rattle.ags_top.specs.Files.{Kind, MachineFile, Source, Value}
 use Rattle.ags_top.specs.Program.{program}
 use Rattle.ags_top.specs.Text.{fault_line, machine_fault_line}
-use Rattle.ags_top.specs.Views.{AreWordsApart, IsMachineUnread, IsSourceRead, IsSourceUnread, assembly_of, line_of, status_of}
+use Rattle.ags_top.specs.Views.{IsMachineUnread, IsSourceRead, IsSourceUnread, assembly_of, line_of, status_of}
 
 -- what was read of a source's bytes is what its file holds
-pub source_loads : (told : Told) (name bytes : List ℕ) (result : Result SourceFile (Unloaded Refusal)) → Agrees (told name) (Some bytes) → length bytes ≤ SOURCE_LIMIT
-    → IfOk result (λ source. IsSourceRead source.bytes.items source.placed.items) → IfOk result (λ source. source.bytes.items ≡ bytes) → IfErr result (IsSourceUnread bytes)
-    → LoadsFile program told Source name (result_map_both assembly_of (end_of program line_of status_of) result)
-source_loads told name bytes (Ok source) agrees short read same unread =
+pub source_loads : (told : Told) (machine : Machine) (name bytes : List ℕ) (result : Result SourceFile (Unloaded Refusal)) → Agrees (told name) (Some bytes) → length bytes ≤ SOURCE_LIMIT
+    → IfOk result (λ source. IsSourceRead machine.codes source.bytes.items source.made) → IfOk result (λ source. source.bytes.items ≡ bytes) → IfErr result (IsSourceUnread bytes)
+    → LoadsFile program told (Source machine) name (result_map_both assembly_of (end_of program line_of status_of) result)
+source_loads told machine name bytes (Ok source) agrees short read same unread =
     (bytes, agrees, record { short = short; holds = record { bytes_are = same; defines = rw same at read.defines } })
-source_loads told name bytes (Err (Refused (refusal.Source error))) agrees short read same unread =
+source_loads told machine name bytes (Err (Refused (refusal.Source error))) agrees short read same unread =
     λ next. inr (bytes, agrees, inr (fault_line error, record { short = short; refuses = record { error = error; faulty = unread; line_is = refl } }, refl))
-source_loads told name bytes (Err (Refused (refusal.Machine error))) agrees short read same unread = absurd unread
-source_loads told name bytes (Err (Refused (refusal.Script error))) agrees short read same unread = absurd unread
-source_loads told name bytes (Err (Absent absent)) agrees short read same unread = absurd unread
-source_loads told name bytes (Err (TooLong long limit)) agrees short read same unread = absurd unread
-source_loads told name bytes (Err ReadFault) agrees short read same unread = absurd unread
-source_loads told name bytes (Err NoMemory) agrees short read same unread = tt
+source_loads told machine name bytes (Err (Refused (refusal.Machine error))) agrees short read same unread = absurd unread
+source_loads told machine name bytes (Err (Refused (refusal.Script error))) agrees short read same unread = absurd unread
+source_loads told machine name bytes (Err (Absent absent)) agrees short read same unread = absurd unread
+source_loads told machine name bytes (Err (TooLong long limit)) agrees short read same unread = absurd unread
+source_loads told machine name bytes (Err ReadFault) agrees short read same unread = absurd unread
+source_loads told machine name bytes (Err NoMemory) agrees short read same unread = tt
 
 -- what was read of a machine file's bytes is what it holds
 pub machine_loads : (told : Told) (name bytes : List ℕ) (result : Result Machine (Unloaded Refusal)) → Agrees (told name) (Some bytes) → length bytes ≤ MACHINE_LIMIT
@@ -60,7 +57,3 @@ stays_counted before now counted counts none = subst (λ (b : Bool). HasCause be
 pub loads_as_before : (told now : Told) (kind : Kind) (name : List ℕ) (result : Result (Value kind) (Option (End program))) → now ≡ told → LoadsFile program now kind name result
     → LoadsFile program told kind name result
 loads_as_before told now kind name result same loads = subst (λ (t : Told). LoadsFile program t kind name result) same loads
-
--- the words of a source that was read are apart
-pub words_apart : (bytes : List ℕ) (placed : List Placed) → IsSourceRead bytes placed → AreWordsApart placed
-words_apart bytes placed read = record { within = read.within; once = each_place_once bytes (map defined placed) read.defines }

@@ -1,4 +1,3 @@
-pub mod FillingLemmas
 pub mod ListingLemmas
 pub mod FilesLemmas
 pub mod MainLemmas

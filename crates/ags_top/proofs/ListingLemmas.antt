@@ -1,13 +1,12 @@
 -- The listing, a card further, and by the lines of its source.
 use Rattle.std.proofs.Common.{◌≡◌, ℕ, ◌+◌, ◌<◌, ◌≤◌, List, [], ◌∷◌, ◌++◌, length, take, drop, get_or, Option, Some, None, map, refl, sym, ap, ◌∙◌, arith}
 use Rattle.std.proofs.lemmas.List.{drop_more, drop_all}
-use Rattle.ags_text.specs.Line.{LineAt, LiesIn, Follow, lines_of}
-use Rattle.ags_text.proofs.FollowLemmas.{lines_follow}
+use Rattle.ags_text.specs.Line.{LineAt, LiesIn, Follow}
 use Rattle.ags_outside.specs.Sink.{appended, Wrote, WroteFront, wrote_nothing, wrote_piece, wrote_all, wrote_front}
-use Rattle.ags_asm.specs.declared.placed.Placed.{Placed}
-use Rattle.ags_asm.specs.Phase.{defined}
-use Rattle.ags_asm.specs.Source.{AreSpans, placed_at, placed_cards}
-use Rattle.ags_asm.proofs.MeaningLemmas.{one_meaning}
+use Rattle.ags_places.specs.declared.placed.Placed.{Placed}
+use Rattle.ags_places.specs.Deck.{card_lines}
+use Rattle.ags_places.proofs.DeckLemmas.{card_lines-follow}
+use Rattle.ags_asm.specs.Source.{AreSpans, defined, placed_at, placed_cards}
 use Rattle.ags_image.specs.Image.{PlacedWord}
 use Rattle.ags_plan.specs.Plan.{WorkAt}
 use Rattle.ags_plan.specs.Saying.{SaidWhole, SaidInPart}
@@ -16,7 +15,7 @@ use Rattle.ags_top.specs.declared.status.Status.TheVariants.{Done}
 use Rattle.ags_top.specs.Listing.{listing_line, listing_from, listing}
 use Rattle.ags_top.specs.PlacedListing.{card_text, placed_line, placed_listing}
 use Rattle.ags_top.specs.Program.{program}
-use Rattle.ags_top.specs.Views.{IsSourceRead, assembly_of}
+use Rattle.ags_top.specs.Views.{AreCardsOf, assembly_of}
 use Rattle.ags_top.specs.Work.{ListSource}
 
 -- ---- a card further
@@ -107,27 +106,25 @@ listing_by_lines source from number (line ∷ lines) (d ∷ ds) follow =
 -- ---- of a source that was read
 
 -- the cards' listing is the listing of what the source defines
-pub listing_is : (bytes : List ℕ) (placed : List Placed) → IsSourceRead bytes placed → placed_listing bytes 1 placed ≡ listing bytes (map defined placed)
-listing_is bytes placed read =
-    let so = read.assembled in
-    ap (placed_listing bytes 1) so.cards ∙ listing_by_lines bytes 0 1 (lines_of bytes) so.defined (lines_follow bytes)
-    ∙ ap (listing bytes) (one_meaning bytes so.defined (map defined placed) so.defines read.defines)
+pub listing_is : (bytes : List ℕ) (placed : List Placed) → AreCardsOf bytes placed → placed_listing bytes 1 placed ≡ listing bytes (map defined placed)
+listing_is bytes placed are =
+    ap (placed_listing bytes 1) are.cards_are ∙ listing_by_lines bytes 0 1 (card_lines bytes) (map defined placed) (card_lines-follow bytes)
 
 -- what was sent of it is said of the work
-pub listed : (source : SourceFile) (old new : Option (List ℕ)) → IsSourceRead source.bytes.items source.placed.items
-    → new ≡ appended old (placed_listing source.bytes.items 1 source.placed.items) → SaidWhole program (WorkAt (ListSource (assembly_of source))) old new Done
+pub listed : (source : SourceFile) (old new : Option (List ℕ)) → AreCardsOf source.bytes.items source.made.cards.items
+    → new ≡ appended old (placed_listing source.bytes.items 1 source.made.cards.items) → SaidWhole program (WorkAt (ListSource (assembly_of source))) old new Done
 listed source old new read sent = record {
-  text = placed_listing source.bytes.items 1 source.placed.items;
-  comes = (listing_is source.bytes.items source.placed.items read, refl);
+  text = placed_listing source.bytes.items 1 source.made.cards.items;
+  comes = (listing_is source.bytes.items source.made.cards.items read, refl);
   sent = sent;
 }
 
 -- and so is a prefix
-pub listed_in_part : (source : SourceFile) (old new : Option (List ℕ)) → IsSourceRead source.bytes.items source.placed.items
-    → WroteFront old new (placed_listing source.bytes.items 1 source.placed.items) → SaidInPart program (WorkAt (ListSource (assembly_of source))) old new
+pub listed_in_part : (source : SourceFile) (old new : Option (List ℕ)) → AreCardsOf source.bytes.items source.made.cards.items
+    → WroteFront old new (placed_listing source.bytes.items 1 source.made.cards.items) → SaidInPart program (WorkAt (ListSource (assembly_of source))) old new
 listed_in_part source old new read prefix = record {
-  text = placed_listing source.bytes.items 1 source.placed.items;
+  text = placed_listing source.bytes.items 1 source.made.cards.items;
   status = Done;
-  comes = (listing_is source.bytes.items source.placed.items read, refl);
+  comes = (listing_is source.bytes.items source.made.cards.items read, refl);
   prefix = prefix;
 }

@@ -33,7 +33,7 @@ use Rattle.ags_top.proofs.CommandLemmas.{line_of-line_arguments, line_arguments-
 -- a refusal has another status than a work that is done
 not_refused : (kind : Kind) → Done ≡ refused_status kind → ⊥
 not_refused MachineFile is = absurd cc
-not_refused Source is = absurd cc
+not_refused (Source machine) is = absurd cc
 not_refused (Script machine) is = absurd cc
 
 done_work : (told : Told) (plan : Plan program) (end : End program) (text : List ℕ) → EndsAt program Agrees told plan end → ComesWith program end text Done
@@ -56,12 +56,12 @@ way_of_command told (Some name) command work (machine, (bytes, agrees, holds), l
 -- the listing of a told source
 listing_told : (told : Told) (machine : Machine) (name bytes text : List ℕ) (work : Work) → told name ≡ Stored bytes
     → LeadsTo program Agrees told (command_plan machine (Assemble name)) work → Makes work text Done
-    → (defined : List (Option PlacedWord)) × Defines bytes defined × (text ≡ listing bytes defined)
+    → (defined : List (Option PlacedWord)) × Defines machine.codes bytes defined × (text ≡ listing bytes defined)
 listing_told told machine name bytes text work is (assembly, (there, agrees, holds), same) makes =
     let here = told_bytes (told name) bytes there is agrees in
     let made : Makes (ListSource assembly) text Done = subst (λ (w : Work). Makes w text Done) (sym same) makes in (
       assembly.defined,
-      subst (λ (b : List ℕ). Defines b assembly.defined) here holds.holds.defines,
+      subst (λ (b : List ℕ). Defines machine.codes b assembly.defined) here holds.holds.defines,
       made.0 ∙ ap (λ (b : List ℕ). listing b assembly.defined) (holds.holds.bytes_are ∙ here),
     )
 
@@ -73,7 +73,7 @@ play_told told machine source script source_bytes script_bytes text work is too 
     let made : Makes (PlayScript machine assembly.defined commands) text Done = subst (λ (w : Work). Makes w text Done) (sym same) makes in
     record {
       defined = assembly.defined;
-      defines = subst (λ (b : List ℕ). Defines b assembly.defined) (told_bytes (told source) source_bytes there is agrees) holds.holds.defines;
+      defines = subst (λ (b : List ℕ). Defines machine.codes b assembly.defined) (told_bytes (told source) source_bytes there is agrees) holds.holds.defines;
       commands = commands;
       is_script = subst (λ (b : List ℕ). IsScript machine b commands) (told_bytes (told script) script_bytes read too seen) has.holds;
       play = made.0;
@@ -91,7 +91,7 @@ bad_words_end told plan (RefusedAt line status) text ends comes =
   where
     of_kind : (kind : Kind) → BadWords ≡ refused_status kind → ⊥
     of_kind MachineFile is = absurd cc
-    of_kind Source is = absurd cc
+    of_kind (Source machine) is = absurd cc
     of_kind (Script machine) is = absurd cc
 bad_words_end told plan (WorkAt NoForm) text ends comes = ends
 bad_words_end told plan (WorkAt _) text ends comes = let is = comes.1 in absurd cc
@@ -117,7 +117,7 @@ module _ (told : Told) (arguments : List (List ℕ)) (old new : Option (List ℕ
       let (work, found, makes) = done_work told (plan_of arguments) so.answer.end so.text so.answer.ends so.answer.comes in
       let (machine, machine_is, way) = way_asked machine_file (Assemble name) work asked found in
       let (defined, defines, text_is) = listing_told told machine name bytes so.text work known way makes in
-      (defined, defines, so.sent ∙ ap (λ (o : Option (List ℕ)). appended o so.text) holds ∙ ap (λ (t : List ℕ). Some (held ++ t)) text_is)
+      (machine, machine_is, defined, defines, so.sent ∙ ap (λ (o : Option (List ℕ)). appended o so.text) holds ∙ ap (λ (t : List ℕ). Some (held ++ t)) text_is)
 
   pub plays_what_is_defined : PlaysWhatIsDefined told arguments old new result
   plays_what_is_defined source script source_bytes script_bytes held machine_file is asked known too holds =
@@ -174,14 +174,14 @@ module _ (told : Told) (arguments : List (List ℕ)) (old new : Option (List ℕ
             faulty = refuses.refuses.faulty;
             sent = sent ∙ ap (appended old) refuses.refuses.line_is;
           }
-          of_kind Source is given refuses sent = absurd cc
+          of_kind (Source machine) is given refuses sent = absurd cc
           of_kind (Script machine) is given refuses sent = absurd cc
 
   pub bad_source_exactly : BadSourceExactly told arguments old new result
   bad_source_exactly = record {
-    only = λ is. of_refusal ((refused_exactly program plan_of lawful_program told arguments old new result ends Source).only is);
-    always = λ name bytes error given short faulty.
-        (refused_exactly program plan_of lawful_program told arguments old new result ends Source).always name bytes (fault_line error) given
+    only = λ is. of_refusal ((refused_exactly program plan_of lawful_program told arguments old new result ends (Source standard_machine)).only is);
+    always = λ machine name bytes error given short faulty.
+        (refused_exactly program plan_of lawful_program told arguments old new result ends (Source machine)).always name bytes (fault_line error) given
         (record { short = short; refuses = record { error = error; faulty = faulty; line_is = refl } });
   }
     where
@@ -191,7 +191,8 @@ module _ (told : Told) (arguments : List (List ℕ)) (old new : Option (List ℕ
           of_kind : (kind : Kind) → refused_status kind ≡ BadSource → IsGiven program Agrees told (plan_of arguments) kind found.name found.bytes
               → RefusesWithin program kind found.bytes found.line → new ≡ appended old found.line → ReadsFault told arguments old new
           of_kind MachineFile is given refuses sent = absurd cc
-          of_kind Source is given refuses sent = record {
+          of_kind (Source machine) is given refuses sent = record {
+            machine = machine;
             name = found.name;
             bytes = found.bytes;
             given = given;
@@ -216,7 +217,7 @@ module _ (told : Told) (arguments : List (List ℕ)) (old new : Option (List ℕ
           of_kind : (kind : Kind) → refused_status kind ≡ BadText → IsGiven program Agrees told (plan_of arguments) kind found.name found.bytes
               → RefusesWithin program kind found.bytes found.line → new ≡ appended old found.line → ReadsScriptFault told arguments old new
           of_kind MachineFile is given refuses sent = absurd cc
-          of_kind Source is given refuses sent = absurd cc
+          of_kind (Source machine) is given refuses sent = absurd cc
           of_kind (Script machine) is given refuses sent = record {
             machine = machine;
             name = found.name;

@@ -1,6 +1,7 @@
 -- The kinds of files that commands read: how long each may be, what it holds, and when it is refused, with which line and status.
 use Rattle.std.specs.Prelude.{◌≡◌, ℕ, List, Option, Ok, Err}
-use Rattle.ags_asm.specs.declared.source_error.SourceError.{SourceError}
+use Rattle.ags_places.specs.declared.source_error.SourceError.{SourceError}
+use Rattle.ags_places.specs.declared.sources.TheConstants.{SOURCE_LIMIT}
 use Rattle.ags_asm.specs.Source.{Defines, IsFaulty}
 use Rattle.ags_image.specs.Image.{PlacedWord}
 use Rattle.ags_machfile.specs.declared.mach_error.MachError.{MachError}
@@ -12,15 +13,14 @@ use Rattle.ags_run.specs.declared.script_error.ScriptKind.{ScriptKind}
 use Rattle.ags_run.specs.declared.script_error.ScriptError.TheVariants.{At}
 use Rattle.ags_run.specs.Script.{IsScript, IsFaultyScript}
 use Rattle.ags_run.specs.declared.script.TheConstants.{SCRIPT_LIMIT}
-use Rattle.ags_top.specs.declared.files.TheConstants.{SOURCE_LIMIT}
 use Rattle.ags_top.specs.declared.status.Status.{Status}
 use Rattle.ags_top.specs.declared.status.Status.TheVariants.{BadMachine, BadSource, BadText}
 use Rattle.ags_top.specs.Text.{fault_line, machine_fault_line, script_fault_line}
 
--- a machine file; a source; or a script for a machine
+-- a machine file; or a source or a script for a machine
 pub data Kind : Type 0 where
   MachineFile : Kind
-  Source : Kind
+  Source : (machine : Machine) → Kind
   Script : (machine : Machine) → Kind
 
 -- a source that was read: its bytes, and the places and the words of its cards
@@ -31,24 +31,24 @@ pub record Assembly : Type 0 where
 -- what a file of a kind holds
 abbrev pub Value : Kind → Type 0
 Value MachineFile = Machine
-Value Source = Assembly
+Value (Source machine) = Assembly
 Value (Script machine) = List Plain
 
 -- how many bytes a file of a kind has at most
 abbrev pub limit_of : Kind → ℕ
 limit_of MachineFile = MACHINE_LIMIT
-limit_of Source = SOURCE_LIMIT
+limit_of (Source machine) = SOURCE_LIMIT
 limit_of (Script machine) = SCRIPT_LIMIT
 
--- the bytes are a source without a fault, and this is what was read of it
-pub record HoldsSource (bytes : List ℕ) (assembly : Assembly) : Type 0 where
+-- the bytes are a source without a fault, and this is what was read of it by the table of codes
+pub record HoldsSource (order_codes bytes : List ℕ) (assembly : Assembly) : Type 0 where
   pub bytes_are : assembly.bytes ≡ bytes
-  pub defines : Defines bytes assembly.defined
+  pub defines : Defines order_codes bytes assembly.defined
 
 -- the bytes hold this value
 abbrev pub Holds : (kind : Kind) → (bytes : List ℕ) → Value kind → Type 0
 Holds MachineFile bytes machine = machine_of bytes ≡ Ok machine
-Holds Source bytes assembly = HoldsSource bytes assembly
+Holds (Source machine) bytes assembly = HoldsSource machine.codes bytes assembly
 Holds (Script machine) bytes commands = IsScript machine bytes commands
 
 -- the bytes are no machine file, and this is the line of the first test that they fail
@@ -73,11 +73,11 @@ pub record RefusesScript (machine : Machine) (bytes line : List ℕ) : Type 0 wh
 -- the bytes are refused with this line
 abbrev pub Refuses : (kind : Kind) → (bytes line : List ℕ) → Type 0
 Refuses MachineFile bytes line = RefusesMachine bytes line
-Refuses Source bytes line = RefusesSource bytes line
+Refuses (Source machine) bytes line = RefusesSource bytes line
 Refuses (Script machine) bytes line = RefusesScript machine bytes line
 
 -- the status of a refused file
 abbrev pub refused_status : Kind → Status
 refused_status MachineFile = BadMachine
-refused_status Source = BadSource
+refused_status (Source machine) = BadSource
 refused_status (Script machine) = BadText

@@ -1,9 +1,9 @@
 -- The listing of a source.
 use Rattle.std.specs.Prelude.{ℕ, ◌+◌, List, [], ◌∷◌, ◌++◌, Option, Some, None, codes}
 use Rattle.ags_image.specs.Image.{PlacedWord}
-use Rattle.ags_text.specs.Line.{LineAt, lines_of}
+use Rattle.ags_text.specs.Line.{LineAt}
 use Rattle.ags_text.specs.Numeral.{decimal7_text, octal4_text, octal6_text}
-use Rattle.ags_image.specs.Image.{PlacedWord}
+use Rattle.ags_places.specs.Deck.{card_lines}
 
 -- the columns of a card's place and word: eleven blanks where it has none
 abbrev pub columns : Option PlacedWord → List ℕ
@@ -20,6 +20,6 @@ listing_from number [] defined = []
 listing_from number (line ∷ lines) [] = []
 listing_from number (line ∷ lines) (one ∷ defined) = listing_line number line one ++ listing_from (number + 1) lines defined
 
--- the listing of a text, whose cards have these places and words
+-- the listing of a source, whose cards have these places and words
 abbrev pub listing : List ℕ → List (Option PlacedWord) → List ℕ
-listing text defined = listing_from 1 (lines_of text) defined
+listing text defined = listing_from 1 (card_lines text) defined

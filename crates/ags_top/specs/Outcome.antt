@@ -5,7 +5,8 @@ use Rattle.ags_outside.specs.Sink.{appended}
 use Rattle.ags_plan.specs.Plan.{WorkAt}
 use Rattle.ags_plan.specs.Walk.{Told, Agrees, Tells, EndsAt, IsGiven}
 use Rattle.ags_plan.specs.Outcome as plan
-use Rattle.ags_asm.specs.declared.source_error.SourceError.{SourceError}
+use Rattle.ags_places.specs.declared.source_error.SourceError.{SourceError}
+use Rattle.ags_places.specs.declared.sources.TheConstants.{SOURCE_LIMIT}
 use Rattle.ags_asm.specs.Source.{Defines, IsFaulty}
 use Rattle.ags_image.specs.Image.{PlacedWord}
 use Rattle.ags_machfile.specs.declared.mach_error.MachError.{MachError}
@@ -18,7 +19,6 @@ use Rattle.ags_run.specs.declared.script_error.ScriptKind.{ScriptKind}
 use Rattle.ags_run.specs.declared.script_error.ScriptError.TheVariants.{At}
 use Rattle.ags_run.specs.declared.script.TheConstants.{SCRIPT_LIMIT}
 use Rattle.ags_run.specs.Script.{IsScript, IsFaultyScript}
-use Rattle.ags_top.specs.declared.files.TheConstants.{SOURCE_LIMIT}
 use Rattle.ags_top.specs.declared.status.Status.{Status}
 use Rattle.ags_top.specs.declared.status.Status.TheVariants.{Done, BadMachine, BadSource, BadWords, BadText}
 use Rattle.ags_top.specs.Command as command
@@ -42,16 +42,17 @@ IsMachineOf told None machine = machine ≡ standard_machine
 IsMachineOf told (Some name) machine = (bytes : List ℕ) → told name ≡ Stored bytes → machine_of bytes ≡ Ok machine
 
 -- Where the run of `assemble` is done, and the shelf and the sink tell, the sink took exactly the listing of the words that the
--- source defines.
+-- source defines, by the codes of the machine that the command line is for.
 abbrev pub ListsWhatIsDefined : (told : Told) (arguments : List (List ℕ)) (old new : Option (List ℕ)) → Status → Type 0
 ListsWhatIsDefined told arguments old new result = (name bytes held : List ℕ) (machine_file : Option (List ℕ)) → result ≡ Done
     → arguments ≡ line_arguments (record { command = command.Assemble name; machine = machine_file }) → told name ≡ Stored bytes → old ≡ Some held
-    → (defined : List (Option PlacedWord)) × Defines bytes defined × (new ≡ Some (held ++ listing bytes defined))
+    → (machine : Machine) × IsMachineOf told machine_file machine
+    × ((defined : List (Option PlacedWord)) × Defines machine.codes bytes defined × (new ≡ Some (held ++ listing bytes defined)))
 
 -- The source defines words, the script has commands for the machine, and the text is their play on these words.
 pub record IsPlayOn (machine : Machine) (source script text : List ℕ) : Type 0 where
   pub defined : List (Option PlacedWord)
-  pub defines : Defines source defined
+  pub defines : Defines machine.codes source defined
   pub commands : List Plain
   pub is_script : IsScript machine script commands
   pub play : IsPlayOf machine defined commands text
@@ -94,9 +95,10 @@ pub record BadMachineExactly (told : Told) (arguments : List (List ℕ)) (old ne
 
 -- Over files that agree with what the shelf tells, the walk comes to a source with that fault, and the sink took the fault's line.
 pub record ReadsFault (told : Told) (arguments : List (List ℕ)) (old new : Option (List ℕ)) : Type 0 where
+  pub machine : Machine
   pub name : List ℕ
   pub bytes : List ℕ
-  pub given : IsGiven program Agrees told (plan_of arguments) file.Source name bytes
+  pub given : IsGiven program Agrees told (plan_of arguments) (file.Source machine) name bytes
   pub short : length bytes ≤ SOURCE_LIMIT
   pub error : SourceError
   pub faulty : IsFaulty bytes error
@@ -105,8 +107,8 @@ pub record ReadsFault (told : Told) (arguments : List (List ℕ)) (old new : Opt
 -- BadSource comes exactly where the walk comes to a source that has a faulty card, whose number and fault are printed
 pub record BadSourceExactly (told : Told) (arguments : List (List ℕ)) (old new : Option (List ℕ)) (result : Status) : Type 0 where
   pub only : result ≡ BadSource → ReadsFault told arguments old new
-  pub always : (name bytes : List ℕ) (error : SourceError) → IsGiven program Tells told (plan_of arguments) file.Source name bytes → length bytes ≤ SOURCE_LIMIT
-      → IsFaulty bytes error → EndsWith result BadSource
+  pub always : (machine : Machine) (name bytes : List ℕ) (error : SourceError) → IsGiven program Tells told (plan_of arguments) (file.Source machine) name bytes
+      → length bytes ≤ SOURCE_LIMIT → IsFaulty bytes error → EndsWith result BadSource
 
 -- Over files that agree with what the shelf tells, the walk comes to a script with that fault for its machine, and the sink took
 -- the fault's line.

@@ -1,8 +1,8 @@
 -- The listing of cards as they were placed, by their spans in the source.
 use Rattle.std.specs.Prelude.{ℕ, ◌+◌, ◌-◌, List, [], ◌∷◌, ◌++◌, take, drop, codes}
 use Rattle.ags_text.specs.Numeral.{decimal7_text}
-use Rattle.ags_asm.specs.declared.placed.Placed.{Placed}
-use Rattle.ags_asm.specs.Phase.{defined}
+use Rattle.ags_places.specs.declared.placed.Placed.{Placed}
+use Rattle.ags_asm.specs.Source.{defined}
 use Rattle.ags_top.specs.Listing.{columns}
 
 -- a card's text in its source

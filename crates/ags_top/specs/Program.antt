@@ -26,9 +26,9 @@ program = record {
 
 -- what a command reads, in this order, and does, on a machine
 abbrev pub command_plan : Machine → Command → Plan program
-command_plan machine (Assemble source) = Read Source source (λ assembly. Do (ListSource assembly))
+command_plan machine (Assemble source) = Read (Source machine) source (λ assembly. Do (ListSource assembly))
 command_plan machine (Run source script) =
-    Read Source source (λ assembly. Read (Script machine) script (λ commands. Do (PlayScript machine assembly.defined commands)))
+    Read (Source machine) source (λ assembly. Read (Script machine) script (λ commands. Do (PlayScript machine assembly.defined commands)))
 
 -- what is read and done on the machine of a file of that name, or on the standard one, where none is named
 abbrev pub plan_on : Option (List ℕ) → (Machine → Plan program) → Plan program

@@ -6,7 +6,7 @@ use Rattle.ags_plan.specs.Plan.{WorkAt}
 use Rattle.ags_plan.specs.Walk.{Told, Agrees, EndsAt, LeadsTo}
 use Rattle.ags_plan.proofs.WorkLemmas.{way_to_work}
 use Rattle.ags_plan.specs.Lawful.{AreReadable, AreDoable, AreApart, IsLawful}
-use Rattle.ags_asm.specs.declared.source_error.SourceError.{SourceError}
+use Rattle.ags_places.specs.declared.source_error.SourceError.{SourceError}
 use Rattle.ags_asm.specs.Source.{Defines, placed_words}
 use Rattle.ags_asm.proofs.ApartLemmas.{each_place_once}
 use Rattle.ags_asm.proofs.MeaningLemmas as source
@@ -49,7 +49,7 @@ some_reading MachineFile bytes = elim (machine_or_fault (machine_of bytes)) [
   | inl (machine, is) ↦ inl (machine, is)
   | inr (error, faulty) ↦ inr (machine_fault_line error, record { error = error; faulty = faulty; line_is = refl })
 ]
-some_reading Source bytes = elim (source.each_means bytes) [
+some_reading (Source machine) bytes = elim (source.each_means machine.codes bytes) [
   | inl (defined, defines) ↦ inl (record { bytes = bytes; defined = defined }, record { bytes_are = refl; defines = defines })
   | inr (error, faulty) ↦ inr (fault_line error, record { error = error; faulty = faulty; line_is = refl })
 ]
@@ -59,14 +59,14 @@ some_reading (Script machine) bytes = elim (script.script_or_faulty machine byte
 ]
 
 -- what was read of a source is one thing
-one_assembly : (bytes : List ℕ) (one other : Assembly) → HoldsSource bytes one → HoldsSource bytes other → one ≡ other
-one_assembly bytes one other first second =
+one_assembly : (order_codes bytes : List ℕ) (one other : Assembly) → HoldsSource order_codes bytes one → HoldsSource order_codes bytes other → one ≡ other
+one_assembly order_codes bytes one other first second =
     ap (λ (b : List ℕ). record { bytes = b; defined = one.defined }) (first.bytes_are ∙ sym second.bytes_are)
-    ∙ ap (λ (d : List (Option PlacedWord)). record { bytes = other.bytes; defined = d }) (source.one_meaning bytes one.defined other.defined first.defines second.defines)
+    ∙ ap (λ (d : List (Option PlacedWord)). record { bytes = other.bytes; defined = d }) (source.one_meaning order_codes bytes one.defined other.defined first.defines second.defines)
 
 one_reading : (kind : Kind) (bytes : List ℕ) (one other : Value kind) → Holds kind bytes one → Holds kind bytes other → one ≡ other
 one_reading MachineFile bytes one other first second = cc
-one_reading Source bytes one other first second = one_assembly bytes one other first second
+one_reading (Source machine) bytes one other first second = one_assembly machine.codes bytes one other first second
 one_reading (Script machine) bytes one other first second = script.one_script machine bytes one other first second
 
 -- the lines of two faults that are one
@@ -77,7 +77,7 @@ one_refusal : (kind : Kind) (bytes line other : List ℕ) → Refuses kind bytes
 one_refusal MachineFile bytes line other first second =
     let same : first.error ≡ second.error = cc in
     first.line_is ∙ ap (λ (e : MachError). machine_fault_line e) same ∙ sym second.line_is
-one_refusal Source bytes line other first second =
+one_refusal (Source machine) bytes line other first second =
     first.line_is ∙ ap (λ (e : SourceError). fault_line e) (source.one_fault bytes first.error second.error first.faulty second.faulty) ∙ sym second.line_is
 one_refusal (Script machine) bytes line other first second =
     let same = script.one_fault machine bytes first.number second.number first.kind second.kind first.faulty second.faulty in
@@ -85,7 +85,7 @@ one_refusal (Script machine) bytes line other first second =
 
 not_both : (kind : Kind) (bytes line : List ℕ) (value : Value kind) → Holds kind bytes value → Refuses kind bytes line → ⊥
 not_both MachineFile bytes line machine holds refuses = let faulty = refuses.faulty in absurd cc
-not_both Source bytes line assembly holds refuses = source.not_both bytes assembly.defined refuses.error holds.defines refuses.faulty
+not_both (Source machine) bytes line assembly holds refuses = source.not_both machine.codes bytes assembly.defined refuses.error holds.defines refuses.faulty
 not_both (Script machine) bytes line commands is refuses = script.not_faulty machine bytes commands refuses.number refuses.kind is refuses.faulty
 
 are_readable : AreReadable program
@@ -102,7 +102,7 @@ are_readable = record {
 IsAskedFor : Work → Type 0
 IsAskedFor NoForm = Unit {0}
 IsAskedFor (ListSource assembly) = Unit {0}
-IsAskedFor (PlayScript machine defined commands) = IsMachine machine × ((bytes : List ℕ) × Defines bytes defined)
+IsAskedFor (PlayScript machine defined commands) = IsMachine machine × ((bytes : List ℕ) × Defines machine.codes bytes defined)
 
 -- of the work that a command leads to, and it isn't the one that says that the arguments are no form
 asked_on_way : (told : Told) (machine : Machine) (command : Command) (work : Work) → IsMachine machine
@@ -130,16 +130,16 @@ asked_by told None work end = let same : work ≡ NoForm = cc in subst IsAskedFo
 asked_by told (Some line) work ends = (asked_by_line told line.machine line.command work (way_to_work program Agrees told (asked_plan (Some line)) work ends)).0
 
 -- words of a source have an image
-some_image_of : (bytes : List ℕ) (defined : List (Option PlacedWord)) → Defines bytes defined → (image : List (Option ℕ)) × IsImageOf (placed_words defined) image
-some_image_of bytes defined defines =
-    some_image (placed_words defined) (words_of_memory bytes defined defines) (one_word_a_place (placed_words defined) (each_place_once bytes defined defines))
+some_image_of : (order_codes bytes : List ℕ) (defined : List (Option PlacedWord)) → Defines order_codes bytes defined → (image : List (Option ℕ)) × IsImageOf (placed_words defined) image
+some_image_of order_codes bytes defined defines =
+    some_image (placed_words defined) (words_of_memory order_codes bytes defined defines) (one_word_a_place (placed_words defined) (each_place_once order_codes bytes defined defines))
 
 some_making : (work : Work) → IsAskedFor work → (text : List ℕ) × (status : Status) × Makes work text status
 unfolding IsAskedFor
 some_making NoForm asked = (words_line, BadWords, (refl, refl))
 some_making (ListSource assembly) asked = (listing assembly.bytes assembly.defined, Done, (refl, refl))
 some_making (PlayScript machine defined commands) (is, (bytes, defines)) =
-    let (image, image_is) = some_image_of bytes defined defines in
+    let (image, image_is) = some_image_of machine.codes bytes defined defines in
     let (events, text, plays) = some_play machine (start_state machine image 0o4000) commands in
     let (moments, run) = play_runs machine (start_state machine image 0o4000) commands events text plays in
     (text, Done, (record { image = image; image_is = image_is; events = events; moments = moments; run = run; plays = plays }, refl))
@@ -192,17 +192,17 @@ not_long_work is = is
 not_refused_work : (kind : Kind) → IsWorkStatus (refused_status kind) → ⊥
 unfolding IsWorkStatus
 not_refused_work MachineFile is = is
-not_refused_work Source is = is
+not_refused_work (Source machine) is = is
 not_refused_work (Script machine) is = is
 
 refused_of_content : (kind : Kind) → cause_of (refused_status kind) ≡ cause.Content
 refused_of_content MachineFile = refl
-refused_of_content Source = refl
+refused_of_content (Source machine) = refl
 refused_of_content (Script machine) = refl
 
 refused_not_long : (kind : Kind) → refused_status kind ≢ LongFile
 refused_not_long MachineFile = λ is. absurd cc
-refused_not_long Source = λ is. absurd cc
+refused_not_long (Source machine) = λ is. absurd cc
 refused_not_long (Script machine) = λ is. absurd cc
 
 are_apart : AreApart program

@@ -1,7 +1,7 @@
 -- The lines that the program prints for what it refuses.
 use Rattle.std.specs.Prelude.{ℕ, List, ◌++◌, codes}
-use Rattle.ags_asm.specs.declared.source_error.SourceError.{SourceError}
-use Rattle.ags_asm.specs.FaultText.{fault_text}
+use Rattle.ags_places.specs.declared.source_error.SourceError.{SourceError}
+use Rattle.ags_places.specs.FaultText.{fault_text}
 use Rattle.ags_machfile.specs.declared.mach_error.MachError.{MachError}
 use Rattle.ags_machfile.specs.FaultText as machine
 use Rattle.ags_run.specs.declared.script_error.ScriptError.{ScriptError}

@@ -1,9 +1,11 @@
 -- What clauses see of the program's own values.
 use Rattle.std.specs.Prelude.{◌≡◌, ℕ, ◌≤◌, List, All, length, map, option_map, Err}
-use Rattle.ags_asm.specs.declared.placed.Placed.{Placed}
-use Rattle.ags_asm.specs.Phase.{IsInMemory, defined}
-use Rattle.ags_asm.specs.Source.{AreSpans, IsAssembled, IsFaulty, Defines, placed_words}
-use Rattle.ags_image.specs.Image.{EachPlaceOnce}
+use Rattle.ags_places.specs.declared.placed.Placed.{Placed}
+use Rattle.ags_places.specs.declared.sources.TheConstants.{SOURCE_LIMIT}
+use Rattle.ags_places.specs.Deck.{card_lines}
+use Rattle.ags_asm.specs.declared.assembling.Assembled.{Assembled}
+use Rattle.ags_asm.specs.Source.{AreSpans, Defines, IsFaulty, defined, placed_cards, placed_words}
+use Rattle.ags_image.specs.Image.{IsImageOf}
 use Rattle.ags_machfile.specs.MachineFile.{machine_of}
 use Rattle.ags_plan.specs.declared.unloaded.Unloaded.{Unloaded}
 use Rattle.ags_plan.specs.declared.unloaded.Unloaded.TheVariants.{Refused, NoMemory}
@@ -12,7 +14,6 @@ use Rattle.ags_top.specs.declared.command.Command.{Command}
 use Rattle.ags_top.specs.declared.command.Command.TheVariants as named
 use Rattle.ags_top.specs.declared.command.CommandLine.{CommandLine}
 use Rattle.ags_top.specs.declared.files.SourceFile.{SourceFile}
-use Rattle.ags_top.specs.declared.files.TheConstants.{SOURCE_LIMIT}
 use Rattle.ags_top.specs.declared.refusal.Refusal.{Refusal}
 use Rattle.ags_top.specs.declared.refusal.Refusal.TheVariants as refusal
 use Rattle.ags_top.specs.declared.status.Status.{Status}
@@ -35,21 +36,29 @@ line_view line = record { command = command_view line.command; machine = option_
 
 -- a source that was read, as its bytes and what its cards define
 abbrev pub assembly_of : SourceFile → Assembly
-assembly_of source = record { bytes = source.bytes.items; defined = map defined source.placed.items }
+assembly_of source = record { bytes = source.bytes.items; defined = map defined source.made.cards.items }
 
 -- a work without where it lies in memory
 abbrev pub work_of : Work → work.Work
 work_of loaded.NoForm = work.NoForm
 work_of (loaded.ListSource source) = work.ListSource (assembly_of source)
-work_of (loaded.PlayScript machine placed commands) = work.PlayScript machine (map defined placed.items) commands.items
+work_of (loaded.PlayScript machine made commands) = work.PlayScript machine (map defined made.cards.items) commands.items
 
--- The cards are those of the source, which is within its limit.
-pub record IsSourceRead (bytes : List ℕ) (placed : List Placed) : Type 0 where
+-- The cards are those of the source's lines, which is within its limit.
+pub record AreCardsOf (bytes : List ℕ) (placed : List Placed) : Type 0 where
   pub short : length bytes ≤ SOURCE_LIMIT
-  pub assembled : IsAssembled bytes placed
-  pub defines : Defines bytes (map defined placed)
   pub spans : AreSpans 0 (length bytes) placed
-  pub within : All IsInMemory placed
+  pub cards_are : placed ≡ placed_cards (card_lines bytes) (map defined placed)
+
+-- the image has exactly the words of the cards
+abbrev pub HasImage : Assembled → Type 0
+HasImage made = IsImageOf (placed_words (map defined made.cards.items)) made.image
+
+-- what was made of a source by the table of codes
+pub record IsSourceRead (order_codes bytes : List ℕ) (made : Assembled) : Type 0 where
+  pub cards : AreCardsOf bytes made.cards.items
+  pub defines : Defines order_codes bytes (map defined made.cards.items)
+  pub image : HasImage made
 
 -- Why the bytes are no source that was read: its first fault, or want of memory.
 abbrev pub IsSourceUnread : (bytes : List ℕ) → Unloaded Refusal → Type 0
@@ -63,16 +72,11 @@ IsMachineUnread bytes (Refused (refusal.Machine error)) = machine_of bytes ≡ E
 IsMachineUnread bytes NoMemory = Unit {0}
 IsMachineUnread bytes _ = ⊥
 
--- the cards' words are at places of the memory, no two at one
-pub record AreWordsApart (placed : List Placed) : Type 0 where
-  pub within : All IsInMemory placed
-  pub once : EachPlaceOnce (placed_words (map defined placed))
-
 -- what is so of a work that was loaded
 abbrev pub IsReady : Work → Type 0
 IsReady loaded.NoForm = Unit {0}
-IsReady (loaded.ListSource source) = IsSourceRead source.bytes.items source.placed.items
-IsReady (loaded.PlayScript machine placed commands) = AreWordsApart placed.items × IsPlayable machine commands.items
+IsReady (loaded.ListSource source) = AreCardsOf source.bytes.items source.made.cards.items
+IsReady (loaded.PlayScript machine made commands) = HasImage made × IsPlayable machine commands.items
 
 -- the line of a refusal
 abbrev pub line_of : Refusal → List ℕ

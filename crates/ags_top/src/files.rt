@@ -11,7 +11,8 @@ ghost use Rattle.ags_top.specs.Program.{program};
 ghost use Rattle.ags_top.specs.Views.{IsMachineUnread, IsSourceRead, IsSourceUnread, assembly_of, line_of, status_of};
 
 use crate::refusal::Refusal;
-use ags_asm::{AssembleError, Placed, assemble};
+use ags_asm::{AssembleError, Assembled, SOURCE_LIMIT, assemble};
+use ags_isa::Codes;
 use ags_machfile::{MACHINE_LIMIT, MachError};
 use ags_outside::Shelf;
 use ags_plan::{Unloaded, fetch_file};
@@ -19,16 +20,13 @@ use ags_ports::Machine;
 use ags_run::{Plain, SCRIPT_LIMIT, ScriptError, read_plain};
 use std::alloc::Global;
 
-/// The most bytes of a source.
-pub(crate) const SOURCE_LIMIT: usize = 4_194_304;
-
-/// A source that was read: its bytes, and its cards as they are placed.
+/// A source that was read: its bytes, and what was made of them.
 #[derive(Drop)]
 pub(crate) struct SourceFile {
     /// The bytes of the file.
     pub(crate) bytes: Vec<u8>,
-    /// A card for each of its lines.
-    pub(crate) placed: Vec<Placed>,
+    /// Its cards with their places and words, its symbols, and the image of its words.
+    pub(crate) made: Assembled,
 }
 
 /// Reads a machine file's bytes.
@@ -61,36 +59,41 @@ pub(crate) fn load_machine<'a, S: Shelf>(
     read_machine(alloc, &bytes)
 }
 
-/// Reads a source's bytes.
-fn read_source<'a>(alloc: Global, bytes: Vec<u8>) -> Result<SourceFile, Unloaded<'a, Refusal>>
+/// Reads a source's bytes, by a table of codes.
+fn read_source<'a>(
+    alloc: Global,
+    codes: &Codes,
+    bytes: Vec<u8>,
+) -> Result<SourceFile, Unloaded<'a, Refusal>>
     requires { length bytes.items ≤ SOURCE_LIMIT }
-    ensures ready { IfOk result (λ source. IsSourceRead source.bytes.items source.placed.items) }
+    ensures ready { IfOk result (λ source. IsSourceRead codes.now source.bytes.items source.made) }
     ensures bytes { IfOk result (λ source. source.bytes.items ≡ bytes.items) }
     ensures unread { IfErr result (IsSourceUnread bytes.items) }
     ensures no_fault { is_read_fault result ≡ false }
     ensures no_absence { is_absence result ≡ false }
 {
-    match assemble(alloc, &bytes) {
-        Ok(placed) => Ok(SourceFile { bytes, placed }),
+    match assemble(alloc, &bytes, codes) {
+        Ok(made) => Ok(SourceFile { bytes, made }),
         Err(AssembleError::Source(error)) => Err(Unloaded::Refused(Refusal::Source(error))),
         Err(AssembleError::NoMemory) => Err(Unloaded::NoMemory),
     }
 }
 
-/// Loads the source of a name.
+/// Loads the source of a name, for a machine.
 pub(crate) fn load_source<'a, S: Shelf>(
     alloc: Global,
+    machine: &Machine,
     name: &'a str,
     shelf: &mut S,
 ) -> Result<SourceFile, Unloaded<'a, Refusal>>
     ensures same { S.told shelf.new ≡ S.told shelf.old }
-    ensures loads { LoadsFile program (S.told shelf.old) file.Source name.entry.now (result_map_both assembly_of (end_of program line_of status_of) result) }
-    ensures ready { IfOk result (λ source. IsSourceRead source.bytes.items source.placed.items) }
+    ensures loads { LoadsFile program (S.told shelf.old) (file.Source machine.now) name.entry.now (result_map_both assembly_of (end_of program line_of status_of) result) }
+    ensures ready { IfOk result (λ source. IsSourceRead machine.now.codes source.bytes.items source.made) }
     ensures faults { HasCause (S.faults shelf.old) (S.faults shelf.new) (is_read_fault result) }
     ensures absences { HasCause (S.absences shelf.old) (S.absences shelf.new) (is_absence result) }
 {
     let bytes = fetch_file(alloc, shelf, name, SOURCE_LIMIT as u64)?;
-    read_source(alloc, bytes)
+    read_source(alloc, &machine.codes, bytes)
 }
 
 /// Loads the script of a name, for a machine.

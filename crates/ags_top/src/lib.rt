@@ -8,7 +8,6 @@ mod answer_laws;
 mod assemble_command;
 mod command;
 mod files;
-mod filling;
 mod listing;
 mod main_call;
 mod program;

@@ -4,10 +4,9 @@ ghost use Rattle.std.specs.Prelude.{◌≡◌, ◌+◌, ◌≤◌, ◌<◌, ◌^
 ghost use Rattle.ags_outside.specs.Count.{HasCause};
 ghost use Rattle.ags_outside.specs.Send.{is_write_fault};
 ghost use Rattle.ags_outside.specs.Sink.{appended, WroteFront};
-ghost use Rattle.ags_asm.specs.Phase.{defined};
-ghost use Rattle.ags_asm.specs.Source.{AreSpans};
+ghost use Rattle.ags_asm.specs.Source.{AreSpans, defined};
 ghost use Rattle.ags_top.specs.Listing.{columns};
-ghost use Rattle.ags_top.specs.declared.files.TheConstants.{SOURCE_LIMIT};
+ghost use Rattle.ags_places.specs.declared.sources.TheConstants.{SOURCE_LIMIT};
 ghost use Rattle.ags_top.specs.PlacedListing.{placed_line, placed_listing};
 
 use ags_asm::Placed;

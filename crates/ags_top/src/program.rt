@@ -52,7 +52,7 @@ fn load_command<'a, S: Shelf>(
     ensures absences { HasCause (S.absences shelf.old) (S.absences shelf.new) (is_absence result) }
 {
     match command {
-        Command::Assemble(source) => load_listing(alloc, source, shelf),
+        Command::Assemble(source) => load_listing(alloc, &machine, source, shelf),
         Command::Run { source, script } => load_play(alloc, machine, source, script, shelf),
     }
 }
@@ -146,9 +146,9 @@ impl Program for Ags {
             Work::ListSource(source) => list_source(alloc, source, out),
             Work::PlayScript {
                 machine,
-                placed,
+                made,
                 commands,
-            } => play_script(alloc, machine, placed, commands, out),
+            } => play_script(alloc, machine, made, commands, out),
         }
     }
 

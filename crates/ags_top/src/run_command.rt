@@ -2,7 +2,7 @@
 
 ghost use Rattle.std.specs.Prelude.{◌≡◌, IfOk, map};
 ghost use Rattle.std.specs.Result.{result_map_both};
-ghost use Rattle.ags_asm.specs.Phase.{defined};
+ghost use Rattle.ags_asm.specs.Source.{defined};
 ghost use Rattle.ags_outside.specs.Count.{HasCause};
 ghost use Rattle.ags_outside.specs.Send.{is_write_fault};
 ghost use Rattle.ags_plan.specs.Loading.{Loads, end_of, is_absence, is_read_fault};
@@ -11,15 +11,14 @@ ghost use Rattle.ags_plan.specs.Saying.{Says};
 ghost use Rattle.ags_run.specs.Playable.{IsPlayable};
 ghost use Rattle.ags_top.specs.Command as command;
 ghost use Rattle.ags_top.specs.Program.{program, command_plan};
-ghost use Rattle.ags_top.specs.Views.{AreWordsApart, IsReady, line_of, status_of, work_of};
+ghost use Rattle.ags_top.specs.Views.{HasImage, IsReady, line_of, status_of, work_of};
 ghost use Rattle.ags_top.specs.Work as work;
 
 use crate::files::{load_script, load_source};
-use crate::filling::image_of;
 use crate::refusal::Refusal;
 use crate::status::Status;
 use crate::works::Work;
-use ags_asm::Placed;
+use ags_asm::Assembled;
 use ags_outside::{SendError, Shelf, Sink};
 use ags_plan::Unloaded;
 use ags_ports::Machine;
@@ -40,32 +39,29 @@ pub(crate) fn load_play<'a, S: Shelf>(
     ensures faults { HasCause (S.faults shelf.old) (S.faults shelf.new) (is_read_fault result) }
     ensures absences { HasCause (S.absences shelf.old) (S.absences shelf.new) (is_absence result) }
 {
-    let source = load_source(alloc, source, shelf)?;
+    let source = load_source(alloc, &machine, source, shelf)?;
     let commands = load_script(alloc, &machine, script, shelf)?;
     Ok(Work::PlayScript {
         machine,
-        placed: source.placed,
+        made: source.made,
         commands,
     })
 }
 
-/// Plays a script's commands on a machine that begins with the words of a source's cards.
+/// Plays a script's commands on a machine that begins with a source's words.
 pub(crate) fn play_script<K: Sink>(
     alloc: Global,
     machine: &Machine,
-    placed: &[Placed],
+    made: &Assembled,
     commands: &[Plain],
     out: &mut K,
 ) -> Result<Status, SendError>
-    requires apart { AreWordsApart placed.now }
+    requires image { HasImage made.now }
     requires playable { IsPlayable machine.now commands.now }
-    ensures says { Says program (WorkAt (work.PlayScript machine.now (map defined placed.now) commands.now)) (K.told out.old) (K.told out.new) result }
+    ensures says { Says program (WorkAt (work.PlayScript machine.now (map defined made.now.cards.items) commands.now)) (K.told out.old) (K.told out.new) result }
     ensures faults { HasCause (K.faults out.old) (K.faults out.new) (is_write_fault result) }
 {
-    let Ok(image) = image_of(alloc, placed) else {
-        return Err(SendError::NoMemory);
-    };
-    match play_plain(alloc, machine, &image, commands, out) {
+    match play_plain(alloc, machine, &made.image, commands, out) {
         Ok(_) => Ok(Status::Done),
         Err(PlayError::WriteFault) => Err(SendError::WriteFault),
         Err(PlayError::NoMemory) => Err(SendError::NoMemory),

@@ -1,7 +1,7 @@
 //! What is loaded for a command line, and then done.
 
 use crate::files::SourceFile;
-use ags_asm::Placed;
+use ags_asm::Assembled;
 use ags_ports::Machine;
 use ags_run::Plain;
 
@@ -16,8 +16,8 @@ pub(crate) enum Work {
     PlayScript {
         /// The machine.
         machine: Machine,
-        /// The source's cards.
-        placed: Vec<Placed>,
+        /// What was made of the source.
+        made: Assembled,
         /// The script's commands.
         commands: Vec<Plain>,
     },

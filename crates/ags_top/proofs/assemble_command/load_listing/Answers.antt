@@ -9,7 +9,7 @@ use Rattle.ags_top.specs.Work.{ListSource}
 use Rattle.ags_top.proofs.assemble_command.load_listing.Goals as goal
 
 pub returns-in_err-source-clause-loads : goal.returns-in_err-source-clause-loads
-returns-in_err-source-clause-loads g c = λ machine.
+returns-in_err-source-clause-loads g c =
     let p = err_from_is_err_and c.from_residual.result c.from_residual.ensures.1 in
-    rw (p.1, p.2) (loads_stop program (g.S.Shelf.told c.args.shelf.now) Source c.args.source.now (λ assembly. Do (ListSource assembly))
+    rw (p.1, p.2) (loads_stop program (g.S.Shelf.told c.args.shelf.now) (Source c.args.machine.now) c.args.source.now (λ assembly. Do (ListSource assembly))
     (end_of program line_of status_of c.in_err-source.field-0.0) c.in_err-source.ensures.loads)

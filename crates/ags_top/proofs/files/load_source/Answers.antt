@@ -3,7 +3,7 @@ use Rattle.ags_top.proofs.files.load_source.Goals as goal
 
 pub returns-clause-loads : goal.returns-clause-loads
 returns-clause-loads g c =
-    source_loads (g.S.Shelf.told c.args.shelf.now) c.args.name.now c.in_ok-bytes.bytes.items c.read_source.result c.in_ok-bytes.ensures.fetches.0 c.in_ok-bytes.ensures.within
+    source_loads (g.S.Shelf.told c.args.shelf.now) c.args.machine.now c.args.name.now c.in_ok-bytes.bytes.items c.read_source.result c.in_ok-bytes.ensures.fetches.0 c.in_ok-bytes.ensures.within
     c.read_source.ensures.ready c.read_source.ensures.bytes c.read_source.ensures.unread
 
 pub returns-clause-faults : goal.returns-clause-faults

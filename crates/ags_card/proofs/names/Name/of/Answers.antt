@@ -1,4 +1,4 @@
-use Rattle.std.proofs.Common.{◌≡◌, true, refl, sym, ◌∙◌}
+use Rattle.std.proofs.Common.{◌≡◌, true, refl, sym, ◌∙◌, arith}
 use Rattle.ags_card.specs.Symbol.{is_symbol}
 use Rattle.ags_card.proofs.SymbolLemmas.{take-padded, is_symbol-IsSymbol}
 use Rattle.ags_card.proofs.names.Name.of.Goals as goal
@@ -18,3 +18,8 @@ returns c =
     let symbol = is_symbol-IsSymbol text is in
     let same = take-padded text symbol.most in
     rw (c.pad.ensures, same, is) refl
+
+pub overflow_cast-result : goal.overflow_cast-result
+overflow_cast-result c =
+    let symbol = is_symbol-IsSymbol c.args.text.now (sym c.is_symbol.ensures ∙ c.if-not-is_symbol.false) in
+    omega (arith, symbol.most)

@@ -1,5 +1,0 @@
-use Rattle.ags_asm.proofs.MeaningLemmas.{one_for_each}
-use Rattle.ags_asm.proofs.source_laws.each_line_has_its_definition.Goals as goal
-
-pub returns : goal.returns
-returns c = one_for_each

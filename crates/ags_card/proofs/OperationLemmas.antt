@@ -1,0 +1,96 @@
+-- Operations and their names.
+use Rattle.std.proofs.Common.{◌≡◌, ℕ, ◌<◌, length, Bool, true, false, cond, ◌==◌, ◌||◌, List, [], ◌∷◌, Option, Some, None, refl, sym, ap, ◌∙◌, nat_eq, inl, inr}
+use Rattle.std.specs.Prelude.{IfSome}
+use Rattle.std.specs.List.{find}
+use Rattle.std.specs.Cmp.Lexicographic.{pointwise, same_text}
+use Rattle.std.proofs.lemmas.Bool.{cases_Bool, eqb-true, or_from, ne_eqb}
+use Rattle.ags_isa.specs.declared.orders.Order.{Order}
+use Rattle.ags_isa.specs.declared.orders.Order.TheVariants.{Abs, Add, Adz, Als, Axt, Cla, Clz, Com, Dly, Dvp, Inp, Ldq, Lls, Lrs, Mpr, Mpy, Mpz, Out, Sto, Stq, Sub, Suz, Tix, Tmi, Tov, Tra, Tsq}
+use Rattle.ags_isa.specs.Order.{order_number, order_name}
+use Rattle.ags_isa.proofs.OrderLemmas.{order_number-injective}
+use Rattle.ags_card.specs.declared.operations.Operation.{Operation}
+use Rattle.ags_card.specs.declared.operations.Operation.TheVariants as op
+use Rattle.ags_card.specs.Operation.{operation_name, operation_named, all_operations, is_bare}
+use Rattle.ags_card.proofs.NumberLemmas.{same_answer}
+use Rattle.ags_card.proofs.ByteLemmas.{list_cases}
+
+-- what is found passes the test
+found_passes : {X : Type 0} (p : X → Bool) (xs : List X) (x : X) → find p xs ≡ Some x → p x ≡ true
+found_passes p [] x is = absurd (cc)
+found_passes p (y ∷ xs) x is =
+    elim (cases_Bool (p y)) [
+      | inl passes ↦ let found = rw passes at is in let same : y ≡ x = (cc) in rw same at passes
+      | inr fails ↦ found_passes p xs x (rw fails at is)
+    ]
+
+-- the operation that is found has the name
+pub named_name : (text : List ℕ) (operation : Operation) → operation_named text ≡ Some operation → operation_name operation ≡ text
+unfolding operation_named
+named_name text operation is = same_text (operation_name operation) text (sym (found_passes (λ o. pointwise nat_eq (operation_name o) text) all_operations operation is))
+
+-- the operation of an order's name is the order
+order_named_name : (order : Order) → operation_named (order_name order) ≡ Some (op.OfOrder order)
+unfolding operation_named
+order_named_name Abs = refl
+order_named_name Add = refl
+order_named_name Adz = refl
+order_named_name Als = refl
+order_named_name Axt = refl
+order_named_name Cla = refl
+order_named_name Clz = refl
+order_named_name Com = refl
+order_named_name Dly = refl
+order_named_name Dvp = refl
+order_named_name Inp = refl
+order_named_name Ldq = refl
+order_named_name Lls = refl
+order_named_name Lrs = refl
+order_named_name Mpr = refl
+order_named_name Mpy = refl
+order_named_name Mpz = refl
+order_named_name Out = refl
+order_named_name Sto = refl
+order_named_name Stq = refl
+order_named_name Sub = refl
+order_named_name Suz = refl
+order_named_name Tix = refl
+order_named_name Tmi = refl
+order_named_name Tov = refl
+order_named_name Tra = refl
+order_named_name Tsq = refl
+
+-- each operation is found by its name
+pub name_named : (operation : Operation) → operation_named (operation_name operation) ≡ Some operation
+unfolding operation_named
+name_named (op.OfOrder order) = order_named_name order
+name_named op.Org = refl
+name_named op.Equ = refl
+name_named op.Bss = refl
+name_named op.Dec = refl
+name_named op.Oct = refl
+name_named op.End = refl
+
+-- no operation has the empty name
+nothing_named : operation_named [] ≡ None
+unfolding operation_named
+nothing_named = refl
+
+pub name_some : (operation : Operation) → 0 < length (operation_name operation)
+name_some operation =
+    elim (list_cases (operation_name operation)) [
+      | inl none ↦ let both : ◌≡◌ {A = Option Operation} None (Some operation) = sym nothing_named ∙ ap operation_named (sym none) ∙ name_named operation in absurd (cc)
+      | inr some ↦ some
+    ]
+
+pub named : (text : List ℕ) (result : Option Operation) → IfSome result (λ operation. operation_name operation ≡ text)
+    → ((operation : Operation) → operation_name operation ≡ text → result ≡ Some operation) → result ≡ operation_named text
+named text result found only =
+    same_answer (λ operation. operation_name operation ≡ text) result (operation_named text) found only (named_name text)
+    (λ operation is. ap operation_named (sym is) ∙ name_named operation)
+
+-- orders other than ABS and COM are not bare
+pub not_bare : (order : Order) → (order ≡ Abs → ⊥) → (order ≡ Com → ⊥) → is_bare order ≡ false
+not_bare order not_abs not_com =
+    or_from (order_number order == order_number Abs) (order_number order == order_number Com)
+    (ne_eqb (order_number order) (order_number Abs) (λ same. not_abs (order_number-injective order Abs same)))
+    (ne_eqb (order_number order) (order_number Com) (λ same. not_com (order_number-injective order Com same)))

@@ -1,0 +1,67 @@
+//! Cards, and the faults of a line that is none.
+
+use crate::names::Name;
+use crate::terms::Terms;
+use ags_decimal::Decimal;
+use ags_isa::Order;
+use ags_word::Word;
+
+/// What a card asks for (docs/SOURCE.md, Cards).
+#[derive(Debug, Drop)]
+pub enum Body {
+    /// Nothing: it is a comment.
+    Comment,
+    /// The word of an order.
+    Order {
+        /// The order.
+        order: Order,
+        /// The terms of its address. ABS and COM have the one term 0.
+        terms: Terms,
+        /// Whether the index bit is set. It isn't in ABS and COM.
+        indexed: bool,
+    },
+    /// That the place be set to this.
+    Org(Terms),
+    /// That the card's symbol have this value.
+    Equ(Terms),
+    /// That the place be moved by this.
+    Bss(Terms),
+    /// The word of a decimal number.
+    Dec(Decimal),
+    /// This word.
+    Oct(Word),
+    /// That the source end.
+    End,
+}
+
+/// A card: the symbol in its symbol field, where it has one, and what it asks for.
+#[derive(Debug, Drop)]
+pub struct Card {
+    /// The symbol that it defines. A comment has none, and `Equ` has one.
+    pub symbol: Option<Name>,
+    /// What it asks for.
+    pub body: Body,
+}
+
+/// Why a line is no card (docs/SOURCE.md, Faults). Of several, the first of this list is told.
+#[derive(Clone, Copy, Debug, PartialEq, Eq)]
+pub enum CardFault {
+    /// A byte is no tab and no character from the space to the tilde.
+    BadByte,
+    /// There are more than 120 bytes.
+    LongCard,
+    /// The symbol field is no symbol, or an EQU has none.
+    BadSymbol,
+    /// The operation is missing, or is none of the names.
+    UnknownOperation,
+    /// An operation that takes an operand has none.
+    MissingOperand,
+    /// A comma stands in the operand of ORG, EQU, BSS, DEC or OCT.
+    ExtraOperand,
+    /// The operand of an order, ORG, EQU or BSS is no expression.
+    BadExpression,
+    /// The operand of DEC is no decimal number, or one out of its limits.
+    BadDecimal,
+    /// The operand of OCT is no octal number.
+    BadOctal,
+}

@@ -1,0 +1,121 @@
+//! The operands of operations, each as what its card asks for.
+
+ghost use Rattle.std.specs.Prelude.{◌≡◌, ◌≤◌, ◌==◌, not, length};
+ghost use Rattle.std.specs.List.{list_all};
+ghost use Rattle.ags_card.specs.Reading.{is_indexed, without_index, order_terms, plain_terms, decimal_operand, octal_reading, octal_operand};
+
+use crate::cards::CardFault;
+use crate::expressions::{begins_with_minus, behind_sign, read_expression, read_octal};
+use crate::terms::Terms;
+use ags_decimal::Decimal;
+use ags_word::Word;
+
+/// Whether no comma stands in a text.
+fn has_no_comma(text: &[u8]) -> bool
+    ensures { result ≡ list_all (λ b. not (b == 44)) text.now }
+{
+    text.iter().all(|byte| *byte != b',')
+}
+
+/// Whether an order's operand ends in the mark of the index.
+#[tactic(auto, unfolding(crate::specs::Reading::is_indexed))]
+pub(crate) fn is_indexed(operand: &[u8]) -> bool
+    ensures { result ≡ is_indexed operand.now }
+{
+    matches!(operand, [.., b',', b'1'])
+}
+
+/// An order's operand without the mark of the index.
+#[tactic(auto, unfolding(crate::specs::Reading::is_indexed, crate::specs::Reading::without_index))]
+fn without_index(operand: &[u8]) -> &[u8]
+    ensures { result.now ≡ without_index operand.now }
+{
+    if is_indexed(operand) {
+        &operand[..operand.len() - 2]
+    } else {
+        operand
+    }
+}
+
+/// The terms of an order's operand.
+#[tactic(auto, unfolding(crate::specs::Reading::order_terms))]
+pub(crate) fn read_order_operand(operand: &[u8]) -> Result<Terms, CardFault>
+    requires { length operand.now ≤ 120 }
+    ensures { result ≡ order_terms operand.now }
+{
+    if operand.is_empty() {
+        return Err(CardFault::MissingOperand);
+    }
+    match read_expression(without_index(operand)) {
+        Some(terms) => Ok(terms),
+        None => Err(CardFault::BadExpression),
+    }
+}
+
+/// The terms of the operand of ORG, EQU or BSS.
+#[tactic(auto, unfolding(crate::specs::Reading::plain_terms))]
+pub(crate) fn read_plain_operand(operand: &[u8]) -> Result<Terms, CardFault>
+    requires { length operand.now ≤ 120 }
+    ensures { result ≡ plain_terms operand.now }
+{
+    if operand.is_empty() {
+        return Err(CardFault::MissingOperand);
+    }
+    if !has_no_comma(operand) {
+        return Err(CardFault::ExtraOperand);
+    }
+    match read_expression(operand) {
+        Some(terms) => Ok(terms),
+        None => Err(CardFault::BadExpression),
+    }
+}
+
+/// The decimal of the operand of DEC.
+#[tactic(auto, unfolding(crate::specs::Reading::decimal_operand))]
+pub(crate) fn read_decimal_operand(operand: &[u8]) -> Result<Decimal, CardFault>
+    ensures { result ≡ decimal_operand operand.now }
+{
+    if operand.is_empty() {
+        return Err(CardFault::MissingOperand);
+    }
+    if !has_no_comma(operand) {
+        return Err(CardFault::ExtraOperand);
+    }
+    match ags_decimal::read(operand) {
+        Some(number) => Ok(number),
+        None => Err(CardFault::BadDecimal),
+    }
+}
+
+/// The word of an octal number with a sign or without.
+#[tactic(auto, unfolding(crate::specs::Reading::octal_reading))]
+fn read_signed_octal(text: &[u8]) -> Option<Word>
+    ensures { result ≡ octal_reading text.now }
+{
+    let Some(number) = read_octal(behind_sign(text)) else {
+        return None;
+    };
+    let word = Word::of(number)?;
+    if begins_with_minus(text) {
+        Some(word.com().0)
+    } else {
+        Some(word)
+    }
+}
+
+/// The word of the operand of OCT.
+#[tactic(auto, unfolding(crate::specs::Reading::octal_operand))]
+pub(crate) fn read_octal_operand(operand: &[u8]) -> Result<Word, CardFault>
+    ensures { result ≡ octal_operand operand.now }
+{
+    if operand.is_empty() {
+        return Err(CardFault::MissingOperand);
+    }
+    if !has_no_comma(operand) {
+        return Err(CardFault::ExtraOperand);
+    }
+    match read_signed_octal(operand) {
+        Some(word) => Ok(word),
+        None => Err(CardFault::BadOctal),
+    }
+}

@@ -1,0 +1,77 @@
+//! The terms of an expression.
+
+ghost use Rattle.std.specs.Prelude.{◌≡◌};
+ghost use Rattle.ags_card.specs.Term.{AreTerms, zero_terms};
+
+use crate::names::Name;
+use arrayvec::ArrayVec;
+use std::marker::Model;
+
+/// What a term stands for (docs/SOURCE.md, Expressions).
+#[derive(Clone, Copy, Debug, Default, PartialEq, Eq)]
+pub enum Atom {
+    /// A number, written in octal or in decimal digits.
+    Number(u32),
+    /// The place of the card before it acts.
+    #[default]
+    Here,
+    /// The value of a symbol.
+    Symbol(Name),
+}
+
+/// A term of an expression with its sign.
+#[derive(Clone, Copy, Debug, Default, PartialEq, Eq)]
+pub struct Term {
+    /// Whether it is taken away.
+    pub minus: bool,
+    /// What it stands for.
+    pub atom: Atom,
+}
+
+/// The terms of an expression, which stands for their sum: 1 to 64, each number among them at most 999,999.
+#[derive(Debug, Drop)]
+pub struct Terms {
+    items: ArrayVec<Term, 64>,
+}
+
+impl Model for Terms {
+    ghost use Rattle.std.specs.Prelude.{List};
+    ghost use Rattle.ags_card.specs.declared.terms.Term.{Term};
+    ghost use Rattle.ags_card.specs.Term.{AreTerms};
+
+    ghost Value = { List Term };
+
+    ghost view = { λ terms. terms.items.items };
+
+    ghost invariant = { λ terms. AreTerms terms.items.items };
+}
+
+impl Terms {
+    /// The terms, from the first to the last.
+    pub fn items(&self) -> &[Term]
+        ensures same { result.now ≡ self.now }
+        ensures terms { AreTerms result.now }
+    {
+        self.items.as_slice()
+    }
+
+    /// The terms of a list that has some, and not too many.
+    pub(crate) fn of(items: ArrayVec<Term, 64>) -> Terms
+        requires { AreTerms items.items }
+        ensures { result ≡ items.items }
+    {
+        Terms { items }
+    }
+
+    /// The one term 0.
+    pub(crate) fn zero() -> Terms
+        ensures { result ≡ zero_terms }
+    {
+        let mut items: ArrayVec<Term, 64> = ArrayVec::new();
+        items.push(Term {
+            minus: false,
+            atom: Atom::Number(0),
+        });
+        Terms { items }
+    }
+}

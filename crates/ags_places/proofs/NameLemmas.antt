@@ -1,0 +1,82 @@
+-- The names of the pairs that fit the cards.
+use Rattle.std.proofs.Common.{◌≡◌, ◌≢◌, ℕ, ◌+◌, ◌<◌, List, [], ◌∷◌, ◌++◌, length, get_or, map, Option, Some, None, option_map, refl, sym, ap, subst, ◌∙◌, append_assoc, All, arith}
+use Rattle.std.specs.List.{filter_map, Contains, AllPairs}
+use Rattle.std.proofs.lemmas.List.{append-nil, map-append}
+use Rattle.std.proofs.lemmas.List.Elements.{All-map, All-contains_itself}
+use Rattle.std.proofs.lemmas.List.Quantifiers.{all_pairs_push}
+use Rattle.ags_text.specs.Fault.{or_later, first_fault}
+use Rattle.ags_card.specs.declared.cards.Card.{Card}
+use Rattle.ags_symbol.specs.Symbol.{Entry, EachNameOnce, names, found}
+use Rattle.ags_symbol.proofs.FoundLemmas.{found_none}
+use Rattle.ags_places.specs.declared.source_error.SourceKind.{SourceKind}
+use Rattle.ags_places.specs.declared.source_error.SourceKind.TheVariants.{SymbolTwice}
+use Rattle.ags_places.specs.Deck.{cards}
+use Rattle.ags_places.specs.Place.{Fits, early, place, symbol_value, pair_of, pairs_after}
+use Rattle.ags_places.specs.Fault.{or_else, twice, body_fault, early_fault, first_card_fault, first_place_fault}
+use Rattle.ags_places.proofs.RunningLemmas.{known, next_pair, next_pairs, known_fault, fits_only, faults-known}
+
+-- ---- one pair for each symbol
+
+names-step : (symbol : Option (List ℕ)) (value : _) (number : ℕ) (rest : List Entry) (card : Card) (cards : List Card) → card.symbol ≡ symbol → names rest ≡ filter_map (λ (c : Card). c.symbol) cards
+    → names (pair_of symbol value number ++ rest) ≡ filter_map (λ (c : Card). c.symbol) (card ∷ cards)
+names-step None value number rest card cards is behind = rw is behind
+names-step (Some name) value number rest card cards is behind = rw is (ap (λ (others : List (List ℕ)). name ∷ others) behind)
+
+names-after : (S : List Entry) (before cards : List Card) → names (pairs_after S before cards) ≡ filter_map (λ card. card.symbol) cards
+unfolding pairs_after
+names-after S before [] = refl
+names-after S before (card ∷ cards) =
+    names-step card.symbol (symbol_value (early S (length before)) (place S before) card.body) (length before + 1) (pairs_after S (card ∷ before) cards) card cards refl (names-after S (card ∷ before) cards)
+
+pub names_fit : (S : List Entry) (cards : List Card) → Fits S cards → names S ≡ filter_map (λ card. card.symbol) cards
+names_fit S cards fits = ap names fits ∙ names-after S [] cards
+
+-- ---- each symbol once
+
+-- one more pair, of a symbol that has none
+once_more : (pairs : List Entry) (entry : Entry) → EachNameOnce pairs → found entry.name pairs ≡ None → EachNameOnce (pairs ++ entry ∷ [])
+once_more pairs entry once none =
+    let others : All (λ e. e.name ≢ entry.name) pairs = λ k d within. found_none entry.name pairs (get_or pairs k d) none (All-contains_itself pairs k d within) in
+    let apart : All (λ name. name ≢ entry.name) (names pairs) = All-map (λ name. name ≢ entry.name) (λ (e : Entry). e.name) pairs others in
+    rw (map-append (λ (e : Entry). e.name) pairs (entry ∷ [])) (all_pairs_push (λ one other. one ≢ other) (names pairs) entry.name once apart)
+
+once-step : (pairs : List Entry) (symbol : Option (List ℕ)) (value : _) (number : ℕ) → EachNameOnce pairs → twice pairs symbol ≡ None → EachNameOnce (pairs ++ pair_of symbol value number)
+once-step pairs None value number once none = rw (append-nil pairs) once
+once-step pairs (Some name) value number once none = once_more pairs (record { name = name; value = value; card = number }) once (not_twice (found name pairs) none)
+  where
+    not_twice : (earlier : Option Entry) → option_map (λ (entry : Entry). SymbolTwice entry.card) earlier ≡ None → earlier ≡ None
+    not_twice None none = refl
+    not_twice (Some entry) none = absurd cc
+
+-- no fault first
+first_none : (first later : Option SourceKind) → or_else first later ≡ None → first ≡ None
+first_none None later none = refl
+first_none (Some kind) later none = absurd cc
+
+none_later : (number : ℕ) (head : Option SourceKind) (later : Option (ℕ × SourceKind)) → or_later number head later ≡ None → (head ≡ None) × (later ≡ None)
+none_later number None later none = (refl, none)
+none_later number (Some kind) later none = absurd cc
+
+once_along : (before cards : List Card) → EachNameOnce (known before).pairs → first_fault known_fault before cards ≡ None → EachNameOnce ((known before).pairs ++ next_pairs before cards)
+unfolding known next_pairs first_fault
+once_along before [] once none = rw (append-nil (known before).pairs) once
+once_along before (card ∷ cards) once none =
+    let parts = none_later (length before + 1) (known_fault before card) (first_fault known_fault (card ∷ before) cards) none in
+    let single = first_none (twice (known before).pairs card.symbol) (body_fault (known before).pairs (known before).place card.body) parts.0 in
+    let more : EachNameOnce (known (card ∷ before)).pairs = once-step (known before).pairs card.symbol (symbol_value (known before).pairs (known before).place card.body) (length before + 1) once single in
+    rw (← append_assoc) (once_along (card ∷ before) cards more parts.1)
+
+once-start : EachNameOnce (known []).pairs
+unfolding known
+once-start = λ i j d first within. absurd (omega (arith, first, within))
+
+no_place_fault : (first later : Option (ℕ × SourceKind)) → or_else first later ≡ None → later ≡ None
+no_place_fault None later none = none
+no_place_fault (Some fault) later none = absurd cc
+
+pub each_symbol_once : (text : List ℕ) (S : List Entry) → Fits S (cards text) → early_fault S text ≡ None → EachNameOnce S
+unfolding known
+each_symbol_once text S fits none =
+    let clear = no_place_fault (first_card_fault text) (first_place_fault S text) none in
+    let along = once_along [] (cards text) once-start (sym (faults-known S (cards text) fits) ∙ clear) in
+    rw (fits_only S (cards text) fits) along

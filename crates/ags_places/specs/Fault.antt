@@ -1,0 +1,101 @@
+-- What is wrong with the cards of a source, up to the phase of places.
+use Rattle.std.specs.Prelude.{ℕ, ◌+◌, Bool, ◌&&◌, if◌then◌else◌, nat_lt, nat_le, List, [], ◌∷◌, length, Option, Some, None, option_map, Result, Ok, Err, ℤ, pos, neg_ℤ, ◌+ℤ◌, int_le}
+use Rattle.ags_text.specs.Fault.{first_fault}
+use Rattle.ags_card.specs.declared.cards.Body.{Body}
+use Rattle.ags_card.specs.declared.cards.Body.TheVariants.{Comment, Order, Org, Equ, Bss, Dec, Oct, End}
+use Rattle.ags_card.specs.declared.cards.Card.{Card}
+use Rattle.ags_card.specs.declared.cards.CardFault.{CardFault}
+use Rattle.ags_card.specs.declared.cards.CardFault.TheVariants as card
+use Rattle.ags_symbol.specs.declared.symbols.TheConstants.{VALUE_LIMIT}
+use Rattle.ags_symbol.specs.Symbol.{Entry, found, sum_of}
+use Rattle.ags_places.specs.declared.source_error.SourceKind.{SourceKind}
+use Rattle.ags_places.specs.declared.source_error.SourceKind.TheVariants.{BadByte, LongCard, BadSymbol, UnknownOperation, MissingOperand, ExtraOperand, BadExpression, BadDecimal, BadOctal, SymbolTwice, UndefinedEarly, PlaceRange}
+use Rattle.ags_places.specs.Deck.{card_lines, readings, cards}
+use Rattle.ags_places.specs.Place.{early, place}
+
+-- ---- the phase of cards
+
+-- the fault of a line that is no card
+abbrev pub kind_of : CardFault → SourceKind
+kind_of card.BadByte = BadByte
+kind_of card.LongCard = LongCard
+kind_of card.BadSymbol = BadSymbol
+kind_of card.UnknownOperation = UnknownOperation
+kind_of card.MissingOperand = MissingOperand
+kind_of card.ExtraOperand = ExtraOperand
+kind_of card.BadExpression = BadExpression
+kind_of card.BadDecimal = BadDecimal
+kind_of card.BadOctal = BadOctal
+
+-- the fault of a line in the phase of cards, whatever stands before it
+abbrev pub card_fault : List (Result Card CardFault) → Result Card CardFault → Option SourceKind
+card_fault before (Ok card) = None
+card_fault before (Err fault) = Some (kind_of fault)
+
+-- ---- the phase of places: one card, by the pairs of the cards before it and by its place
+
+-- an earlier card defines the symbol
+abbrev pub twice : List Entry → Option (List ℕ) → Option SourceKind
+twice early None = None
+twice early (Some name) = option_map (λ entry. SymbolTwice entry.card) (found name early)
+
+-- what a value or a place that is taken to be in its range is told as, where it isn't
+abbrev pub unless : Bool → Option SourceKind
+unless within = if within then None else Some PlaceRange
+
+-- an operand with a symbol that no earlier card defines, or one that is out of its range
+abbrev pub operand_fault : (ℤ → Bool) → Option ℤ → Option SourceKind
+operand_fault within None = Some UndefinedEarly
+operand_fault within (Some value) = unless (within value)
+
+-- the place of an ORG is one of the memory's
+abbrev pub is_place : ℤ → Bool
+is_place value = int_le (pos 0) value && int_le value (pos 4095)
+
+-- the value of an EQU is one that a symbol may have
+abbrev pub is_value : ℤ → Bool
+is_value value = int_le (neg_ℤ VALUE_LIMIT) value && int_le value VALUE_LIMIT
+
+-- a BSS goes forward, to the memory's end at most
+abbrev pub fits_behind : ℕ → ℤ → Bool
+fits_behind at value = int_le (pos 0) value && int_le (pos at +ℤ value) (pos 4096)
+
+-- what is wrong with what a card asks for
+abbrev pub body_fault : List Entry → ℕ → Body → Option SourceKind
+body_fault early at Comment = None
+body_fault early at (Order order terms indexed) = unless (nat_lt at 4096)
+body_fault early at (Org terms) = operand_fault is_place (sum_of early at terms)
+body_fault early at (Equ terms) = operand_fault is_value (sum_of early at terms)
+body_fault early at (Bss terms) = operand_fault (fits_behind at) (sum_of early at terms)
+body_fault early at (Dec decimal) = unless (nat_lt at 4096)
+body_fault early at (Oct word) = unless (nat_lt at 4096)
+body_fault early at End = None
+
+-- the first of two faults
+abbrev pub or_else : {F : Type 0} → Option F → Option F → Option F
+or_else (Some fault) later = Some fault
+or_else None later = later
+
+-- what is wrong with a card: its symbol first
+abbrev pub place_fault_at : List Entry → ℕ → Card → Option SourceKind
+place_fault_at early at card = or_else (twice early card.symbol) (body_fault early at card.body)
+
+-- ---- the phase of places, by S
+
+-- the fault of a card behind those before it, nearest first
+abbrev pub place_fault : List Entry → List Card → Card → Option SourceKind
+place_fault S before card = place_fault_at (early S (length before)) (place S before) card
+
+-- ---- both phases
+
+-- the first fault of a source in the phase of cards, and its card's number
+abbrev pub first_card_fault : List ℕ → Option (ℕ × SourceKind)
+first_card_fault text = first_fault card_fault [] (readings (card_lines text))
+
+-- the first fault of a source in the phase of places, where S fits its cards
+abbrev pub first_place_fault : List Entry → List ℕ → Option (ℕ × SourceKind)
+first_place_fault S text = first_fault (place_fault S) [] (cards text)
+
+-- The first fault of a source up to the phase of places: that of the phase of cards comes first, whatever card has it.
+abbrev pub early_fault : List Entry → List ℕ → Option (ℕ × SourceKind)
+early_fault S text = or_else (first_card_fault text) (first_place_fault S text)

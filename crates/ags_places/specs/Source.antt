@@ -1,0 +1,47 @@
+-- What a source is placed as, and what it is refused for before its words are asked for.
+use Rattle.std.specs.Prelude.{◌≡◌, ℕ, ◌+◌, ◌<◌, ◌≤◌, List, [], ◌∷◌, length, Option, Some, None, IfSome}
+use Rattle.ags_text.specs.Line.{LineAt}
+use Rattle.ags_symbol.specs.Symbol.{Entry}
+use Rattle.ags_places.specs.declared.placed.Placed.{Placed}
+use Rattle.ags_places.specs.declared.source_error.SourceError.{SourceError}
+use Rattle.ags_places.specs.declared.source_error.AssembleError.{AssembleError}
+use Rattle.ags_places.specs.declared.source_error.AssembleError.TheVariants.{Source, NoMemory}
+use Rattle.ags_places.specs.Deck.{card_lines, cards}
+use Rattle.ags_places.specs.Place.{Fits, places}
+use Rattle.ags_places.specs.Fault.{early_fault}
+
+-- a card before its word is made: the span of its line, and the place of its word, where it has one
+abbrev pub placed_at : LineAt → Option ℕ → Placed
+placed_at line at = record { start = line.start; end = line.start + length line.bytes; place = at; word = 0 }
+
+-- each line's card so, where there are as many places as lines
+abbrev pub placed_cards : List LineAt → List (Option ℕ) → List Placed
+placed_cards [] places = []
+placed_cards (line ∷ lines) [] = []
+placed_cards (line ∷ lines) (at ∷ places) = placed_at line at ∷ placed_cards lines places
+
+-- The text is a source without a fault up to the phase of places, S is what its symbols stand for, and these are its cards.
+pub record IsPlaced (text : List ℕ) (placed : List Placed) (S : List Entry) : Type 0 where
+  pub fits : Fits S (cards text)
+  pub faultless : early_fault S text ≡ None
+  pub cards_are : placed ≡ placed_cards (card_lines text) (places S (cards text))
+
+-- the text is a source whose first fault, up to the phase of places, is this one
+pub record IsMisplaced (text : List ℕ) (error : SourceError) : Type 0 where
+  pub symbols : List Entry
+  pub fits : Fits symbols (cards text)
+  pub first : early_fault symbols text ≡ Some (error.card, error.kind)
+
+-- why a text was not placed, where it was not want of memory
+abbrev pub IsRefused : List ℕ → AssembleError → Type 0
+IsRefused text (Source error) = IsMisplaced text error
+IsRefused text NoMemory = Unit {0}
+
+-- where a card has a place, it is one of the memory's
+abbrev pub IsInMemory : Placed → Type 0
+IsInMemory card = IfSome card.place (λ at. at < 4096)
+
+-- The spans of cards begin at that byte or behind it, lie one behind the other, and end within that limit.
+abbrev pub AreSpans : (from limit : ℕ) → List Placed → Type 0
+AreSpans from limit [] = Unit {0}
+AreSpans from limit (card ∷ cards) = (from ≤ card.start) × (card.start ≤ card.end) × (card.end ≤ limit) × AreSpans (card.end + 1) limit cards

@@ -1,0 +1,37 @@
+//! Laws of places and symbols, over all cards. Behind each clause is a lemma of `proofs/`, which the crates above cite.
+
+ghost use Rattle.std.specs.Prelude.{◌≡◌, ℕ, ◌+◌, ◌++◌, [], ◌∷◌, List, None, false, length, unsigned_abs};
+ghost use Rattle.std.specs.List.{filter_map, list_any};
+ghost use Rattle.ags_text.specs.Line.{Follow};
+ghost use Rattle.ags_card.specs.declared.cards.Card.{Card};
+ghost use Rattle.ags_card.specs.declared.terms.Term.{Term};
+ghost use Rattle.ags_card.specs.declared.cards.Body.TheVariants.{Org};
+ghost use Rattle.ags_symbol.specs.Symbol.{Entry, EachNameOnce, names};
+ghost use Rattle.ags_places.specs.Deck.{card_lines, cards};
+ghost use Rattle.ags_places.specs.Fault.{early_fault};
+ghost use Rattle.ags_places.specs.Place.{Fits, early, operand, place, is_org, sizes};
+
+/// Exactly one list of pairs fits the cards of a source, whichever they are.
+pub fn one_list_of_pairs_fits()
+    ensures some { (cards : List Card) → (S : List Entry) × Fits S cards }
+    ensures one { (cards : List Card) (one other : List Entry) → Fits one cards → Fits other cards → one ≡ other }
+{}
+
+/// The lines of a source's cards stand in its text where they say, one behind the other.
+pub fn card_lines_follow()
+    ensures { (text : List ℕ) → Follow text 0 (card_lines text) }
+{}
+
+/// The place of a card is the value of the last ORG before it, or 0, and the sizes of the cards since.
+pub fn places_are_sums()
+    ensures start { (S : List Entry) (since : List Card) → list_any is_org since ≡ false → place S since ≡ sizes S since [] }
+    ensures org { (S : List Entry) (since before : List Card) (card : Card) (terms : List Term) → list_any is_org since ≡ false → card.body ≡ Org terms
+        → place S (since ++ card ∷ before) ≡ unsigned_abs (operand (early S (length before)) (place S before) terms) + sizes S since (card ∷ before) }
+{}
+
+/// The list that fits has one pair for each symbol in a symbol field, in order, and in a source without a fault of the first two
+/// phases no symbol stands there twice.
+pub fn each_symbol_has_a_pair()
+    ensures names { (S : List Entry) (cards : List Card) → Fits S cards → names S ≡ filter_map (λ card. card.symbol) cards }
+    ensures once { (text : List ℕ) (S : List Entry) → Fits S (cards text) → early_fault S text ≡ None → EachNameOnce S }
+{}

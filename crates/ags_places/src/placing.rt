@@ -1,0 +1,193 @@
+//! What a card does at its place (docs/SOURCE.md, Places).
+
+ghost use Rattle.std.specs.Prelude.{◌≡◌, ◌+◌, ◌≤◌, ◌++◌, pos, None, Some, OnOk, IfOk, IfErr, nat_lt};
+ghost use Rattle.ags_symbol.specs.Symbol.{IsValue, sum_of};
+ghost use Rattle.ags_places.specs.Effect.{IsEffect, IsStop};
+ghost use Rattle.ags_places.specs.Fault.{body_fault, twice, or_else, place_fault_at, unless};
+ghost use Rattle.ags_places.specs.Place.{pair_of, place_after, symbol_value};
+
+use crate::source_error::SourceKind;
+use ags_card::{Body, Card, Name, Terms};
+use ags_symbol::{DefineError, Symbols, VALUE_LIMIT};
+
+/// How many words the memory has.
+pub const MEMORY_WORDS: u16 = 4096;
+
+/// What a card does: the value of its symbol, and where it leaves the place.
+#[derive(Clone, Copy, Debug)]
+pub(crate) struct Effect {
+    /// What the card's symbol stands for, where it has one.
+    pub(crate) value: i32,
+    /// The place of the next card.
+    pub(crate) next: u16,
+}
+
+/// Why a card isn't placed.
+#[derive(Clone, Copy, Debug)]
+pub(crate) enum Stop {
+    /// It has this fault.
+    Fault(SourceKind),
+    /// There was too little memory.
+    NoMemory,
+}
+
+/// A card that leaves its place as it is.
+fn stay(place: u16) -> Effect
+    requires { place ≤ 4096 }
+    ensures value { result.value ≡ pos place }
+    ensures next { result.next ≡ place }
+    ensures is_value { IsValue result.value }
+{
+    Effect {
+        value: i32::from(place),
+        next: place,
+    }
+}
+
+/// A card with a word.
+fn place_word(place: u16) -> Result<Effect, SourceKind>
+    requires { place ≤ 4096 }
+    ensures faultless { OnOk result (unless (nat_lt place 4096) ≡ None) }
+    ensures value { IfOk result (λ effect. effect.value ≡ pos place) }
+    ensures next { IfOk result (λ effect. effect.next ≡ place + 1) }
+    ensures is_value { IfOk result (λ effect. IsValue effect.value) }
+    ensures small { IfOk result (λ effect. effect.next ≤ 4096) }
+    ensures fault { IfErr result (λ kind. unless (nat_lt place 4096) ≡ Some kind) }
+{
+    if place < MEMORY_WORDS {
+        Ok(Effect {
+            value: i32::from(place),
+            next: place + 1,
+        })
+    } else {
+        Err(SourceKind::PlaceRange)
+    }
+}
+
+/// What an operand comes to at its place.
+fn read_operand(symbols: &Symbols, place: u16, terms: &Terms) -> Result<i32, SourceKind>
+    requires { place ≤ 4096 }
+    ensures value { IfOk result (λ value. sum_of symbols.now place terms.now ≡ Some value) }
+    ensures undefined { IfErr result (λ kind. (sum_of symbols.now place terms.now ≡ None) × (kind ≡ SourceKind.UndefinedEarly)) }
+{
+    symbols
+        .value_of(terms, place)
+        .ok_or(SourceKind::UndefinedEarly)
+}
+
+/// An ORG.
+fn set_place(symbols: &Symbols, place: u16, terms: &Terms) -> Result<Effect, SourceKind>
+    requires { place ≤ 4096 }
+    ensures effect { IfOk result (IsEffect symbols.now place (Body.Org terms.now)) }
+    ensures fault { IfErr result (λ kind. body_fault symbols.now place (Body.Org terms.now) ≡ Some kind) }
+{
+    let value = read_operand(symbols, place, terms)?;
+    if value < 0 || value > 4095 {
+        return Err(SourceKind::PlaceRange);
+    }
+    let next = value as u16;
+    Ok(Effect { value, next })
+}
+
+/// An EQU.
+fn give_value(symbols: &Symbols, place: u16, terms: &Terms) -> Result<Effect, SourceKind>
+    requires { place ≤ 4096 }
+    ensures effect { IfOk result (IsEffect symbols.now place (Body.Equ terms.now)) }
+    ensures fault { IfErr result (λ kind. body_fault symbols.now place (Body.Equ terms.now) ≡ Some kind) }
+{
+    let value = read_operand(symbols, place, terms)?;
+    if value < -VALUE_LIMIT || value > VALUE_LIMIT {
+        return Err(SourceKind::PlaceRange);
+    }
+    let next = place;
+    Ok(Effect { value, next })
+}
+
+/// A BSS.
+fn move_place(symbols: &Symbols, place: u16, terms: &Terms) -> Result<Effect, SourceKind>
+    requires { place ≤ 4096 }
+    ensures effect { IfOk result (IsEffect symbols.now place (Body.Bss terms.now)) }
+    ensures fault { IfErr result (λ kind. body_fault symbols.now place (Body.Bss terms.now) ≡ Some kind) }
+{
+    let size = read_operand(symbols, place, terms)?;
+    if size < 0 || size > 4096 - i32::from(place) {
+        return Err(SourceKind::PlaceRange);
+    }
+    let value = i32::from(place);
+    let next = place + size as u16;
+    Ok(Effect { value, next })
+}
+
+/// What a card does at its place.
+fn effect_of(symbols: &Symbols, place: u16, body: &Body) -> Result<Effect, SourceKind>
+    requires { place ≤ 4096 }
+    ensures effect { IfOk result (IsEffect symbols.now place body.now) }
+    ensures fault { IfErr result (λ kind. body_fault symbols.now place body.now ≡ Some kind) }
+{
+    match body {
+        Body::Comment | Body::End => Ok(stay(place)),
+        Body::Order { .. } | Body::Dec(_) | Body::Oct(_) => place_word(place),
+        Body::Org(terms) => set_place(symbols, place, terms),
+        Body::Equ(terms) => give_value(symbols, place, terms),
+        Body::Bss(terms) => move_place(symbols, place, terms),
+    }
+}
+
+/// Gives a card's symbol its value, where the card has one.
+fn define_symbol(
+    symbols: &mut Symbols,
+    symbol: Option<Name>,
+    value: i32,
+    number: u32,
+) -> Result<(), Stop>
+    requires { IsValue value }
+    ensures defined { OnOk result (symbols.new ≡ symbols.old ++ pair_of symbol value number) }
+    ensures once { OnOk result (twice symbols.old symbol ≡ None) }
+    ensures stop { IfErr result (IsStop (twice symbols.old symbol)) }
+{
+    let Some(name) = symbol else {
+        return Ok(());
+    };
+    match symbols.define(name, value, number) {
+        Ok(()) => Ok(()),
+        Err(DefineError::Twice { first }) => Err(Stop::Fault(SourceKind::SymbolTwice { first })),
+        Err(DefineError::NoMemory) => Err(Stop::NoMemory),
+    }
+}
+
+/// A fault of a card, unless its symbol is at fault, which comes before.
+fn symbol_first(symbols: &Symbols, symbol: Option<Name>, kind: SourceKind) -> SourceKind
+    ensures { or_else (twice symbols.now symbol) (Some kind) ≡ Some result }
+{
+    let Some(name) = symbol else {
+        return kind;
+    };
+    match symbols.get(&name) {
+        Some(earlier) => SourceKind::SymbolTwice {
+            first: earlier.card,
+        },
+        None => kind,
+    }
+}
+
+/// Places a card: gives its symbol its value, and answers the place of the next card.
+pub(crate) fn place_card(
+    symbols: &mut Symbols,
+    place: u16,
+    number: u32,
+    card: &Card,
+) -> Result<u16, Stop>
+    requires { place ≤ 4096 }
+    ensures faultless { OnOk result (place_fault_at symbols.old place card.now ≡ None) }
+    ensures pair { OnOk result (symbols.new ≡ symbols.old ++ pair_of card.now.symbol (symbol_value symbols.old place card.now.body) number) }
+    ensures next { IfOk result (λ next. next ≡ place_after symbols.old place card.now.body) }
+    ensures small { IfOk result (λ next. next ≤ 4096) }
+    ensures stop { IfErr result (IsStop (place_fault_at symbols.old place card.now)) }
+{
+    let effect = match effect_of(symbols, place, &card.body) {
+        Ok(effect) => effect,
+        Err(kind) => return Err(Stop::Fault(symbol_first(symbols, card.symbol, kind))),
+    };
+    define_symbol(symbols, card.symbol, effect.value, number)?;
+    Ok(effect.next)
+}

@@ -1,0 +1,12 @@
+//! The symbols of a source with their values, and the sums that are written with them. It stands on `ags_card` for names
+//! and terms, and on `indexmap`; each call is pinned by the definitions in `specs/`.
+#![tactic(auto)]
+
+mod laws;
+mod sums;
+mod symbols;
+#[cfg(test)]
+mod tests;
+
+pub use laws::pairs_are_found_by_name;
+pub use symbols::{DefineError, Defined, Symbols, VALUE_LIMIT};
