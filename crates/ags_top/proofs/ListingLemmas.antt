@@ -5,7 +5,7 @@ use Rattle.ags_text.specs.Line.{LineAt, LiesIn, Follow}
 use Rattle.ags_outside.specs.Sink.{appended, Wrote, WroteFront, wrote_nothing, wrote_piece, wrote_all, wrote_front}
 use Rattle.ags_places.specs.declared.placed.Placed.{Placed}
 use Rattle.ags_places.specs.Deck.{card_lines}
-use Rattle.ags_places.proofs.DeckLemmas.{card_lines-follow}
+use Rattle.ags_places.proofs.PlacingLemmas.{lines_of_cards_follow}
 use Rattle.ags_asm.specs.Source.{AreSpans, defined, placed_at, placed_cards}
 use Rattle.ags_image.specs.Image.{PlacedWord}
 use Rattle.ags_plan.specs.Plan.{WorkAt}
@@ -108,7 +108,7 @@ listing_by_lines source from number (line ∷ lines) (d ∷ ds) follow =
 -- the cards' listing is the listing of what the source defines
 pub listing_is : (bytes : List ℕ) (placed : List Placed) → AreCardsOf bytes placed → placed_listing bytes 1 placed ≡ listing bytes (map defined placed)
 listing_is bytes placed are =
-    ap (placed_listing bytes 1) are.cards_are ∙ listing_by_lines bytes 0 1 (card_lines bytes) (map defined placed) (card_lines-follow bytes)
+    ap (placed_listing bytes 1) are.cards_are ∙ listing_by_lines bytes 0 1 (card_lines bytes) (map defined placed) (lines_of_cards_follow bytes)
 
 -- what was sent of it is said of the work
 pub listed : (source : SourceFile) (old new : Option (List ℕ)) → AreCardsOf source.bytes.items source.made.cards.items

@@ -16,6 +16,7 @@ use Rattle.ags_image.proofs.ImageLaws.{one_image, one_word_a_place, some_image}
 use Rattle.ags_machfile.specs.declared.mach_error.MachError.{MachError}
 use Rattle.ags_machfile.specs.MachineFile.{machine_of}
 use Rattle.ags_machfile.proofs.FileLemmas.{machine_of-IsMachine}
+use Rattle.ags_isa.specs.Code.{AreCodes}
 use Rattle.ags_ports.specs.declared.machines.Machine.{Machine}
 use Rattle.ags_ports.specs.Machine.{IsMachine, standard_machine}
 use Rattle.ags_ports.proofs.MachineLemmas.{IsMachine-standard}
@@ -130,16 +131,16 @@ asked_by told None work end = let same : work ≡ NoForm = cc in subst IsAskedFo
 asked_by told (Some line) work ends = (asked_by_line told line.machine line.command work (way_to_work program Agrees told (asked_plan (Some line)) work ends)).0
 
 -- words of a source have an image
-some_image_of : (order_codes bytes : List ℕ) (defined : List (Option PlacedWord)) → Defines order_codes bytes defined → (image : List (Option ℕ)) × IsImageOf (placed_words defined) image
-some_image_of order_codes bytes defined defines =
-    some_image (placed_words defined) (words_of_memory order_codes bytes defined defines) (one_word_a_place (placed_words defined) (each_place_once order_codes bytes defined defines))
+some_image_of : (order_codes bytes : List ℕ) (defined : List (Option PlacedWord)) → AreCodes order_codes → Defines order_codes bytes defined → (image : List (Option ℕ)) × IsImageOf (placed_words defined) image
+some_image_of order_codes bytes defined are defines =
+    some_image (placed_words defined) (words_of_memory order_codes bytes defined are defines) (one_word_a_place (placed_words defined) (each_place_once order_codes bytes defined defines))
 
 some_making : (work : Work) → IsAskedFor work → (text : List ℕ) × (status : Status) × Makes work text status
 unfolding IsAskedFor
 some_making NoForm asked = (words_line, BadWords, (refl, refl))
 some_making (ListSource assembly) asked = (listing assembly.bytes assembly.defined, Done, (refl, refl))
 some_making (PlayScript machine defined commands) (is, (bytes, defines)) =
-    let (image, image_is) = some_image_of machine.codes bytes defined defines in
+    let (image, image_is) = some_image_of machine.codes bytes defined is.codes defines in
     let (events, text, plays) = some_play machine (start_state machine image 0o4000) commands in
     let (moments, run) = play_runs machine (start_state machine image 0o4000) commands events text plays in
     (text, Done, (record { image = image; image_is = image_is; events = events; moments = moments; run = run; plays = plays }, refl))
