@@ -1,1 +1,0 @@
-//! The assembler: the phases, one after the other.
