@@ -31,14 +31,14 @@ card_here : (number : ℕ) (read : Result Card CardFault) (later : Option (ℕ �
 card_here number (Ok card) later none = (refl, none)
 card_here number (Err fault) later none = absurd cc
 
-are_cards : (before : List (Result Card CardFault)) (lines : List LineAt) → first_fault card_fault before (readings lines) ≡ None → AreCards lines
+pub are_cards : (before : List (Result Card CardFault)) (lines : List LineAt) → first_fault card_fault before (readings lines) ≡ None → AreCards lines
 unfolding first_fault
 are_cards before [] none = tt
 are_cards before (line ∷ lines) none =
     let parts = card_here (length before + 1) (reading line.bytes) (first_fault card_fault (reading line.bytes ∷ before) (readings lines)) none in
     (parts.0, are_cards (reading line.bytes ∷ before) lines parts.1)
 
-first_none : (first later : Option (ℕ × SourceKind)) → or_else first later ≡ None → first ≡ None
+pub first_none : (first later : Option (ℕ × SourceKind)) → or_else first later ≡ None → first ≡ None
 first_none None later none = refl
 first_none (Some fault) later none = absurd cc
 
@@ -280,9 +280,9 @@ module _ (codes text : List ℕ) (S : List Entry) (items : List Placed) (i : ℕ
 
   pub at_card : (left : List LineAt) → Making codes text S items i owners left → i < length items → item ≡ get_or items i item → AtCard
   at_card left so within is =
-    let next = next_line codes text S items i owners left so within in
-    let making : Making codes text S items i owners (next.0 ∷ next.1) = subst (λ (lines : List LineAt). Making codes text S items i owners lines) next.2 so in
-    record { line = next.0; rest = next.1; making = making; item_so = item_is codes text S items i owners next.0 next.1 making item is }
+      let next = next_line codes text S items i owners left so within in
+      let making : Making codes text S items i owners (next.0 ∷ next.1) = subst (λ (lines : List LineAt). Making codes text S items i owners lines) next.2 so in
+      record { line = next.0; rest = next.1; making = making; item_so = item_is codes text S items i owners next.0 next.1 making item is }
 
   module _ (so : AtCard) where
     place_so : (at : Option ℕ) → item.place ≡ at → place_there codes text S items i owners so.line so.rest so.making ≡ at

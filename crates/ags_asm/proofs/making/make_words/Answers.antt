@@ -9,9 +9,11 @@ use Rattle.ags_asm.proofs.making.make_words.Goals as goal
 
 pub loop-index-init : goal.loop-index-init
 loop-index-init c =
-    let text = c.args.bytes.now in
-    (card_lines text, rw c.in_ok-owners.ensures (Making-none c.args.codes.now text c.args.symbols.now c.args.cards.now (replicate 4096 0) c.requires.placed c.requires.within
-    (follow_deck text 0 (lines_of text) (lines_follow text)) (length-replicate {A = ℕ} 4096 0) (λ at small. get_or-replicate 4096 at 0 0 small)))
+    let text = c.args.bytes.now in (
+      card_lines text,
+      rw c.in_ok-owners.ensures (Making-none c.args.codes.now text c.args.symbols.now c.args.cards.now (replicate 4096 0) c.requires.placed c.requires.within
+          (follow_deck text 0 (lines_of text) (lines_follow text)) (length-replicate {A = ℕ} 4096 0) (λ at small. get_or-replicate 4096 at 0 0 small)),
+    )
 
 pub loop-index-preserved-in_default : goal.loop-index-preserved-in_default
 loop-index-preserved-in_default c =
