@@ -1,7 +1,6 @@
 -- What the phases tell, put together.
-use Rattle.std.proofs.Common.{◌≡◌, ℕ, suc, ◌+◌, ◌<◌, ◌≤◌, List, [], ◌∷◌, ◌++◌, length, take, map, All, Option, Some, None, refl, sym, ap, ◌∙◌, arith, inl, inr}
-use Rattle.std.specs.Prelude.{Result, Ok, Err, IfOk, IfErr, IfSome, IsOkAnd, IsErrOf, Vec, ◌⊎◌}
-use Rattle.std.proofs.lemmas.List.{length-map}
+use Rattle.std.proofs.Common.{◌≡◌, ℕ, suc, ◌+◌, ◌<◌, List, [], ◌∷◌, ◌++◌, length, take, map, All, Option, Some, None, refl, ap, ◌∙◌, arith, inl, inr}
+use Rattle.std.specs.Prelude.{Result, Ok, Err, IfOk, IfErr, IfSome, IsOkAnd, IsErrOf, ◌⊎◌}
 use Rattle.std.proofs.lemmas.List.Elements.{All-head, All-tail, All-cons}
 use Rattle.ags_text.specs.Line.{LineAt, Follow}
 use Rattle.ags_image.specs.Image.{PlacedWord, EachPlaceOnce, IsImageOf}
@@ -13,16 +12,15 @@ use Rattle.ags_places.specs.declared.source_error.SourceError.{SourceError}
 use Rattle.ags_places.specs.declared.source_error.AssembleError.{AssembleError}
 use Rattle.ags_places.specs.declared.source_error.AssembleError.TheVariants.{Source, NoMemory}
 use Rattle.ags_places.specs.Deck.{card_of, card_lines, cards_in, cards}
-use Rattle.ags_places.specs.Fault.{early_fault}
-use Rattle.ags_places.specs.Place.{Fits, place, place_of_word, places_after}
+use Rattle.ags_places.specs.Place.{place, place_of_word, places_after}
 use Rattle.ags_places.specs.Source as early
 use Rattle.ags_places.proofs.PlacingLemmas.{lines_of_cards_follow, words_within}
 use Rattle.ags_asm.specs.declared.assembling.Assembled.{Assembled}
 use Rattle.ags_asm.specs.Making.{Stops}
-use Rattle.ags_asm.specs.Source.{AreSpans, IsInMemory, defined, placed_at, placed_cards, placed_words, source_fault, Defines, IsFaulty, IsAssembled, IsRefused}
+use Rattle.ags_asm.specs.Source.{AreSpans, IsInMemory, defined, placed_at, placed_cards, placed_words, Defines, IsFaulty, IsAssembled, IsRefused}
 use Rattle.ags_asm.specs.Word.{word_at, placed_word, definition, definitions, definitions_after, first_word_fault}
 use Rattle.ags_asm.proofs.ApartLemmas.{words_once}
-use Rattle.ags_asm.proofs.MeaningLemmas.{one_meaning, one_fault, not_both, length-definitions, length-definitions_after}
+use Rattle.ags_asm.proofs.MeaningLemmas.{one_meaning, one_fault, not_both, length-definitions}
 
 -- ---- placed cards and what they define
 

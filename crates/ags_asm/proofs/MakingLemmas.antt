@@ -1,13 +1,12 @@
 -- The phase of words, one card further.
-use Rattle.std.proofs.Common.{◌≡◌, ◌≢◌, ℕ, suc, ◌+◌, ◌-◌, ◌<◌, ◌≤◌, Bool, true, false, cond, List, [], ◌∷◌, ◌++◌, length, take, drop, get_or, set, All, Option, Some, None, option_map, unwrap_or, refl, sym, ap, subst, ◌∙◌, append_assoc, arith, inl, inr, eq-eqb}
-use Rattle.std.specs.Prelude.{Result, Ok, Err, IfSome, IsOk, ◌==◌, slice_range}
+use Rattle.std.proofs.Common.{◌≡◌, ◌≢◌, ℕ, ◌+◌, ◌-◌, ◌<◌, ◌≤◌, Bool, true, false, cond, List, [], ◌∷◌, ◌++◌, length, get_or, set, All, Option, Some, None, option_map, unwrap_or, refl, sym, ap, subst, ◌∙◌, append_assoc, arith, inl, inr, eq-eqb}
+use Rattle.std.specs.Prelude.{Result, Ok, Err, IfSome, IsOk, slice_range}
 use Rattle.std.proofs.Math.Seq.{get_or-append_seam, set-append_seam}
 use Rattle.std.proofs.lemmas.Bool.{cases_eq, ne_eqb}
-use Rattle.std.proofs.lemmas.List.{append-nil, length-append, length-set, get_or-set_same, get_or-set_other}
+use Rattle.std.proofs.lemmas.List.{length-append, length-set, get_or-set_same, get_or-set_other}
 use Rattle.std.proofs.lemmas.List.Elements.{All-head, All-tail}
 use Rattle.ags_text.specs.Fault.{or_later, first_fault, first_fault-nil, first_fault-faulty, first_fault-faultless}
 use Rattle.ags_text.specs.Line.{LineAt, LiesIn, Follow}
-use Rattle.ags_image.specs.Image.{PlacedWord}
 use Rattle.ags_card.specs.declared.cards.Body.{Body}
 use Rattle.ags_card.specs.declared.cards.Body.TheVariants.{Comment, Order, Org, Equ, Bss, Dec, Oct, End}
 use Rattle.ags_card.specs.declared.cards.Card.{Card}
@@ -17,13 +16,13 @@ use Rattle.ags_symbol.specs.Symbol.{Entry}
 use Rattle.ags_places.specs.declared.placed.Placed.{Placed}
 use Rattle.ags_places.specs.declared.source_error.SourceKind.{SourceKind}
 use Rattle.ags_places.specs.declared.source_error.SourceKind.TheVariants.{PlaceTwice}
-use Rattle.ags_places.specs.Deck.{card_lines, readings, card_of, cards_in, cards}
-use Rattle.ags_places.specs.Fault.{card_fault, or_else, early_fault, first_card_fault, first_place_fault}
-use Rattle.ags_places.specs.Place.{place, has_word, place_of_word, places_after, places}
+use Rattle.ags_places.specs.Deck.{card_lines, readings, card_of, cards_in}
+use Rattle.ags_places.specs.Fault.{card_fault, or_else, first_card_fault, first_place_fault}
+use Rattle.ags_places.specs.Place.{place, has_word, place_of_word, places_after}
 use Rattle.ags_places.specs.Source as early
 use Rattle.ags_asm.specs.Making.{taken_by, AreCards}
 use Rattle.ags_asm.specs.Source.{placed_at, placed_cards}
-use Rattle.ags_asm.specs.Word.{word_at, placed_word, definition, definitions_after, definitions, word_fault_at, stands_at, owner, taken, word_fault, first_word_fault}
+use Rattle.ags_asm.specs.Word.{word_at, definition, definitions_after, word_fault_at, stands_at, owner, word_fault, first_word_fault}
 
 -- ---- lines that are cards
 

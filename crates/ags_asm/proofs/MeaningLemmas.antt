@@ -6,7 +6,6 @@
 use Rattle.std.proofs.Common.{◌≡◌, ℕ, suc, List, [], ◌∷◌, length, Option, Some, None, refl, sym, ap, subst, ◌∙◌, inl, inr}
 use Rattle.std.specs.Prelude.{◌⊎◌}
 use Rattle.std.proofs.lemmas.List.{length-map}
-use Rattle.ags_text.specs.Line.{LineAt}
 use Rattle.ags_image.specs.Image.{PlacedWord}
 use Rattle.ags_card.specs.declared.cards.Card.{Card}
 use Rattle.ags_card.specs.Reading.{reading}

@@ -1,15 +1,15 @@
 -- What a source defines are words of the memory. The crates above cite `words_of_memory`, behind the law
 -- `source_defines_words_of_the_memory`.
-use Rattle.std.proofs.Common.{◌≡◌, ℕ, ◌+◌, ◌<◌, ◌≤◌, ◌^◌, Bool, true, false, cond, List, [], ◌∷◌, length, All, Option, Some, None, unwrap_or, refl, sym, ap, subst, ◌∙◌, inl, inr, arith, ℤ, pos, negsuc}
+use Rattle.std.proofs.Common.{◌≡◌, ℕ, ◌+◌, ◌<◌, ◌≤◌, ◌^◌, Bool, true, false, cond, List, [], ◌∷◌, length, All, Option, Some, None, unwrap_or, refl, ap, subst, inl, inr, arith, ℤ, pos, negsuc}
 use Rattle.std.specs.Prelude.{Result, Ok, Err, IfSome, IsOk, unsigned_abs}
 use Rattle.std.specs.List.{Contains}
 use Rattle.std.proofs.lemmas.Bool.{leb-true, and_parts}
 use Rattle.std.proofs.lemmas.List.Elements.{All-head, All-tail}
 use Rattle.ags_text.specs.Fault.{first_fault}
 use Rattle.ags_text.specs.Line.{LineAt}
-use Rattle.ags_word.specs.Word.{fits, wrap, word_of_value}
+use Rattle.ags_word.specs.Word.{fits, word_of_value}
 use Rattle.ags_word.proofs.WordLaws.{wrap_below, word_of_value-fits, word_of_value-not}
-use Rattle.ags_decimal.specs.Decimal.{decimal_word, nearest_value}
+use Rattle.ags_decimal.specs.Decimal.{nearest_value}
 use Rattle.ags_isa.specs.Code.{AreCodes}
 use Rattle.ags_isa.proofs.WordLemmas.{order_word-below}
 use Rattle.ags_image.specs.Image.{PlacedWord, IsMemoryWord}
@@ -23,13 +23,13 @@ use Rattle.ags_card.proofs.LimitLaws.{card_limits}
 use Rattle.ags_symbol.specs.Symbol.{Entry, sum_of}
 use Rattle.ags_places.specs.declared.source_error.SourceKind.{SourceKind}
 use Rattle.ags_places.specs.declared.source_error.SourceKind.TheVariants.{AddressRange}
-use Rattle.ags_places.specs.Deck.{card_of, card_lines, cards_in, cards}
+use Rattle.ags_places.specs.Deck.{card_of, card_lines, cards_in}
 use Rattle.ags_places.specs.Fault.{is_place, or_else, early_fault, first_card_fault, first_place_fault}
-use Rattle.ags_places.specs.Place.{Fits, operand, place, place_of_word, places, places_after}
+use Rattle.ags_places.specs.Place.{operand, place, place_of_word, places_after}
 use Rattle.ags_places.proofs.PlacingLemmas.{words_within}
 use Rattle.ags_asm.specs.Making.{AreCards}
 use Rattle.ags_asm.specs.Source.{Defines, placed_words}
-use Rattle.ags_asm.specs.Word.{address_fault, word_at, placed_word, definition, definitions, definitions_after, word_fault_at, taken, word_fault, first_word_fault}
+use Rattle.ags_asm.specs.Word.{address_fault, word_at, placed_word, definition, definitions_after, word_fault_at, taken, word_fault, first_word_fault}
 use Rattle.ags_asm.proofs.ApartLemmas.{none_later, second_none, stands_of, word_cases}
 use Rattle.ags_asm.proofs.MakingLemmas.{are_cards, first_none}
 

@@ -1,4 +1,3 @@
-use Rattle.std.proofs.Common.{refl}
 use Rattle.ags_asm.proofs.AssembleLemmas.{made_within, made_once, assembled}
 use Rattle.ags_asm.proofs.assembling.run_phases.Goals as goal
 

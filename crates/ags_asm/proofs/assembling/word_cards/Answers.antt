@@ -1,4 +1,4 @@
-use Rattle.std.proofs.Common.{◌≡◌, ◌++◌, length, take, drop, ap, arith}
+use Rattle.std.proofs.Common.{length, ap, arith}
 use Rattle.ags_asm.proofs.AssembleLemmas.{written}
 use Rattle.ags_asm.proofs.assembling.word_cards.Goals as goal
 

@@ -1,4 +1,4 @@
-use Rattle.std.proofs.Common.{◌≡◌, ◌<◌, ℕ, length, replicate, arith, ap, ◌∙◌}
+use Rattle.std.proofs.Common.{◌<◌, ℕ, replicate, arith}
 use Rattle.std.proofs.lemmas.List.{get_or_read, length-replicate, get_or-replicate}
 use Rattle.ags_places.specs.Deck.{card_lines}
 use Rattle.ags_places.proofs.PlacingLemmas.{follow_deck}
