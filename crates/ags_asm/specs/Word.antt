@@ -1,6 +1,6 @@
 -- The words of a source's cards, each at its place, and what is wrong with them. The list S is that of the pairs that fit the
 -- cards: here an operand is taken over all of them, also those of later cards.
-use Rattle.std.specs.Prelude.{ℕ, ◌+◌, Bool, true, false, ◌==◌, if◌then◌else◌, List, [], ◌∷◌, length, Option, Some, None, option_map, unwrap_or, is_some, ℤ, unsigned_abs}
+use Rattle.std.specs.Prelude.{ℕ, ◌+◌, Bool, false, ◌==◌, if◌then◌else◌, List, [], ◌∷◌, length, Option, Some, None, option_map, unwrap_or, is_some, ℤ, unsigned_abs}
 use Rattle.ags_text.specs.Fault.{first_fault}
 use Rattle.ags_isa.specs.Naming.{order_word}
 use Rattle.ags_decimal.specs.Decimal.{decimal_word}

@@ -1,1 +1,94 @@
 //! The assembler: the phases, one after the other.
+
+ghost use Rattle.std.specs.Prelude.{◌≡◌, ◌≤◌, ◌⊎◌, List, Option, length, map, All, None, OnOk, IfOk, IfErr, IsOkAnd, IsErrOf};
+ghost use Rattle.ags_image.specs.Image.{PlacedWord, IsImageOf};
+ghost use Rattle.ags_places.specs.declared.source_error.SourceError.{SourceError};
+ghost use Rattle.ags_places.specs.Deck.{card_lines, cards_in};
+ghost use Rattle.ags_places.specs.Source.{IsPlaced};
+ghost use Rattle.ags_asm.specs.Making.{Stops};
+ghost use Rattle.ags_asm.specs.Word.{definitions, first_word_fault};
+ghost use Rattle.ags_asm.specs.Source.{AreSpans, Defines, IsAssembled, IsFaulty, IsInMemory, IsRefused, defined, placed_cards, placed_words};
+
+use crate::filling::image_of;
+use crate::making::make_words;
+use ags_image::Image;
+use ags_isa::Codes;
+use ags_places::{AssembleError, Placed, PlacedSource, SOURCE_LIMIT, place_all};
+use ags_symbol::Symbols;
+use std::alloc::Global;
+
+/// An assembled source.
+#[derive(Drop)]
+pub struct Assembled {
+    /// The words in the memory.
+    pub image: Image,
+    /// The cards in order, comments too, up to and with the first END.
+    pub cards: Vec<Placed>,
+    /// The symbols in the order of their definitions.
+    pub symbols: Symbols,
+}
+
+/// The cards of a placed source with their words.
+fn word_cards(
+    alloc: Global,
+    bytes: &[u8],
+    codes: &Codes,
+    symbols: &Symbols,
+    mut cards: Vec<Placed>,
+) -> Result<Vec<Placed>, AssembleError>
+    requires limit { length bytes.now ≤ SOURCE_LIMIT }
+    requires placed { IsPlaced bytes.now cards.items symbols.now }
+    requires within { All IsInMemory cards.items }
+    ensures made { IfOk result (λ made. made.items ≡ placed_cards (card_lines bytes.now) (definitions codes.now symbols.now (cards_in (card_lines bytes.now)))) }
+    ensures faultless { OnOk result (first_word_fault symbols.now bytes.now ≡ None) }
+    ensures refused { IfErr result (Stops (first_word_fault symbols.now bytes.now)) }
+{
+    make_words(alloc, bytes, codes, symbols, &mut cards)?;
+    Ok(cards)
+}
+
+/// The phases, one after the other, each on what the one before it made.
+fn run_phases(alloc: Global, bytes: &[u8], codes: &Codes) -> Result<Assembled, AssembleError>
+    requires { length bytes.now ≤ SOURCE_LIMIT }
+    ensures assembled { IfOk result (λ made. IsAssembled codes.now bytes.now made.cards.items made.symbols made.image) }
+    ensures refused { IfErr result (IsRefused bytes.now) }
+    ensures within { IfOk result (λ made. All IsInMemory made.cards.items) }
+{
+    let PlacedSource { cards, symbols } = place_all(alloc, bytes)?;
+    let cards = word_cards(alloc, bytes, codes, &symbols, cards)?;
+    let image = image_of(alloc, &cards)?;
+    Ok(Assembled {
+        image,
+        cards,
+        symbols,
+    })
+}
+
+/// Assembles a source of at most 4,194,304 bytes by a table of codes: the image of its words, each card with the span of its
+/// bytes, its place and its word (docs/SOURCE.md, Places), and its symbols, or the source's first fault (docs/SOURCE.md, Faults).
+/// A fault of the phase of cards comes first, then one of places, then one of words, and in a phase the first card's.
+/// `NoMemory` may come at any source, and says nothing of it.
+pub fn assemble(alloc: Global, bytes: &[u8], codes: &Codes) -> Result<Assembled, AssembleError>
+    requires { length bytes.now ≤ SOURCE_LIMIT }
+    // It is a source without a fault, and these are its cards, whose places and words are those that it defines, the one list of
+    // pairs that fits them, and the image of the words; or its first fault is this one.
+    ensures assembled { IfOk result (λ made. IsAssembled codes.now bytes.now made.cards.items made.symbols made.image) }
+    ensures defines { IfOk result (λ made. Defines codes.now bytes.now (map defined made.cards.items)) }
+    ensures image { IfOk result (λ made. IsImageOf (placed_words (map defined made.cards.items)) made.image) }
+    ensures refused { IfErr result (IsRefused bytes.now) }
+
+    // A source without a fault is assembled, and one with a fault is refused for it, unless memory runs out.
+    ensures faultless { (words : List (Option PlacedWord)) → Defines codes.now bytes.now words
+        → IsOkAnd result (λ made. made.cards.items ≡ placed_cards (card_lines bytes.now) words) ⊎ IsErrOf result AssembleError.NoMemory }
+    ensures faulty { (error : SourceError) → IsFaulty bytes.now error
+        → IsErrOf result (AssembleError.Source error) ⊎ IsErrOf result AssembleError.NoMemory }
+
+    // There is a card for each line up to and with the first END.
+    ensures one_each { IfOk result (λ made. length made.cards.items ≡ length (card_lines bytes.now)) }
+
+    // Each place is one of the memory's. The cards' spans follow each other in the source.
+    ensures within { IfOk result (λ made. All IsInMemory made.cards.items) }
+    ensures spans { IfOk result (λ made. AreSpans 0 (length bytes.now) made.cards.items) }
+{
+    run_phases(alloc, bytes, codes)
+}

@@ -3,8 +3,17 @@
 //! the definitions in `specs/` say of the text.
 #![tactic(auto)]
 
+mod assembling;
+mod filling;
+mod laws;
 mod making;
+#[cfg(test)]
+mod tests;
 mod words;
 
 pub use ags_places::{AssembleError, Placed, SOURCE_LIMIT, SourceError, SourceKind};
-// pub use assembling::{Assembled, assemble};
+pub use assembling::{Assembled, assemble};
+pub use laws::{
+    each_card_has_its_definition, each_text_has_a_meaning, source_defines_each_place_once,
+    source_defines_words_of_the_memory, source_means_one_thing,
+};

@@ -31,12 +31,7 @@ fn address_of(symbols: &Symbols, place: u16, terms: &Terms) -> Result<u16, Sourc
 }
 
 /// The word of a card at its place, and 000000 where it has none.
-fn make_word(
-    codes: &Codes,
-    symbols: &Symbols,
-    place: u16,
-    body: &Body,
-) -> Result<Word, SourceKind>
+fn make_word(codes: &Codes, symbols: &Symbols, place: u16, body: &Body) -> Result<Word, SourceKind>
     requires { place ≤ 4096 }
     ensures word { IfOk result (λ word. word ≡ word_at codes.now symbols.now place body.now) }
     ensures faultless { OnOk result (word_fault_at symbols.now place body.now ≡ None) }

@@ -1,18 +1,17 @@
 -- What a card asks for: what is read is what is written, both ways.
-use Rattle.std.proofs.Common.{◌≡◌, ℕ, ◌<◌, ◌≤◌, ◌⊎◌, Bool, true, false, List, [], ◌∷◌, ◌++◌, length, refl, sym, ap, ◌∙◌, inl, inr, arith}
-use Rattle.std.specs.Prelude.{Result, Ok, Err}
+use Rattle.std.proofs.Common.{◌≡◌, ℕ, ◌<◌, ◌⊎◌, Bool, true, false, List, [], ◌∷◌, length, refl, inl, inr}
+use Rattle.std.specs.Prelude.{Ok}
 use Rattle.std.proofs.lemmas.Bool.{cases_Bool}
 use Rattle.ags_isa.specs.declared.orders.Order.{Order}
 use Rattle.ags_card.specs.declared.cards.Body.{Body}
 use Rattle.ags_card.specs.declared.cards.Body.TheVariants as body
-use Rattle.ags_card.specs.declared.cards.CardFault.{CardFault}
 use Rattle.ags_card.specs.declared.operations.Operation.{Operation}
 use Rattle.ags_card.specs.declared.operations.Operation.TheVariants as op
 use Rattle.ags_card.specs.declared.terms.Term.{Term}
 use Rattle.ags_card.specs.Operation.{is_bare}
 use Rattle.ags_card.specs.Term.{zero_terms}
 use Rattle.ags_card.specs.Spelling.{IsWritten, IsOrder, IsOrderOperand}
-use Rattle.ags_card.specs.Reading.{checked, mapped, is_indexed, order_terms, plain_terms, decimal_operand, octal_operand, body_reading}
+use Rattle.ags_card.specs.Reading.{is_indexed, order_terms, plain_terms, decimal_operand, octal_operand, body_reading}
 use Rattle.ags_card.proofs.ResultLemmas.{mapped_ok}
 use Rattle.ags_card.proofs.OperandLaws.{order_spelled, order_read, plain_spelled, plain_read, decimal_spelled, decimal_read, octal_spelled, octal_read}
 
@@ -41,6 +40,7 @@ order_written order operand asked is =
   where
     bare_order : (bare : Bool) → bare ≡ true → IsOrder bare zero_terms false []
     bare_order bare is = rw is (refl, refl, refl)
+
     given_order : (bare : Bool) (terms : List Term) → bare ≡ false → IsOrderOperand terms (is_indexed operand) operand → IsOrder bare terms (is_indexed operand) (operand ∷ [])
     given_order bare terms is spelled = rw is (operand, refl, spelled)
 

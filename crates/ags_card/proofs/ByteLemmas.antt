@@ -1,11 +1,11 @@
 -- Tests of the bytes of a text: of each, of the first, and of some byte; and the digits among them.
-use Rattle.std.proofs.Common.{◌≡◌, ℕ, ◌<◌, ◌≤◌, ◌⊎◌, ◌&&◌, ◌||◌, ◌==◌, Bool, true, false, not, List, [], ◌∷◌, ◌++◌, length, drop, refl, sym, ap, ◌∙◌, inl, inr, nat_eq, arith}
+use Rattle.std.proofs.Common.{◌≡◌, ℕ, ◌<◌, ◌⊎◌, ◌==◌, Bool, true, false, not, List, [], ◌∷◌, ◌++◌, length, refl, sym, ap, ◌∙◌, inl, inr, nat_eq, arith}
 use Rattle.std.specs.Prelude.{nat_lt, slice_index}
 use Rattle.std.specs.Char.{digit_value}
 use Rattle.std.specs.Cmp.Lexicographic.{pointwise, same_text}
 use Rattle.std.specs.List.{list_all}
 use Rattle.std.specs.Str.Parse.{AllDigits, starts_with_minus, without_leading_sign}
-use Rattle.std.proofs.lemmas.Bool.{cases_Bool, cases_lt, and_parts, and_from, lt-ltb, le-ltb, ltb-true, eqb-true, true≢false, false_from_ne_true}
+use Rattle.std.proofs.lemmas.Bool.{cases_Bool, and_parts, and_from, lt-ltb, ltb-true, eqb-true, true≢false, false_from_ne_true}
 use Rattle.std.proofs.lemmas.Bool.Decides.{nat_tests}
 use Rattle.std.proofs.lemmas.List.Folds.{list_all-append}
 use Rattle.ags_decimal.specs.Spelling.{is_digit, IsSign}
@@ -39,9 +39,9 @@ first_by p c fails (b ∷ text) rest some all =
 pub not_byte : (p : ℕ → Bool) (c : ℕ) → p c ≡ false → (text : List ℕ) → list_all p text ≡ true → pointwise nat_eq text (c ∷ []) ≡ false
 not_byte p c fails text all =
     false_from_ne_true (pointwise nat_eq text (c ∷ [])) (λ same.
-      let one : text ≡ c ∷ [] = same_text text (c ∷ []) (sym same) in
-      let passes : list_all p (c ∷ []) ≡ true = rw one at all in
-      true≢false (sym (and_parts (p c) true passes).0 ∙ fails))
+    let one : text ≡ c ∷ [] = same_text text (c ∷ []) (sym same) in
+    let passes : list_all p (c ∷ []) ≡ true = rw one at all in
+    true≢false (sym (and_parts (p c) true passes).0 ∙ fails))
 
 -- a byte is no other one that fails the test
 pub is_not : (p : ℕ → Bool) (c : ℕ) → p c ≡ false → (b : ℕ) → p b ≡ true → not (b == c) ≡ true
@@ -68,10 +68,10 @@ some_fails p (b ∷ text) all =
 pub fails_not_all : (p q : ℕ → Bool) → ((b : ℕ) → p b ≡ true → q b ≡ false) → (text : List ℕ) → Holds p text → list_all q text ≡ false
 fails_not_all p q fails text holds =
     false_from_ne_true (list_all q text) (λ all.
-      let whole : list_all q (holds.0 ++ holds.1 ∷ holds.2) ≡ true = rw (holds.3) at all in
-      let parts = and_parts (list_all q holds.0) (list_all q (holds.1 ∷ holds.2)) (sym (list_all-append q holds.0 (holds.1 ∷ holds.2)) ∙ whole) in
-      let byte = and_parts (q holds.1) (list_all q holds.2) parts.1 in
-      true≢false (sym byte.0 ∙ fails holds.1 holds.4))
+    let whole : list_all q (holds.0 ++ holds.1 ∷ holds.2) ≡ true = rw (holds.3) at all in
+    let parts = and_parts (list_all q holds.0) (list_all q (holds.1 ∷ holds.2)) (sym (list_all-append q holds.0 (holds.1 ∷ holds.2)) ∙ whole) in
+    let byte = and_parts (q holds.1) (list_all q holds.2) parts.1 in
+    true≢false (sym byte.0 ∙ fails holds.1 holds.4))
 
 -- ---- digits
 

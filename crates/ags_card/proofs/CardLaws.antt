@@ -1,21 +1,20 @@
 -- Lines and cards: what a line is read as is the card that it spells, both ways.
-use Rattle.std.proofs.Common.{◌≡◌, ◌≢◌, ℕ, ◌<◌, ◌≤◌, ◌⊎◌, ◌==◌, ◌||◌, Bool, true, false, not, List, [], ◌∷◌, ◌++◌, length, Option, Some, None, unwrap_or, codes, nat_eq, refl, sym, ap, subst, ◌∙◌, inl, inr, arith}
-use Rattle.std.specs.Prelude.{nat_lt, slice_index, Result, Ok, Err}
+use Rattle.std.proofs.Common.{◌≡◌, ◌≢◌, ℕ, ◌<◌, ◌==◌, ◌||◌, Bool, true, false, not, List, [], ◌∷◌, ◌++◌, length, Option, Some, None, unwrap_or, codes, nat_eq, refl, sym, ap, ◌∙◌, inl, inr, arith}
+use Rattle.std.specs.Prelude.{nat_lt, slice_index, Result, Ok}
 use Rattle.std.specs.Cmp.Lexicographic.{pointwise, same_text}
 use Rattle.std.specs.List.{list_all}
 use Rattle.std.proofs.lemmas.Bool.{cases_Bool, lt-ltb, ltb-true, eqb-true, eq-eqb, ne_eqb, or_cases, or_left, or_right, or_from, true≢false, false_from_ne_true}
 use Rattle.std.proofs.lemmas.Bool.Decides.{nat_tests}
-use Rattle.std.proofs.lemmas.List.{append-nil}
-use Rattle.ags_text.specs.Field.{is_blank, AreBlanks}
+use Rattle.ags_text.specs.Field.{is_blank}
 use Rattle.ags_card.specs.declared.cards.Card.{Card}
 use Rattle.ags_card.specs.declared.cards.Body.{Body}
 use Rattle.ags_card.specs.declared.cards.CardFault.TheVariants.{BadByte, LongCard, BadSymbol}
 use Rattle.ags_card.specs.declared.operations.Operation.{Operation}
 use Rattle.ags_card.specs.declared.operations.Operation.TheVariants as op
 use Rattle.ags_card.specs.Operation.{operation_name, operation_named}
-use Rattle.ags_card.specs.Symbol.{is_capital, is_symbol, IsSymbol}
-use Rattle.ags_card.specs.Spelling.{is_allowed, IsComment, comment_card, HasCardFields, FitsSymbol, WritesCard, Spells, IsWritten}
-use Rattle.ags_card.specs.Reading.{checked, mapped, body_reading, fits_symbol, symbol_of, operation_reading, fields_reading, symbol_field, operation_field, operand_field, is_comment, reading}
+use Rattle.ags_card.specs.Symbol.{is_capital, is_symbol}
+use Rattle.ags_card.specs.Spelling.{is_allowed, IsComment, comment_card, HasCardFields, FitsSymbol, WritesCard, Spells}
+use Rattle.ags_card.specs.Reading.{body_reading, fits_symbol, symbol_of, operation_reading, fields_reading, symbol_field, operation_field, operand_field, is_comment, reading}
 use Rattle.ags_card.proofs.ByteLemmas.{first_by}
 use Rattle.ags_card.proofs.SymbolLemmas.{is_symbol-IsSymbol, IsSymbol-is_symbol}
 use Rattle.ags_card.proofs.OperationLemmas.{named_name, name_named, name_some}
@@ -142,7 +141,7 @@ fields_spelled line card is =
     let cut = cut_read line of.fields of.cut in
     let fits : fits_symbol (symbol_field line) (operation_name read.named) ≡ true = rw (read.name) read.fits in
     rw (read.card_is) (
-      written_card line (symbol_field line) of.fields read.named (operand_field line) read.asked of.has (sym cut.operation ∙ sym read.name) (sym cut.operand) fits read.written
+    written_card line (symbol_field line) of.fields read.named (operand_field line) read.asked of.has (sym cut.operation ∙ sym read.name) (sym cut.operand) fits read.written
     )
 
 pub comment_is : (line : List ℕ) → is_comment line ≡ true → IsComment line
@@ -195,9 +194,9 @@ no_comment line card writes =
 other_name : (operation : Operation) → operation ≢ op.Equ → pointwise nat_eq (operation_name operation) (codes "EQU") ≡ false
 other_name operation other =
     false_from_ne_true (pointwise nat_eq (operation_name operation) (codes "EQU")) (λ is.
-      let name : operation_name operation ≡ codes "EQU" = same_text (operation_name operation) (codes "EQU") (sym is) in
-      let found : Some operation ≡ Some op.Equ = sym (name_named operation) ∙ ap operation_named name ∙ name_named op.Equ in
-      other (cc))
+    let name : operation_name operation ≡ codes "EQU" = same_text (operation_name operation) (codes "EQU") (sym is) in
+    let found : Some operation ≡ Some op.Equ = sym (name_named operation) ∙ ap operation_named name ∙ name_named op.Equ in
+    other (cc))
 
 pub some_not_zero : (symbol : List ℕ) → 0 < length symbol → (length symbol == 0) ≡ false
 some_not_zero symbol some = ne_eqb (length symbol) 0 (λ none. omega (arith, some, none))

@@ -1,18 +1,17 @@
 -- Expressions: what is read is what is written, both ways.
-use Rattle.std.proofs.Common.{◌≡◌, ℕ, ◌<◌, ◌≤◌, ◌&&◌, ◌||◌, ◌==◌, Bool, true, false, not, List, [], ◌∷◌, ◌++◌, length, drop, Option, Some, None, refl, sym, ap, ◌∙◌, inl, inr, nat_eq, append_assoc, subst, arith}
-use Rattle.std.specs.Prelude.{nat_lt, slice_index}
+use Rattle.std.proofs.Common.{◌≡◌, ℕ, ◌<◌, ◌||◌, ◌==◌, Bool, true, false, not, List, [], ◌∷◌, ◌++◌, length, drop, Option, Some, None, refl, sym, ap, ◌∙◌, inl, inr, nat_eq, append_assoc, subst, arith}
+use Rattle.std.specs.Prelude.{slice_index}
 use Rattle.std.specs.Cmp.Lexicographic.{pointwise, same_text}
 use Rattle.std.specs.List.{list_all}
 use Rattle.std.specs.Option.{option_map}
 use Rattle.std.specs.Str.Parse.{starts_with_minus, without_leading_sign}
 use Rattle.std.proofs.lemmas.Bool.{cases_Bool, and_parts, and_right, or_left, or_right, or_cases, eqb-true, true≢false}
 use Rattle.std.proofs.lemmas.List.{append-nil}
-use Rattle.ags_text.specs.Numeral.{IsNumber}
 use Rattle.ags_decimal.specs.Spelling.{is_digit, IsSign}
 use Rattle.ags_card.specs.declared.terms.Atom.{Atom}
 use Rattle.ags_card.specs.declared.terms.Atom.TheVariants.{Number, Here, Symbol}
 use Rattle.ags_card.specs.declared.terms.Term.{Term}
-use Rattle.ags_card.specs.Symbol.{is_capital, is_symbol, IsSymbol}
+use Rattle.ags_card.specs.Symbol.{is_capital, is_symbol}
 use Rattle.ags_card.specs.Spelling.{IsAtom, sign_byte, IsSum, IsExpression}
 use Rattle.ags_card.specs.Reading.{number_of, atom_reading, is_sign, with_term, terms_reading, expression_reading}
 use Rattle.ags_card.proofs.NumberLemmas.{number_of-IsNumber, IsNumber-number_of}

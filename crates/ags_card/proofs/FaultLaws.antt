@@ -1,12 +1,12 @@
 -- Faults: the fault that is told is one that the line has, and the least of them; and a line that is a card has none.
-use Rattle.std.proofs.Common.{◌≡◌, ℕ, ◌<◌, ◌≤◌, ◌⊎◌, ◌==◌, ◌||◌, Bool, true, false, not, cond, List, [], ◌∷◌, ◌++◌, length, Option, Some, None, codes, nat_eq, refl, sym, ap, subst, ◌∙◌, inl, inr, arith}
+use Rattle.std.proofs.Common.{◌≡◌, ℕ, ◌<◌, ◌≤◌, ◌⊎◌, ◌==◌, Bool, true, false, not, cond, List, [], ◌∷◌, length, Option, Some, None, codes, nat_eq, refl, sym, ap, subst, ◌∙◌, inl, inr, arith}
 use Rattle.std.specs.Prelude.{nat_lt, Result, Ok, Err}
 use Rattle.std.specs.Cmp.Lexicographic.{pointwise, same_text}
 use Rattle.std.specs.List.{list_all}
 use Rattle.std.specs.Option.{ok_or}
-use Rattle.std.proofs.lemmas.Bool.{cases_Bool, lt-ltb, le-ltb, ltb-false, ltb-true, ne_eqb, true≢false, false_from_ne_true}
+use Rattle.std.proofs.lemmas.Bool.{cases_Bool, le-ltb, ltb-false, ltb-true, true≢false, false_from_ne_true}
 use Rattle.std.proofs.lemmas.Bool.Decides.{nat_tests}
-use Rattle.ags_text.specs.Field.{IsField, AreFields}
+use Rattle.ags_text.specs.Field.{AreFields}
 use Rattle.ags_decimal.specs.Reading as decimal
 use Rattle.ags_decimal.specs.Spelling as decimal_spelling
 use Rattle.ags_decimal.proofs.SpellingLaws as decimal_laws
@@ -19,8 +19,8 @@ use Rattle.ags_card.specs.declared.cards.CardFault.TheVariants.{BadByte, LongCar
 use Rattle.ags_card.specs.declared.operations.Operation.{Operation}
 use Rattle.ags_card.specs.declared.operations.Operation.TheVariants as op
 use Rattle.ags_card.specs.declared.terms.Term.{Term}
-use Rattle.ags_card.specs.Operation.{operation_name, operation_named, is_bare, takes_operand, takes_expression, takes_one}
-use Rattle.ags_card.specs.Symbol.{is_symbol, IsSymbol}
+use Rattle.ags_card.specs.Operation.{operation_name, operation_named, is_bare, takes_operand, takes_one}
+use Rattle.ags_card.specs.Symbol.{is_symbol}
 use Rattle.ags_card.specs.Spelling.{is_allowed, comment_card, HasCardFields, Holds, IsExpression, IsOrder, IsOrderOperand, IsOctalOperand, IsWritten, IsComment, Spells, IsFaulty, IsBadSymbol, HasNoOperation, HasNoOperand, HasOperand, HasComma, IsNoExpression, IsNoDecimal, IsNoOctal, HasFault, fault_number, IsLeastFault}
 use Rattle.ags_card.specs.Reading.{checked, mapped, one_operand, expression_reading, is_indexed, without_index, order_terms, plain_terms, decimal_operand, octal_reading, octal_operand, body_reading, fits_symbol, symbol_of, operation_reading, fields_reading, symbol_field, operation_field, operand_field, is_comment, reading}
 use Rattle.ags_card.proofs.ByteLemmas.{some_fails, fails_not_all}
@@ -230,6 +230,7 @@ bad_symbol symbol operation fields first fails =
     not_false : (b : Bool) → not b ≡ false → b ≡ true
     not_false true is = refl
     not_false false is = sym is
+
     length_some : (symbol : List ℕ) → (length symbol == 0) ≡ false → 0 < length symbol
     length_some [] is = absurd (true≢false is)
     length_some (b ∷ symbol) is = omega arith
@@ -291,12 +292,12 @@ missing_at_most result is = rw is (omega arith)
 one_comma : {T : Type 0} (operand : List ℕ) (next : Result T CardFault) → Holds (λ b. b == 44) operand → AtMost 6 (one_operand operand next)
 one_comma operand next holds =
     at_most_checked 6 (nat_lt 0 (length operand)) MissingOperand _ (omega arith) (λ some.
-      at_most_failed 6 (list_all is_no_comma operand) ExtraOperand next (omega arith) (fails_not_all (λ b. b == 44) is_no_comma (λ b is. rw is refl) operand holds))
+    at_most_failed 6 (list_all is_no_comma operand) ExtraOperand next (omega arith) (fails_not_all (λ b. b == 44) is_no_comma (λ b is. rw is refl) operand holds))
 
 one_none : {T : Type 0} (number : ℕ) (operand : List ℕ) (found : Option T) (fault : CardFault) → 6 ≤ number → fault_number fault ≤ number → found ≡ None → AtMost number (one_operand operand (ok_or found fault))
 one_none number operand found fault much less none =
     at_most_checked number (nat_lt 0 (length operand)) MissingOperand _ (omega (arith, much)) (λ some.
-      at_most_checked number (list_all is_no_comma operand) ExtraOperand (ok_or found fault) much (λ alone. at_most_none number found fault less none))
+    at_most_checked number (list_all is_no_comma operand) ExtraOperand (ok_or found fault) much (λ alone. at_most_none number found fault less none))
 
 not_bare : (bare : Bool) → not bare ≡ true → bare ≡ false
 not_bare true is = sym is
@@ -341,10 +342,10 @@ unfolding plain_terms order_terms
 body_no_expression (op.OfOrder order) operand is =
     let other = not_bare (is_bare order) is.0 in
     rw other (
-      at_most_mapped 7 (λ terms. body.Order order terms (is_indexed operand)) (order_terms operand) (
-        at_most_checked 7 (nat_lt 0 (length operand)) MissingOperand (ok_or (expression_reading (without_index operand)) BadExpression) (omega arith) (λ some.
-          at_most_none 7 (expression_reading (without_index operand)) BadExpression (omega arith) (no_order_terms order operand other is.1))
-      )
+    at_most_mapped 7 (λ terms. body.Order order terms (is_indexed operand)) (order_terms operand) (
+    at_most_checked 7 (nat_lt 0 (length operand)) MissingOperand (ok_or (expression_reading (without_index operand)) BadExpression) (omega arith) (λ some.
+    at_most_none 7 (expression_reading (without_index operand)) BadExpression (omega arith) (no_order_terms order operand other is.1))
+    )
     )
 body_no_expression op.Org operand is =
     at_most_mapped 7 body.Org (plain_terms operand) (one_none 7 operand (expression_reading operand) BadExpression (omega arith) (omega arith) (no_terms operand (λ terms written. is.1 (body.Org terms) (refl, (operand, refl, written)))))
@@ -360,19 +361,19 @@ body_no_decimal : (operation : Operation) (operand : List ℕ) → IsNoDecimal o
 unfolding decimal_operand
 body_no_decimal operation operand is =
     rw (is.0) (
-      at_most_mapped 8 body.Dec (decimal_operand operand) (
-        one_none 8 operand (decimal.reading operand) BadDecimal (omega arith) (omega arith)
-        (none_found (decimal_spelling.Spells operand) (decimal.reading operand) (decimal_laws.reading-spells operand) is.1)
-      )
+    at_most_mapped 8 body.Dec (decimal_operand operand) (
+    one_none 8 operand (decimal.reading operand) BadDecimal (omega arith) (omega arith)
+    (none_found (decimal_spelling.Spells operand) (decimal.reading operand) (decimal_laws.reading-spells operand) is.1)
+    )
     )
 
 body_no_octal : (operation : Operation) (operand : List ℕ) → IsNoOctal operation operand → AtMost 9 (body_reading operation operand)
 unfolding octal_operand
 body_no_octal operation operand is =
     rw (is.0) (
-      at_most_mapped 9 body.Oct (octal_operand operand) (
-        one_none 9 operand (octal_reading operand) BadOctal (omega arith) (omega arith) (none_found (IsOctalOperand operand) (octal_reading operand) (octal_spells operand) is.1)
-      )
+    at_most_mapped 9 body.Oct (octal_operand operand) (
+    one_none 9 operand (octal_reading operand) BadOctal (omega arith) (omega arith) (none_found (IsOctalOperand operand) (octal_reading operand) (octal_spells operand) is.1)
+    )
     )
 
 -- ---- the least fault of a line
@@ -381,14 +382,14 @@ line_at_most : (number : ℕ) (line : List ℕ) → 3 ≤ number → (IsComment 
 unfolding reading
 line_at_most number line much no_comment most =
     at_most_checked number (list_all is_allowed line) BadByte _ (omega (arith, much)) (λ allowed.
-      at_most_checked number (nat_lt (length line) 121) LongCard _ (omega (arith, much)) (λ short.
-        rw (false_from_ne_true (is_comment line) (λ comment. no_comment (comment_is line comment))) most))
+    at_most_checked number (nat_lt (length line) 121) LongCard _ (omega (arith, much)) (λ short.
+    rw (false_from_ne_true (is_comment line) (λ comment. no_comment (comment_is line comment))) most))
 
 fields_at_most : (number : ℕ) (symbol operation operand : List ℕ) → 4 ≤ number → AtMost number (operation_reading (operation_named operation) operand) → AtMost number (fields_reading symbol operation operand)
 unfolding fields_reading
 fields_at_most number symbol operation operand much most =
     at_most_checked number (fits_symbol symbol operation) BadSymbol _ (omega (arith, much)) (λ fits.
-      at_most_mapped number (λ asked. record { symbol = symbol_of symbol; body = asked }) (operation_reading (operation_named operation) operand) most)
+    at_most_mapped number (λ asked. record { symbol = symbol_of symbol; body = asked }) (operation_reading (operation_named operation) operand) most)
 
 symbol_not_fits : (symbol : List ℕ) (fields : List (List ℕ)) → IsBadSymbol symbol fields → fits_symbol symbol (first_field fields) ≡ false
 symbol_not_fits symbol fields (inl bad) = rw (some_not_zero symbol bad.0) (false_from_ne_true (is_symbol symbol) (λ is. bad.1 (is_symbol-IsSymbol symbol is)))
@@ -409,8 +410,8 @@ faulty_at_most number line Is much faulty most =
 none_named : (symbol : List ℕ) (fields : List (List ℕ)) → HasNoOperation symbol fields → operation_named (first_field fields) ≡ None
 none_named symbol fields none =
     none_found (λ operation. operation_name operation ≡ first_field fields) (operation_named (first_field fields)) (named_name (first_field fields)) (λ operation name.
-      let begins = first_some (operation_name operation) fields (name_some operation) (sym name) in
-      none operation begins.others begins.fields_are)
+    let begins = first_some (operation_name operation) fields (name_some operation) (sym name) in
+    none operation begins.others begins.fields_are)
 
 operation_at_most : (number : ℕ) (symbol : List ℕ) (operation : Operation) (operand : List ℕ) → 4 ≤ number → AtMost number (body_reading operation operand)
     → AtMost number (fields_reading symbol (operation_name operation) operand)

@@ -1,10 +1,10 @@
 -- The fields of a line: each line has some, and they are those that are cut from it.
-use Rattle.std.proofs.Common.{◌≡◌, ℕ, zero, suc, ◌+◌, ◌<◌, ◌≤◌, ◌⊎◌, ◌&&◌, Bool, true, false, not, List, [], ◌∷◌, ◌++◌, length, take, drop, refl, sym, ap, ◌∙◌, inl, inr, length-drop, arith}
+use Rattle.std.proofs.Common.{◌≡◌, ℕ, zero, suc, ◌<◌, ◌≤◌, not, List, [], ◌∷◌, ◌++◌, length, take, drop, refl, sym, ap, ◌∙◌, inl, inr, length-drop, arith}
 use Rattle.std.specs.List.{position_or_len, prefix_len, list_all}
 use Rattle.std.proofs.lemmas.Bool.{and_parts, true≢false}
 use Rattle.std.proofs.lemmas.List.{length-append, take-append-drop}
 use Rattle.std.proofs.lemmas.List.Folds.{list_all-append}
-use Rattle.ags_text.specs.Field.{is_blank, AreBlanks, HasNoBlank, IsField, AreFields, AreSome, Behind, leading_field, behind_leading_field, behind_blanks, next_field, behind_field, AreCut}
+use Rattle.ags_text.specs.Field.{is_blank, AreBlanks, IsField, AreFields, AreSome, leading_field, behind_leading_field, behind_blanks, next_field, behind_field, AreCut}
 use Rattle.ags_text.proofs.FieldLaws.{standing_behind, cut_behind, blanks_end, none_blank}
 use Rattle.ags_card.specs.Spelling.{HasCardFields}
 use Rattle.ags_card.proofs.ByteLemmas.{list_cases}

@@ -1,10 +1,8 @@
 -- What holds of each card that a line spells: its symbol, its limits, and the orders without an operand.
 use Rattle.std.proofs.Common.{◌≡◌, ℕ, ◌+◌, ◌*◌, ◌^◌, ◌<◌, ◌≤◌, Bool, true, false, List, [], ◌∷◌, ◌++◌, length, Option, Some, None, unwrap_or, refl, sym, ap, ◌∙◌, inl, inr, arith}
-use Rattle.std.specs.Prelude.{All, IfSome, IsSome, Result, Ok, neg_ℤ, pos}
-use Rattle.std.proofs.lemmas.Bool.{cases_Bool}
+use Rattle.std.specs.Prelude.{All, IfSome, IsSome, Ok, neg_ℤ, pos}
 use Rattle.std.proofs.lemmas.List.{length-append}
 use Rattle.std.proofs.lemmas.List.Elements.{All-nil, All-cons}
-use Rattle.ags_decimal.specs.Spelling.{IsSign}
 use Rattle.ags_word.proofs.WordLaws.{wrap_below}
 use Rattle.ags_isa.specs.declared.orders.Order.{Order}
 use Rattle.ags_card.specs.declared.cards.Card.{Card}
@@ -19,7 +17,7 @@ use Rattle.ags_card.specs.Operation.{operation_name, is_bare}
 use Rattle.ags_card.specs.Symbol.{IsSymbol}
 use Rattle.ags_card.specs.Term.{HasSmallNumber, AreTerms, zero_terms}
 use Rattle.ags_card.specs.Limit.{KeepsLimits}
-use Rattle.ags_card.specs.Spelling.{IsAtom, sign_byte, IsSum, IsExpression, index_mark, IsOrderOperand, signed_word, IsOctalOperand, IsOrder, IsWritten, FitsSymbol, comment_card, WritesCard, Spells}
+use Rattle.ags_card.specs.Spelling.{IsAtom, sign_byte, IsSum, IsExpression, index_mark, signed_word, IsOctalOperand, IsOrder, IsWritten, FitsSymbol, WritesCard}
 use Rattle.ags_card.specs.Reading.{operand_field, reading}
 use Rattle.ags_card.proofs.NumberLemmas.{number_below, small_decimal}
 use Rattle.ags_card.proofs.TermLemmas.{operand_short}

@@ -1,17 +1,16 @@
 -- The numbers of a card: that what is tested are digits, how large they are, and the word of a negated one.
-use Rattle.std.proofs.Common.{◌≡◌, ℕ, ◌+◌, ◌<◌, ◌≤◌, ◌^◌, ◌&&◌, Bool, true, false, List, [], ◌∷◌, length, Option, Some, None, refl, sym, ap, ◌∙◌, inl, inr, arith, ℤ, pos}
+use Rattle.std.proofs.Common.{◌≡◌, ℕ, ◌+◌, ◌<◌, ◌≤◌, ◌^◌, ◌&&◌, true, false, List, [], ◌∷◌, length, Option, Some, None, refl, sym, ap, ◌∙◌, inl, inr, arith, pos}
 use Rattle.std.specs.Prelude.{nat_lt, neg_ℤ, IfSome}
 use Rattle.std.specs.Char.{digit_value}
 use Rattle.std.specs.List.{list_all}
 use Rattle.std.specs.Option.{option_map}
 use Rattle.std.specs.Str.Parse.{AllDigits, digits_value}
 use Rattle.std.proofs.lemmas.Bool.{cases_Bool, cases_lt, and_parts, and_from, and_right, lt-ltb, le-ltb, ltb-true}
-use Rattle.std.proofs.lemmas.Bool.Decides.{nat_tests}
 use Rattle.std.proofs.lemmas.Int.{ints}
 use Rattle.std.proofs.lemmas.Int.Digits.{digits_value-lt}
 use Rattle.std.proofs.Math.Nat.{pow-le-pow_right}
 use Rattle.ags_text.specs.Numeral.{IsNumber}
-use Rattle.ags_word.specs.Word.{val, wrap, IsCongruent}
+use Rattle.ags_word.specs.Word.{val, wrap}
 use Rattle.ags_word.proofs.WordLaws.{val-low, val-high, wrap_same}
 use Rattle.ags_card.specs.Reading.{number_of}
 use Rattle.ags_card.specs.Spelling.{signed_word}

@@ -1,23 +1,19 @@
 -- Operands: what is read is what is written, both ways.
-use Rattle.std.proofs.Common.{◌≡◌, ℕ, ◌+◌, ◌-◌, ◌<◌, ◌≤◌, ◌&&◌, ◌||◌, ◌==◌, Bool, true, false, not, List, [], ◌∷◌, ◌++◌, length, take, drop, get_or, Option, Some, None, refl, sym, ap, ◌∙◌, inl, inr, append_assoc, arith}
-use Rattle.std.specs.Prelude.{nat_lt, slice_index, Result, Ok, Err}
+use Rattle.std.proofs.Common.{◌≡◌, ℕ, ◌+◌, ◌-◌, ◌<◌, ◌&&◌, ◌==◌, Bool, true, false, not, List, [], ◌∷◌, ◌++◌, length, take, get_or, Option, Some, None, refl, sym, ap, ◌∙◌, inl, inr, append_assoc, arith}
+use Rattle.std.specs.Prelude.{nat_lt, slice_index, Ok}
 use Rattle.std.specs.List.{list_all}
-use Rattle.std.specs.Option.{option_map, ok_or}
 use Rattle.std.specs.Str.Parse.{starts_with_minus, without_leading_sign}
 use Rattle.std.proofs.lemmas.Bool.{cases_Bool, and_parts, and_from, lt-ltb, ltb-true, eqb-true, eq-eqb, true≢false, false_from_ne_true}
 use Rattle.std.proofs.lemmas.Grind.{common_steps}
 use Rattle.std.proofs.lemmas.List.{append-nil, length-append, take_all, take_at, take_more}
 use Rattle.std.proofs.lemmas.List.Folds.{list_all-append}
-use Rattle.ags_text.specs.Numeral.{IsNumber}
 use Rattle.ags_decimal.specs.Decimal.{Parts}
-
 use Rattle.ags_decimal.specs.Reading.{reading, reading_before_scale, front_at, rest_at, marked_reading, digits_of, behind_sign}
-use Rattle.ags_decimal.specs.Spelling.{is_digit, are_digits, IsSign, IsSigned, IsMarked, IsPointed, Spells}
+use Rattle.ags_decimal.specs.Spelling.{is_digit, are_digits, IsSign, IsMarked, IsPointed, Spells}
 use Rattle.ags_decimal.proofs.SpellingLaws.{reading-spells, spelled-reading}
-use Rattle.ags_card.specs.declared.cards.CardFault.{CardFault}
 use Rattle.ags_card.specs.declared.terms.Term.{Term}
-use Rattle.ags_card.specs.Spelling.{IsExpression, index_mark, IsOrderOperand, signed_word, IsOctalOperand}
-use Rattle.ags_card.specs.Reading.{number_of, expression_reading, is_indexed, without_index, order_terms, plain_terms, decimal_operand, octal_reading, octal_operand, some_operand, one_operand}
+use Rattle.ags_card.specs.Spelling.{IsExpression, IsOrderOperand, signed_word, IsOctalOperand}
+use Rattle.ags_card.specs.Reading.{number_of, expression_reading, is_indexed, without_index, order_terms, plain_terms, decimal_operand, octal_reading, octal_operand}
 use Rattle.ags_card.proofs.NumberLemmas.{number_of-IsNumber, IsNumber-number_of}
 use Rattle.ags_card.proofs.ByteLemmas.{list_all-join, list_all-weaken, first_by, is_not, octal_bytes, sign_front, BeginsUnsigned, starts_with_minus-signed, without_leading_sign-signed}
 use Rattle.ags_card.proofs.ExpressionLaws.{expression_spelled, expression_read, expression_no_comma, expression_some}
@@ -65,10 +61,10 @@ without_index_read front =
 index_not : (operand : List ℕ) → list_all is_no_comma operand ≡ true → is_indexed operand ≡ false
 index_not operand all =
     false_from_ne_true (is_indexed operand) (λ is.
-      let front = take (length operand - 2) operand in
-      let whole : list_all is_no_comma (front ++ 44 ∷ 49 ∷ []) ≡ true = ap (list_all is_no_comma) (sym (index_at_end operand is)) ∙ all in
-      let parts = and_parts (list_all is_no_comma front) (list_all is_no_comma (44 ∷ 49 ∷ [])) (sym (list_all-append is_no_comma front (44 ∷ 49 ∷ [])) ∙ whole) in
-      true≢false (sym parts.1))
+    let front = take (length operand - 2) operand in
+    let whole : list_all is_no_comma (front ++ 44 ∷ 49 ∷ []) ≡ true = ap (list_all is_no_comma) (sym (index_at_end operand is)) ∙ all in
+    let parts = and_parts (list_all is_no_comma front) (list_all is_no_comma (44 ∷ 49 ∷ [])) (sym (list_all-append is_no_comma front (44 ∷ 49 ∷ [])) ∙ whole) in
+    true≢false (sym parts.1))
 
 -- ---- an operand that is there, and one alone
 

@@ -1,5 +1,5 @@
 -- The operations of cards, by their names.
-use Rattle.std.specs.Prelude.{◌≡◌, ℕ, ◌||◌, ◌==◌, Bool, true, false, not, List, [], ◌∷◌, ◌++◌, map, Option, nat_eq, codes}
+use Rattle.std.specs.Prelude.{ℕ, ◌||◌, ◌==◌, Bool, true, false, not, List, ◌∷◌, map, Option, nat_eq, codes}
 use Rattle.std.specs.List.{find}
 use Rattle.std.specs.Cmp.Lexicographic.{pointwise}
 use Rattle.ags_isa.specs.declared.orders.Order.{Order}

@@ -1,13 +1,12 @@
 -- What a line is read as: its card, or the first fault that a reader meets from left to right. It looks at the fields
 -- that are cut from the line.
-use Rattle.std.specs.Prelude.{ℕ, ◌-◌, ◌+◌, Bool, true, false, not, ◌&&◌, ◌||◌, ◌==◌, nat_lt, nat_le, nat_eq, List, [], ◌∷◌, ◌++◌, length, take, drop, slice_index, Option, Some, None, Result, Ok, Err, if◌then◌else◌, codes}
+use Rattle.std.specs.Prelude.{ℕ, ◌-◌, ◌+◌, Bool, false, not, ◌&&◌, ◌||◌, ◌==◌, nat_lt, nat_eq, List, [], ◌∷◌, ◌++◌, length, take, drop, slice_index, Option, Some, None, Result, Ok, Err, if◌then◌else◌, codes}
 use Rattle.std.specs.Option.{option_map, ok_or}
 use Rattle.std.specs.Char.{digit_value}
 use Rattle.std.specs.Cmp.Lexicographic.{pointwise}
-use Rattle.std.specs.List.{list_all, list_any}
+use Rattle.std.specs.List.{list_all}
 use Rattle.std.specs.Str.Parse.{digits_value, starts_with_minus, without_leading_sign}
 use Rattle.ags_text.specs.Field.{is_blank, leading_field, behind_leading_field, next_field, behind_field}
-use Rattle.ags_isa.specs.declared.orders.Order.{Order}
 use Rattle.ags_decimal.specs.Decimal.{Parts}
 use Rattle.ags_decimal.specs.Reading as decimal
 use Rattle.ags_card.specs.declared.cards.Card.{Card}

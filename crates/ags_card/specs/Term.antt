@@ -1,5 +1,5 @@
 -- The terms of an expression: how many they may be, and how large their numbers.
-use Rattle.std.specs.Prelude.{ℕ, ◌<◌, ◌≤◌, Bool, false, List, [], ◌∷◌, length, All}
+use Rattle.std.specs.Prelude.{◌<◌, ◌≤◌, false, List, [], ◌∷◌, length, All}
 use Rattle.ags_card.specs.declared.terms.Atom.{Atom}
 use Rattle.ags_card.specs.declared.terms.Atom.TheVariants.{Number, Here, Symbol}
 use Rattle.ags_card.specs.declared.terms.Term.{Term}

@@ -18,7 +18,7 @@ use std::marker::Model;
 /// The most bytes of a symbol.
 const MOST_BYTES: usize = 6;
 
-/// A symbol (docs/SOURCE.md, Cards): one to six capital letters and digits, with a letter among them.
+/// A symbol (docs/SOURCE.md, Symbols): one to six capital letters and digits, with a letter among them.
 #[derive(Clone, Copy, Debug)]
 pub struct Name {
     /// The symbol's bytes, with zeros behind them.

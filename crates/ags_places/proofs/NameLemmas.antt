@@ -1,6 +1,7 @@
--- The names of the pairs that fit the cards.
-use Rattle.std.proofs.Common.{◌≡◌, ◌≢◌, ℕ, ◌+◌, ◌<◌, List, [], ◌∷◌, ◌++◌, length, get_or, map, Option, Some, None, option_map, refl, sym, ap, subst, ◌∙◌, append_assoc, All, arith}
-use Rattle.std.specs.List.{filter_map, Contains, AllPairs}
+-- The names of the pairs that fit the cards. The crates above cite `names_fit` and `each_symbol_once`, behind the law
+-- `each_symbol_has_a_pair`.
+use Rattle.std.proofs.Common.{◌≡◌, ◌≢◌, ℕ, ◌+◌, List, [], ◌∷◌, ◌++◌, length, get_or, Option, Some, None, option_map, refl, sym, ap, ◌∙◌, append_assoc, All, arith}
+use Rattle.std.specs.List.{filter_map}
 use Rattle.std.proofs.lemmas.List.{append-nil, map-append}
 use Rattle.std.proofs.lemmas.List.Elements.{All-map, All-contains_itself}
 use Rattle.std.proofs.lemmas.List.Quantifiers.{all_pairs_push}
@@ -13,7 +14,7 @@ use Rattle.ags_places.specs.declared.source_error.SourceKind.TheVariants.{Symbol
 use Rattle.ags_places.specs.Deck.{cards}
 use Rattle.ags_places.specs.Place.{Fits, early, place, symbol_value, pair_of, pairs_after}
 use Rattle.ags_places.specs.Fault.{or_else, twice, body_fault, early_fault, first_card_fault, first_place_fault}
-use Rattle.ags_places.proofs.RunningLemmas.{known, next_pair, next_pairs, known_fault, fits_only, faults-known}
+use Rattle.ags_places.proofs.RunningLemmas.{known, next_pairs, known_fault, fits_only, faults-known}
 
 -- ---- one pair for each symbol
 

@@ -1,10 +1,13 @@
--- The loops over a source's lines, one line further.
-use Rattle.std.proofs.Common.{◌≡◌, ℕ, suc, ◌+◌, ◌<◌, ◌≤◌, Bool, true, false, cond, List, [], ◌∷◌, ◌++◌, length, Option, Some, None, refl, sym, ap, subst, ◌∙◌, append_assoc, arith}
+-- The loops over a source's lines, one line further. The crates above cite `lines_of_cards_follow`, behind the law
+-- `card_lines_follow`, and `words_within`, behind `words_stand_in_the_memory`.
+use Rattle.std.proofs.Common.{◌≡◌, ℕ, ◌+◌, ◌<◌, ◌≤◌, Bool, true, false, cond, List, [], ◌∷◌, ◌++◌, length, Option, Some, None, refl, sym, ap, subst, ◌∙◌, append_assoc, All, arith}
+use Rattle.std.proofs.lemmas.List.Elements.{All-cons}
 use Rattle.std.specs.Prelude.{Result, Ok, Err, nat_lt, IfSome}
 use Rattle.std.proofs.lemmas.Bool.{ltb-true}
 use Rattle.std.proofs.lemmas.List.{append-nil, length-append}
-use Rattle.ags_text.specs.Fault.{first_fault, first_fault-nil, first_fault-faulty, first_fault-faultless}
-use Rattle.ags_text.specs.Line.{LineAt, LiesIn, Follow, lines_of}
+use Rattle.ags_text.specs.Fault.{or_later, first_fault, first_fault-nil, first_fault-faulty, first_fault-faultless}
+use Rattle.ags_text.specs.Line.{LineAt, Follow, lines_of}
+use Rattle.ags_text.proofs.FollowLemmas.{lines_follow}
 use Rattle.ags_card.specs.declared.cards.Body.{Body}
 use Rattle.ags_card.specs.declared.cards.Body.TheVariants.{Comment, Order, Org, Equ, Bss, Dec, Oct, End}
 use Rattle.ags_card.specs.declared.cards.Card.{Card}
@@ -16,12 +19,12 @@ use Rattle.ags_places.specs.declared.placing.Stop.{Stop}
 use Rattle.ags_places.specs.declared.placing.Stop.TheVariants as stop
 use Rattle.ags_places.specs.declared.source_error.SourceKind.{SourceKind}
 use Rattle.ags_places.specs.Deck.{is_end, ends, deck, card_lines, readings, card_of, cards_in, cards}
-use Rattle.ags_places.specs.Fault.{kind_of, card_fault, twice, unless, or_else, body_fault, place_fault_at, first_card_fault, first_place_fault}
-use Rattle.ags_places.specs.Place.{Fits, place_after, symbol_value, pair_of, place_of_word, places}
+use Rattle.ags_places.specs.Fault.{kind_of, card_fault, twice, unless, or_else, body_fault, place_fault, place_fault_at, early_fault, first_card_fault, first_place_fault}
+use Rattle.ags_places.specs.Place.{Fits, early, place, place_after, symbol_value, pair_of, place_of_word, places_after, places}
 use Rattle.ags_places.specs.Source.{placed_at, placed_cards, IsPlaced, IsInMemory}
 use Rattle.ags_places.specs.Stopping.{IsFirstPlaceFault, IsStopped, stopped_at}
 use Rattle.ags_places.specs.Effect.{IsStop}
-use Rattle.ags_places.proofs.RunningLemmas.{known, next_pair, next_pairs, known_fault, known_places, fits_some, fits_only, faults-known, places-known}
+use Rattle.ags_places.proofs.RunningLemmas.{known, next_pair, next_pairs, known_fault, known_places, fits_some, faults-known, places-known}
 
 -- ---- the lines of a deck
 
@@ -50,6 +53,9 @@ pub follow_deck : (text : List ℕ) (from : ℕ) (lines : List LineAt) → Follo
 follow_deck text from [] follow = rw deck-nil follow
 follow_deck text from (line ∷ lines) follow =
     rw (deck-cons line lines) (follow.0, follow.1, follow_rest text (line.start + length line.bytes + 1) (ends (reading line.bytes)) (deck lines) (follow_deck text (line.start + length line.bytes + 1) lines follow.2))
+
+pub lines_of_cards_follow : (text : List ℕ) → Follow text 0 (card_lines text)
+lines_of_cards_follow text = follow_deck text 0 (lines_of text) (lines_follow text)
 
 -- ---- the phase of cards
 
@@ -233,6 +239,27 @@ word_within E at End none = tt
 -- a card without a fault has its word in the memory
 pub place_within : (E : List Entry) (at : ℕ) (card : Card) (line : LineAt) → place_fault_at E at card ≡ None → IsInMemory (placed_at line (place_of_word at card.body))
 place_within E at card line none = word_within E at card.body (body_faultless (twice E card.symbol) (body_fault E at card.body) none)
+
+-- so are the words of all cards
+none_later : (number : ℕ) (head : Option SourceKind) (later : Option (ℕ × SourceKind)) → or_later number head later ≡ None → (head ≡ None) × (later ≡ None)
+none_later number None later none = (refl, none)
+none_later number (Some kind) later none = absurd cc
+
+within_along : (S : List Entry) (before cards : List Card) → first_fault (place_fault S) before cards ≡ None → All (λ at. IfSome at (λ place. place < 4096)) (places_after S before cards)
+unfolding first_fault places_after
+within_along S before [] none = λ k d within. absurd (omega (arith, within))
+within_along S before (card ∷ cards) none =
+    let parts = none_later (length before + 1) (place_fault S before card) (first_fault (place_fault S) (card ∷ before) cards) none in
+    let body = body_faultless (twice (early S (length before)) card.symbol) (body_fault (early S (length before)) (place S before) card.body) parts.0 in
+    All-cons (λ at. IfSome at (λ place. place < 4096)) (place_of_word (place S before) card.body) (places_after S (card ∷ before) cards)
+    (word_within (early S (length before)) (place S before) card.body body) (within_along S (card ∷ before) cards parts.1)
+
+no_place_fault : (first later : Option (ℕ × SourceKind)) → or_else first later ≡ None → later ≡ None
+no_place_fault None later none = none
+no_place_fault (Some fault) later none = absurd cc
+
+pub words_within : (text : List ℕ) (S : List Entry) → Fits S (cards text) → early_fault S text ≡ None → All (λ at. IfSome at (λ place. place < 4096)) (places S (cards text))
+words_within text S fits none = within_along S [] (cards text) (no_place_fault (first_card_fault text) (first_place_fault S text) none)
 
 -- ---- why it stops
 

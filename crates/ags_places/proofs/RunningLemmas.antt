@@ -1,8 +1,7 @@
 -- The pairs and the place as a reader of the cards has them, card by card, and that the one list S that fits the cards is what
--- it ends with.
-use Rattle.std.proofs.Common.{◌≡◌, ℕ, suc, ◌+◌, ◌<◌, ◌≤◌, Bool, true, false, cond, List, [], ◌∷◌, ◌++◌, length, Option, Some, None, refl, sym, ap, ◌∙◌, append_assoc, arith}
+-- it ends with. The crates above cite `some_fits` and `fits_one`, behind the law `one_list_of_pairs_fits`.
+use Rattle.std.proofs.Common.{◌≡◌, ℕ, ◌+◌, ◌<◌, ◌≤◌, List, [], ◌∷◌, ◌++◌, length, Option, Some, None, refl, sym, ap, ◌∙◌, append_assoc, arith}
 use Rattle.std.specs.Prelude.{nat_le}
-use Rattle.std.specs.List.{filter}
 use Rattle.std.proofs.lemmas.Bool.{le-leb, lt-leb}
 use Rattle.std.proofs.lemmas.List.{append-nil}
 use Rattle.std.proofs.lemmas.List.Elements.{filter-append}
@@ -160,6 +159,10 @@ fits_only S cards fits = fits ∙ (agree_fitting S [] cards (pairs-start S (pair
 -- the list with these pairs fits
 pub fits_some : (cards : List Card) → Fits (next_pairs [] cards) cards
 fits_some cards = sym (agree_next (next_pairs [] cards) [] cards (pairs-start (next_pairs [] cards) (next_pairs [] cards) refl) (place-start (next_pairs [] cards))).0
+
+-- some list fits, and it is the only one
+pub some_fits : (cards : List Card) → (S : List Entry) × Fits S cards
+some_fits cards = (next_pairs [] cards, fits_some cards)
 
 pub fits_one : (S T : List Entry) (cards : List Card) → Fits S cards → Fits T cards → S ≡ T
 fits_one S T cards one other = fits_only S cards one ∙ sym (fits_only T cards other)

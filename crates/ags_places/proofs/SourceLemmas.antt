@@ -9,8 +9,8 @@ use Rattle.ags_places.specs.declared.source_error.AssembleError.{AssembleError}
 use Rattle.ags_places.specs.declared.source_error.AssembleError.TheVariants.{Source, NoMemory}
 use Rattle.ags_places.specs.declared.sources.PlacedSource.{PlacedSource}
 use Rattle.ags_places.specs.Deck.{card_lines, cards}
-use Rattle.ags_places.specs.Fault.{or_else, early_fault, first_card_fault, first_place_fault}
-use Rattle.ags_places.specs.Place.{Fits, places}
+use Rattle.ags_places.specs.Fault.{early_fault, first_card_fault}
+use Rattle.ags_places.specs.Place.{places}
 use Rattle.ags_places.specs.Source.{placed_cards, IsPlaced, IsMisplaced, IsRefused}
 use Rattle.ags_places.specs.Stopping.{IsFirstPlaceFault}
 use Rattle.ags_places.proofs.RunningLemmas.{next_pairs, fits_some, fits_one}

@@ -1,6 +1,6 @@
 //! Laws of places and symbols, over all cards. Behind each clause is a lemma of `proofs/`, which the crates above cite.
 
-ghost use Rattle.std.specs.Prelude.{◌≡◌, ℕ, ◌+◌, ◌++◌, [], ◌∷◌, List, None, false, length, unsigned_abs};
+ghost use Rattle.std.specs.Prelude.{◌≡◌, ℕ, ◌+◌, ◌++◌, [], ◌∷◌, ◌<◌, List, None, IfSome, All, false, length, unsigned_abs};
 ghost use Rattle.std.specs.List.{filter_map, list_any};
 ghost use Rattle.ags_text.specs.Line.{Follow};
 ghost use Rattle.ags_card.specs.declared.cards.Card.{Card};
@@ -9,7 +9,7 @@ ghost use Rattle.ags_card.specs.declared.cards.Body.TheVariants.{Org};
 ghost use Rattle.ags_symbol.specs.Symbol.{Entry, EachNameOnce, names};
 ghost use Rattle.ags_places.specs.Deck.{card_lines, cards};
 ghost use Rattle.ags_places.specs.Fault.{early_fault};
-ghost use Rattle.ags_places.specs.Place.{Fits, early, operand, place, is_org, sizes};
+ghost use Rattle.ags_places.specs.Place.{Fits, early, operand, place, places, is_org, sizes};
 
 /// Exactly one list of pairs fits the cards of a source, whichever they are.
 pub fn one_list_of_pairs_fits()
@@ -34,4 +34,10 @@ pub fn places_are_sums()
 pub fn each_symbol_has_a_pair()
     ensures names { (S : List Entry) (cards : List Card) → Fits S cards → names S ≡ filter_map (λ card. card.symbol) cards }
     ensures once { (text : List ℕ) (S : List Entry) → Fits S (cards text) → early_fault S text ≡ None → EachNameOnce S }
+{}
+
+/// In a source without a fault of the first two phases each word's place is one of the memory's.
+pub fn words_stand_in_the_memory()
+    ensures { (text : List ℕ) (S : List Entry) → Fits S (cards text) → early_fault S text ≡ None
+        → All (λ at. IfSome at (λ place. place < 4096)) (places S (cards text)) }
 {}

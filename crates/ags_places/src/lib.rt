@@ -13,6 +13,7 @@ mod tests;
 
 pub use laws::{
     card_lines_follow, each_symbol_has_a_pair, one_list_of_pairs_fits, places_are_sums,
+    words_stand_in_the_memory,
 };
 pub use placed::Placed;
 pub use placing::MEMORY_WORDS;

@@ -3,6 +3,7 @@
 use crate::{
     AssembleError, PlacedSource, SourceError, SourceKind, card_lines_follow,
     each_symbol_has_a_pair, one_list_of_pairs_fits, place_all, places_are_sums,
+    words_stand_in_the_memory,
 };
 use std::alloc::Global;
 use std::process::Abort;
@@ -143,5 +144,6 @@ fn faults_of_words_are_printed(rt: HostRuntime) -> Result<(), Fail> {
     each_symbol_has_a_pair();
     one_list_of_pairs_fits();
     places_are_sums();
+    words_stand_in_the_memory();
     Ok(())
 }

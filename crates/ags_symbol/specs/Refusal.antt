@@ -1,5 +1,5 @@
 -- Why a symbol isn't defined.
-use Rattle.std.specs.Prelude.{◌≡◌, ℕ, Option, Some}
+use Rattle.std.specs.Prelude.{◌≡◌, Option, Some}
 use Rattle.ags_symbol.specs.declared.symbols.DefineError.{DefineError}
 use Rattle.ags_symbol.specs.declared.symbols.DefineError.TheVariants.{Twice, NoMemory}
 use Rattle.ags_symbol.specs.Symbol.{Entry}

@@ -1,8 +1,8 @@
-use Rattle.std.proofs.Common.{◌≡◌, Some, List, [], take, drop, length, ap, length-drop, arith}
+use Rattle.std.proofs.Common.{◌≡◌, Some, [], length, ap, length-drop, arith}
 use Rattle.std.proofs.lemmas.List.Elements.{All-push}
 use Rattle.ags_card.specs.Reading.{atom_reading, terms_reading}
 use Rattle.ags_card.specs.Term.{HasSmallNumber}
-use Rattle.ags_card.proofs.TermLemmas.{front_len, read_none, read_last, read_more, none_empty, not_empty, is_empty, behind_first}
+use Rattle.ags_card.proofs.TermLemmas.{read_none, read_last, read_more, none_empty, not_empty, is_empty, behind_first}
 use Rattle.ags_card.proofs.expressions.read_terms.Goals as goal
 
 pub returns-in_default : goal.returns-in_default
@@ -16,8 +16,8 @@ returns-then-is_empty c =
     let l = c.loop-atom in
     let behind = c.split_at.result.1.now in
     rw (c.of.ensures, c.push.ensures.items) (
-      read_last l.terms.items l.minus l.rest.now c.split_at.result.0.now behind c.in-Some.atom (terms_reading c.args.minus [] c.args.text.now) l.invariant.whole
-      (rw c.front_len.ensures.place at c.split_at.ensures.front) (rw c.front_len.ensures.place at c.split_at.ensures.back) (cc (c.read_atom.ensures.same, c.in-Some.is)) (is_empty behind c.is_empty.result c.is_empty.ensures c.if-is_empty.true)
+    read_last l.terms.items l.minus l.rest.now c.split_at.result.0.now behind c.in-Some.atom (terms_reading c.args.minus [] c.args.text.now) l.invariant.whole
+    (rw c.front_len.ensures.place at c.split_at.ensures.front) (rw c.front_len.ensures.place at c.split_at.ensures.back) (cc (c.read_atom.ensures.same, c.in-Some.is)) (is_empty behind c.is_empty.result c.is_empty.ensures c.if-is_empty.true)
     )
 
 pub loop-atom-preserved : goal.loop-atom-preserved

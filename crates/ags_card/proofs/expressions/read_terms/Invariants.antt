@@ -1,5 +1,5 @@
 use Rattle.std.proofs.Common.{◌≡◌, ◌+◌, ◌*◌, ◌≤◌, length}
-use Rattle.std.specs.Prelude.{All, [], Option}
+use Rattle.std.specs.Prelude.{All, []}
 use Rattle.ags_card.specs.Reading.{terms_reading}
 use Rattle.ags_card.specs.Term.{HasSmallNumber}
 use Rattle.ags_card.proofs.TermLemmas.{prepended}

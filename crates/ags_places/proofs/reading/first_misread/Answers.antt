@@ -1,7 +1,6 @@
 use Rattle.std.proofs.Common.{sym, arith}
 use Rattle.ags_text.specs.LineView.{line_at}
 use Rattle.ags_text.proofs.FollowLemmas.{lines_follow}
-use Rattle.ags_places.specs.Deck.{deck}
 use Rattle.ags_places.proofs.PlacingLemmas.{Reading-none, Reading-all, deck-nil, follow_deck, reading_next, reading_fault, reading_within}
 use Rattle.ags_places.proofs.reading.first_misread.Goals as goal
 

@@ -1,4 +1,4 @@
-use Rattle.std.proofs.Common.{◌≡◌, ◌+◌, ◌≤◌, ◌<◌, length, sym, ap, arith}
+use Rattle.std.proofs.Common.{◌+◌, length, sym, arith}
 use Rattle.std.proofs.lemmas.List.Elements.{All-push}
 use Rattle.ags_text.specs.LineView.{line_at}
 use Rattle.ags_text.proofs.FollowLemmas.{lines_follow}

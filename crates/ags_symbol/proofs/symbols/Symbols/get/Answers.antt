@@ -1,8 +1,7 @@
-use Rattle.std.proofs.Common.{sym, ap, ◌∙◌, option_map, nat_eq}
+use Rattle.std.proofs.Common.{sym, nat_eq}
 use Rattle.std.specs.Cmp.Lexicographic.{pointwise}
 use Rattle.std.proofs.lemmas.Map.Entries.{All-lookup}
 use Rattle.ags_symbol.specs.Symbol.{IsValue}
-use Rattle.ags_symbol.specs.View.{entry_of}
 use Rattle.ags_symbol.proofs.SymbolLemmas.{found-entries}
 use Rattle.ags_symbol.proofs.symbols.Symbols.get.Goals as goal
 

@@ -1,4 +1,3 @@
-use Rattle.std.proofs.Common.{sym, ap, ◌∙◌}
 use Rattle.std.proofs.lemmas.List.Elements.{All-map}
 use Rattle.ags_symbol.specs.Symbol.{IsValue}
 use Rattle.ags_symbol.specs.View.{entry_of}

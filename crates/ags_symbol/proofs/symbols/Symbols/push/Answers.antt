@@ -1,4 +1,4 @@
-use Rattle.std.proofs.Common.{◌≡◌, [], ◌∷◌, ◌++◌, map, None, refl, ap, ◌∙◌}
+use Rattle.std.proofs.Common.{◌≡◌, map, None, refl, ap, ◌∙◌}
 use Rattle.std.proofs.lemmas.List.{map-append}
 use Rattle.ags_symbol.specs.Symbol.{found}
 use Rattle.ags_symbol.specs.View.{entry_of}
