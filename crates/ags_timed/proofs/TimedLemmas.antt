@@ -62,18 +62,18 @@ so_far_more : (machine : Machine) (limit : ℕ) (s : State) (moments : List Mome
 so_far_more machine limit s moments here spent moment so_far time_left running steps = record {
   run =
       let events : replicate (length moments) Step ++ Step ∷ [] ≡ replicate (length (moments ++ moment ∷ [])) Step =
-          steps_more (length moments) ∙ ap (λ n. replicate n Step) (sym (length-append moments (moment ∷ []))) in
+      steps_more (length moments) ∙ ap (λ n. replicate n Step) (sym (length-append moments (moment ∷ []))) in
       let P : List Event → Type 0 = λ es. Run machine s es (moments ++ moment ∷ []) in
       subst P events (run-append machine s (replicate (length moments) Step) (Step ∷ []) moments (moment ∷ []) so_far.run (rw so_far.here_is at steps, tt));
   here_is = sym (last-append s moments (moment ∷ []));
   time = rw (sum_by-append (λ (m : Moment). order_time machine m.report) moments (moment ∷ [])) (omega (arith, so_far.time));
   least = λ count below. elim (cases_lt count (length moments)) [
     | inl earlier ↦
-      let front : take count (moments ++ moment ∷ []) ≡ take count moments = take-append-le count moments (moment ∷ []) (omega (arith, earlier)) in
-      rw front (so_far.least count earlier)
+        let front : take count (moments ++ moment ∷ []) ≡ take count moments = take-append-le count moments (moment ∷ []) (omega (arith, earlier)) in
+        rw front (so_far.least count earlier)
     | inr past ↦
-      let all : count ≡ length moments = omega (arith, past, below, length-append moments (moment ∷ [])) in
-      rw (all, take-append_seam moments (moment ∷ [])) (record { time = rw (← so_far.time) time_left; running = rw (← so_far.here_is) running })
+        let all : count ≡ length moments = omega (arith, past, below, length-append moments (moment ∷ [])) in
+        rw (all, take-append_seam moments (moment ∷ [])) (record { time = rw (← so_far.time) time_left; running = rw (← so_far.here_is) running })
   ];
 }
 
@@ -124,13 +124,17 @@ halts_unless_ran machine s report after running steps idle = by_phase s.phase ru
   where
     false_is_true : false ≡ true → ⊥
     false_is_true h = cc
+
     waits : Waiting ≡ Running → ⊥
     waits h = cc
+
     halted : Halted ≡ Running → ⊥
     halted h = cc
+
     by_reading : (named : Option Decoded) → Obeys machine s named report after → after.phase ≡ Halted
     by_reading (Some decoded) obeys = absurd (false_is_true (sym idle ∙ ap (λ (r : Report). r.ran) obeys.0))
     by_reading None obeys = ap (λ (t : State). t.phase) obeys.1
+
     by_phase : (phase : Phase) → phase ≡ Running → StepsIn phase machine s report after → after.phase ≡ Halted
     by_phase Running is found = by_reading found.0 found.2
     by_phase Waiting is found = absurd (waits is)
@@ -158,6 +162,7 @@ timed_step machine limit s moment moments rest some running steps timed = record
         → (limit ≤ rest + order_time machine moment.report) ⊎ ((last_state moment.after moments).phase ≢ Running)
     over (inl spent) = inl (omega (arith, spent))
     over (inr idle) = inr idle
+
     least : (count : ℕ) → count < length (moment ∷ moments) → GoesOn machine limit s (take count (moment ∷ moments))
     least zero below = record { time = some; running = running }
     least (suc count) below =
@@ -213,7 +218,7 @@ timed_from machine limit fuel s is rest enough Running at =
     let moment : Moment = record { report = first.0; after = first.1 } in
     let fits : suc limit + 1 ≤ suc fuel = rw (at, weight-running) at enough in
     let later = rest (suc limit - order_time machine first.0) first.1
-        (less_left machine (suc limit) fuel s first.0 first.1 is at first.2 (omega arith) (omega (arith, fits))) in
+    (less_left machine (suc limit) fuel s first.0 first.1 is at first.2 (omega arith) (omega (arith, fits))) in
     record {
       moments = moment ∷ later.moments;
       spent = later.spent + order_time machine first.0;
@@ -255,8 +260,10 @@ not_shorter machine limit s moments others spent other is timed timed_too shorte
     front : moments ≡ take (length moments) others
     front = one_run machine s (replicate (length moments) Step) moments (take (length moments) others) is timed.run
         (run_front machine s others (length moments) timed_too.run (omega (arith, shorter)))
+
     goes_on : GoesOn machine limit s moments
     goes_on = let P : List Moment → Type 0 = λ ms. GoesOn machine limit s ms in subst P (sym front) (timed_too.least (length moments) shorter)
+
     stops : (limit ≤ spent) ⊎ ((last_state s moments).phase ≢ Running) → ⊥
     stops (inl reached) = absurd (omega (arith, reached, timed.time, goes_on.time))
     stops (inr idle) = idle goes_on.running
@@ -267,13 +274,13 @@ one_timed machine limit s moments others spent other is timed timed_too =
     elim (cases_lt (length moments) (length others)) [
       | inl shorter ↦ absurd (not_shorter machine limit s moments others spent other is timed timed_too shorter)
       | inr not_shorter_than ↦
-        elim (cases_lt (length others) (length moments)) [
-          | inl longer ↦ absurd (not_shorter machine limit s others moments other spent is timed_too timed longer)
-          | inr not_longer ↦
-            let same : length others ≡ length moments = omega (arith, not_shorter_than, not_longer) in
-            let P : ℕ → Type 0 = λ n. Run machine s (replicate n Step) others in
-            one_run machine s (replicate (length moments) Step) moments others is timed.run (subst P same timed_too.run)
-        ]
+          elim (cases_lt (length others) (length moments)) [
+            | inl longer ↦ absurd (not_shorter machine limit s others moments other spent is timed_too timed longer)
+            | inr not_longer ↦
+                let same : length others ≡ length moments = omega (arith, not_shorter_than, not_longer) in
+                let P : ℕ → Type 0 = λ n. Run machine s (replicate n Step) others in
+                one_run machine s (replicate (length moments) Step) moments others is timed.run (subst P same timed_too.run)
+          ]
     ]
 
 pub one_time : (machine : Machine) (limit : ℕ) (s : State) (moments others : List Moment) (spent other : ℕ) → IsMachine machine → IsTimedRun machine limit s moments spent

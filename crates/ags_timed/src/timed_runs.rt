@@ -15,12 +15,7 @@ use ags_ports::{Event, Machine, Phase, Report};
 /// Steps while orders run and the time of those that ran is less than this many microseconds, and answers that time. The
 /// last order may pass the limit by up to 999 microseconds. A step that halts takes no time. The watcher is told of each
 /// step.
-pub fn run_for<W: Watcher>(
-    core: &mut Core,
-    machine: &Machine,
-    micros: u64,
-    watcher: &mut W,
-) -> u64
+pub fn run_for<W: Watcher>(core: &mut Core, machine: &Machine, micros: u64, watcher: &mut W) -> u64
     requires micros { micros ≤ 20000 }
     requires inputs { length core.old.inputs ≡ length machine.now.ports.inputs }
     requires outputs { length core.old.outputs ≡ length machine.now.ports.outputs }
@@ -30,6 +25,7 @@ pub fn run_for<W: Watcher>(
     ensures outputs { length core.new.outputs ≡ length core.old.outputs }
     ensures state { IsState machine.now core.old → IsState machine.now core.new }
 {
+    machine_is_made_of_tables(machine);
     let mut spent = 0;
     'steps: while spent < micros && is_running(core) {
         let report = core.act(machine, Event::Step);
