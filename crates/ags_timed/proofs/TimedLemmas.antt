@@ -3,7 +3,7 @@
 --     timed_none, timed_idle     the run of no step
 --     timed_most                 how far the last order may pass the limit
 use Rattle.std.proofs.Common.{◌≡◌, ◌≢◌, ◌⊎◌, ℕ, zero, suc, ◌+◌, ◌-◌, ◌<◌, ◌≤◌, Bool, true, false, List, [], ◌∷◌, ◌++◌, length, get_or, take, refl, sym, ap, subst, ◌∙◌, inl, inr, arith}
-use Rattle.std.specs.Prelude.{replicate, sum_by, Option, Some, None, IfSome, ◌/◌, ◌%◌, ◌^◌, ◌*◌}
+use Rattle.std.specs.Prelude.{replicate, Option, Some, None, IfSome, ◌/◌, ◌%◌, ◌^◌}
 use Rattle.std.specs.Option.{option_map_or}
 use Rattle.ags_ports.specs.Time.{time_of}
 use Rattle.std.proofs.lemmas.Bool.{cases_Bool, cases_lt}
@@ -23,7 +23,7 @@ use Rattle.ags_ports.specs.declared.events.Event.TheVariants.{Step}
 use Rattle.ags_ports.specs.declared.events.Report.{Report}
 use Rattle.ags_ports.specs.declared.machines.Machine.{Machine}
 use Rattle.ags_ports.specs.Machine.{IsMachine}
-use Rattle.ags_ports.specs.State.{State, word_here}
+use Rattle.ags_ports.specs.State.{State}
 use Rattle.ags_ports.specs.Step.{Steps, StepsIn, Obeys}
 use Rattle.ags_ports.specs.OrderTime.{order_time}
 use Rattle.ags_ports.specs.Run.{Moment, Run, last_state}

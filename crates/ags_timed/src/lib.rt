@@ -8,7 +8,7 @@ pub mod laws;
 mod timed_runs;
 mod watchers;
 
-pub use timed_runs::run_for;
+pub use timed_runs::{CYCLE_MICROS, run_for};
 pub use watchers::Watcher;
 
 #[cfg(test)]

@@ -12,11 +12,14 @@ use ags_isa::decode;
 use ags_ports::laws::machine_is_made_of_tables;
 use ags_ports::{Event, Machine, Phase, Report};
 
+/// The time of one cycle of the timer, in microseconds. No run is asked for more.
+pub const CYCLE_MICROS: u64 = 20_000;
+
 /// Steps while orders run and the time of those that ran is less than this many microseconds, and answers that time. The
 /// last order may pass the limit by up to 999 microseconds. A step that halts takes no time. The watcher is told of each
-/// step.
+/// step (docs/MACHINE.md, Times).
 pub fn run_for<W: Watcher>(core: &mut Core, machine: &Machine, micros: u64, watcher: &mut W) -> u64
-    requires micros { micros ≤ 20000 }
+    requires micros { micros ≤ CYCLE_MICROS }
     requires inputs { length core.old.inputs ≡ length machine.now.ports.inputs }
     requires outputs { length core.old.outputs ≡ length machine.now.ports.outputs }
     ensures run { RunsFor W.looks machine.now micros core.old watcher.old core.new watcher.new result }
