@@ -2,8 +2,10 @@
 
 ghost use Rattle.std.specs.Prelude.{◌≡◌, ◌≢◌, ◌+◌, ◌≤◌, IsTrue, false, length};
 ghost use Rattle.ags_ports.specs.declared.events.Phase.TheVariants.{Running};
+ghost use Rattle.ags_ports.specs.declared.events.Event.TheVariants as event;
 ghost use Rattle.ags_ports.specs.OrderTime.{order_time};
 ghost use Rattle.ags_ports.specs.State.{IsState};
+ghost use Rattle.ags_ports.specs.Step.{Steps};
 ghost use Rattle.ags_timed.specs.Timed.{RunsFor};
 
 use crate::watchers::Watcher;
@@ -31,11 +33,25 @@ pub fn run_for<W: Watcher>(core: &mut Core, machine: &Machine, micros: u64, watc
     machine_is_made_of_tables(machine);
     let mut spent = 0;
     'steps: while spent < micros && is_running(core) {
-        let report = core.act(machine, Event::Step);
-        watcher.saw(&report);
+        let report = seen_step(core, machine, watcher);
         spent += u64::from(order_time(machine, &report));
     }
     spent
+}
+
+/// One step, of which the watcher is told.
+fn seen_step<W: Watcher>(core: &mut Core, machine: &Machine, watcher: &mut W) -> Report
+    requires inputs { length core.old.inputs ≡ length machine.now.ports.inputs }
+    requires outputs { length core.old.outputs ≡ length machine.now.ports.outputs }
+    ensures step { Steps machine.now core.old event.Step result core.new }
+    ensures look { W.looks watcher.old result watcher.new }
+    ensures inputs { length core.new.inputs ≡ length core.old.inputs }
+    ensures outputs { length core.new.outputs ≡ length core.old.outputs }
+    ensures state { IsState machine.now core.old → IsState machine.now core.new }
+{
+    let report = core.act(machine, Event::Step);
+    watcher.saw(&report);
+    report
 }
 
 /// Whether orders run.
