@@ -1,7 +1,7 @@
 -- A machine file as a whole: what it gives is a machine, and its fault is one of the file. The crates above cite:
 --     machine_of-IsMachine    what a file gives is a machine
 --     machine_of-fault        no file's fault is want of memory
-use Rattle.std.proofs.Common.{◌≡◌, ◌≢◌, ℕ, List, [], ◌∷◌, zero, suc, true, length, get_or, codes, refl, sym, ap, ◌∙◌, inl, inr, arith, All}
+use Rattle.std.proofs.Common.{◌≡◌, ◌≢◌, ℕ, List, [], ◌∷◌, true, length, get_or, codes, refl, sym, ap, ◌∙◌, inl, inr}
 use Rattle.std.specs.Prelude.{Option, Some, None, option_map, Result, Ok, Err, Bool, nat_le}
 use Rattle.std.specs.Option.{ok_or}
 use Rattle.std.specs.Result.{result_err}
@@ -18,16 +18,16 @@ use Rattle.ags_ports.specs.Machine.{IsMachine, standard_machine}
 use Rattle.ags_machfile.specs.declared.keys.Key.{Key}
 use Rattle.ags_machfile.specs.declared.keys.Key.TheVariants.{Codes, Times, DedaIn, DedaOut, Code, Time}
 use Rattle.ags_machfile.specs.declared.mach_error.MachError.{MachError}
-use Rattle.ags_machfile.specs.declared.mach_error.MachError.TheVariants.{NotToml, MissingKey, BadValue, SameCode, SamePort, NoMemory}
+use Rattle.ags_machfile.specs.declared.mach_error.MachError.TheVariants.{NotToml, BadValue, SamePort, NoMemory}
 use Rattle.ags_machfile.specs.declared.port_tables.Direction.{Direction}
 use Rattle.ags_machfile.specs.declared.port_tables.Direction.TheVariants.{Input, Output}
 use Rattle.ags_machfile.specs.Value.{◌>>=◌, address_given, values_of}
 use Rattle.ags_machfile.specs.OrderTable as table
 use Rattle.ags_machfile.specs.OrderTable.{all_numbers, code_given, time_given, code_entry, time_entry, shared_pair, unshared, codes_in, times_in}
-use Rattle.ags_machfile.specs.PortTable.{direction_key, entry_key, once_given, port_with, entry_port, ports_behind, ports_listed, ports_in}
+use Rattle.ags_machfile.specs.PortTable.{direction_key, entry_key, once_given, port_with, entry_port, ports_listed, ports_in}
 use Rattle.ags_machfile.specs.MachineFile.{address_in, document_of, machine_in, machine_of}
-use Rattle.ags_machfile.specs.Rule.{Fails, fault_of, part_faults, first_of}
-use Rattle.ags_machfile.proofs.NumbersLemmas.{ok_not_err, all_numbers-err}
+use Rattle.ags_machfile.specs.Rule.{Fails, fault_of, first_of}
+use Rattle.ags_machfile.proofs.NumbersLemmas.{all_numbers-err}
 use Rattle.ags_machfile.proofs.PartLemmas.{err_not_ok, machine_in-gives, machine_in-fault}
 use Rattle.ags_machfile.proofs.GivenLemmas.{codes_in-AreCodes, times_in-AreTimes}
 use Rattle.ags_machfile.proofs.PortRuleLemmas.{ports_in-AreRegisters, ports_behind-err}
@@ -78,12 +78,14 @@ codes-fault (Some value) h = by_table (as_table value) h
     by_pair : (numbers : List ℕ) (pair : Option (Order × Order)) → unshared numbers pair ≡ Err NoMemory → ⊥
     by_pair numbers None h = cc
     by_pair numbers (Some pair) h = cc
+
     by_numbers : (r : Result (List ℕ) MachError) → r ≢ Err NoMemory → r >>= (λ numbers. unshared numbers (shared_pair numbers)) ≡ Err NoMemory → ⊥
     by_numbers (Ok numbers) none h = by_pair numbers (shared_pair numbers) h
     by_numbers (Err fault) none h = none (same fault h)
       where
         same : (fault : MachError) → ◌≡◌ {A = Result (List ℕ) MachError} (Err fault) (Err NoMemory) → ◌≡◌ {A = Result (List ℕ) MachError} (Err fault) (Err NoMemory)
         same fault h = h
+
     by_table : (found : Option Members) → table.order_numbers Codes code_entry found >>= (λ numbers. unshared numbers (shared_pair numbers)) ≡ Err NoMemory → ⊥
     by_table None h = cc
     by_table (Some document) h = by_numbers (all_numbers (code_entry document)) (code_numbers-fault document) h
@@ -121,13 +123,14 @@ ports-fault direction (Some value) h = by_array (as_array value) h
   where
     too_many : ◌≡◌ {A = Result (List Port) MachError} (Err (BadValue (direction_key direction))) (Err NoMemory) → ⊥
     too_many h = cc
+
     by_array : (found : Option Items) → ports_listed direction found ≡ Err NoMemory → ⊥
     by_array None h = cc
     by_array (Some items) h =
         elim (cases_Bool (nat_le (length (values_of items)) 32)) [
           | inl few ↦
-            let bad = ports_behind-err direction (values_of items) NoMemory (rw few at h) in
-            no_failure direction bad.earlier (get_or (values_of items) bad.position (boolean true)) (bad.fails (boolean true))
+              let bad = ports_behind-err direction (values_of items) NoMemory (rw few at h) in
+              no_failure direction bad.earlier (get_or (values_of items) bad.position (boolean true)) (bad.fails (boolean true))
           | inr many ↦ too_many (rw many at h)
         ]
 

@@ -1,12 +1,10 @@
 -- What a document gives is a machine: its codes, times and registers are tables.
-use Rattle.std.proofs.Common.{◌≡◌, ◌≢◌, ℕ, zero, suc, ◌+◌, ◌/◌, ◌%◌, ◌<◌, ◌≤◌, ◌==◌, Bool, true, false, List, [], ◌∷◌, ◌++◌, length, get_or, refl, sym, ap, subst, ◌∙◌, inl, inr, arith, All}
-use Rattle.std.specs.Prelude.{Result, Ok, Err, Option, Some, None, ℤ, pos, negsuc, nat_le, option_and_then, option_map, ◌&&◌, if◌then◌else◌}
+use Rattle.std.proofs.Common.{◌≡◌, ℕ, ◌/◌, ◌%◌, ◌<◌, ◌≤◌, ◌==◌, Bool, true, false, List, get_or, refl, ap, subst, arith, All}
+use Rattle.std.specs.Prelude.{Result, Ok, Err, Option, Some, None, ℤ, pos, negsuc, nat_le, option_and_then, ◌&&◌, if◌then◌else◌}
 use Rattle.std.specs.Option.{ok_or}
-use Rattle.std.specs.List.{list_any}
-use Rattle.std.proofs.lemmas.Bool.{cases_Bool}
 use Rattle.std.proofs.lemmas.Bool.Decides.{nat_tests}
-use Rattle.std.proofs.lemmas.List.{get_or_default, length-append}
-use Rattle.toml.specs.Data.{Data, Members, Items, as_table, as_array, as_integer, get_member}
+use Rattle.std.proofs.lemmas.List.{get_or_default}
+use Rattle.toml.specs.Data.{Data, Members, as_table, as_integer, get_member}
 use Rattle.ags_isa.specs.declared.orders.Order.{Order}
 use Rattle.ags_isa.specs.declared.orders.Order.TheVariants.{Abs}
 use Rattle.ags_isa.specs.Order.{all_orders, order_number, order_name}
@@ -101,6 +99,7 @@ codes_of-table (Some document) codes_found h = by_numbers (all_numbers (code_ent
         let all = all_have (code_entry document) numbers (λ n. n < 32) (λ order n from. let stands = given_at code_given (Code order) (get_member (order_name order) document) n from in code_given-below stands.0 n stands.1) are in
         let P : List ℕ → Type 0 = λ ns. AreCodes ns in
         subst P (ok_same numbers codes_found same) (unshared_are_codes numbers are.count all at)
+
     by_numbers : (r : Result (List ℕ) MachError) → all_numbers (code_entry document) ≡ r → r >>= (λ numbers. unshared numbers (shared_pair numbers)) ≡ Ok codes_found → AreCodes codes_found
     by_numbers (Err fault) is same = absurd (err_not_ok fault codes_found same)
     by_numbers (Ok numbers) is same = by_pair numbers (shared_pair numbers) is refl same
@@ -115,7 +114,7 @@ times_of-table None times_found h = absurd (err_not_ok _ times_found h)
 times_of-table (Some document) times_found h =
     let are = all_numbers-ok (time_entry document) times_found h in
     let limits : (order : Order) (n : ℕ) → time_entry document order ≡ Ok n → (1 ≤ n) × (n ≤ 1000) =
-        λ order n from. let stands = given_at time_given (Time order) (get_member (order_name order) document) n from in within-limits 1 1000 (as_integer stands.0) n stands.1 in
+    λ order n from. let stands = given_at time_given (Time order) (get_member (order_name order) document) n from in within-limits 1 1000 (as_integer stands.0) n stands.1 in
     record {
       each = are.count;
       least = all_have (time_entry document) times_found (λ n. 1 ≤ n) (λ order n from. (limits order n from).0) are;

@@ -1,11 +1,11 @@
 -- The numbers of all orders, or the first fault: what is found is what is so, and what is so is found.
-use Rattle.std.proofs.Common.{◌≡◌, ◌≢◌, ℕ, zero, suc, ◌+◌, ◌<◌, ◌≤◌, ◌==◌, Bool, true, false, List, [], ◌∷◌, ◌++◌, length, get_or, map, refl, sym, ap, ◌∙◌, inl, inr, arith, append_assoc, true≢false}
+use Rattle.std.proofs.Common.{◌≡◌, ℕ, zero, suc, ◌<◌, List, [], ◌∷◌, ◌++◌, length, get_or, map, refl, sym, ap, ◌∙◌, inl, inr, arith, append_assoc, true≢false}
 use Rattle.std.specs.Prelude.{Result, Ok, Err, IsOk, ⊤}
 use Rattle.std.proofs.lemmas.Bool.{cases_lt}
 use Rattle.std.proofs.lemmas.Grind.{same_number_lists}
 use Rattle.ags_isa.specs.declared.orders.Order.{Order}
 use Rattle.ags_isa.specs.declared.orders.Order.TheVariants.{Abs}
-use Rattle.ags_isa.specs.Order.{all_orders, order_number, order_name}
+use Rattle.ags_isa.specs.Order.{all_orders, order_number}
 use Rattle.ags_isa.proofs.OrderLemmas.{order_at_number, order_number-below, order_number-injective, number_at}
 use Rattle.ags_machfile.specs.declared.mach_error.MachError.{MachError}
 use Rattle.ags_machfile.specs.Value.{collected}
@@ -151,12 +151,12 @@ one_fault f fault other first first_too =
     elim (cases_lt (order_number first.order) (order_number first_too.order)) [
       | inl before ↦ absurd (not_both _ fault (first_too.earlier first.order before) first.fails)
       | inr not_before ↦
-        elim (cases_lt (order_number first_too.order) (order_number first.order)) [
-          | inl after ↦ absurd (not_both _ other (first.earlier first_too.order after) first_too.fails)
-          | inr not_after ↦
-            err_same fault other
-            (sym first.fails ∙ ap f (order_number-injective first.order first_too.order (omega (arith, not_before, not_after))) ∙ first_too.fails)
-        ]
+          elim (cases_lt (order_number first_too.order) (order_number first.order)) [
+            | inl after ↦ absurd (not_both _ other (first.earlier first_too.order after) first_too.fails)
+            | inr not_after ↦
+                err_same fault other
+                (sym first.fails ∙ ap f (order_number-injective first.order first_too.order (omega (arith, not_before, not_after))) ∙ first_too.fails)
+          ]
     ]
 
 pub fault-is_found : (f : Order → Result ℕ MachError) (fault : MachError) → IsFirstFault f fault → all_numbers f ≡ Err fault

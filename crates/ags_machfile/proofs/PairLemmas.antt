@@ -1,5 +1,5 @@
 -- The first pair of orders with one code: it is one, and the least of all.
-use Rattle.std.proofs.Common.{◌≡◌, ◌≢◌, ℕ, zero, suc, ◌+◌, ◌<◌, ◌≤◌, ◌==◌, Bool, true, false, List, [], ◌∷◌, length, get_or, refl, sym, ap, subst, ◌∙◌, inl, inr, arith}
+use Rattle.std.proofs.Common.{◌≡◌, ◌≢◌, ℕ, zero, suc, ◌<◌, ◌≤◌, ◌==◌, true, false, List, [], ◌∷◌, length, get_or, refl, sym, ap, subst, ◌∙◌, inl, inr, arith}
 use Rattle.std.specs.Prelude.{Option, Some, None, option_map}
 use Rattle.std.specs.Option.{option_or}
 use Rattle.std.proofs.lemmas.Bool.{cases_Bool, cases_lt}
@@ -8,7 +8,7 @@ use Rattle.ags_isa.specs.declared.orders.Order.{Order}
 use Rattle.ags_isa.specs.declared.orders.Order.TheVariants.{Abs}
 use Rattle.ags_isa.specs.Order.{all_orders, order_number}
 use Rattle.ags_isa.specs.Code.{code_of}
-use Rattle.ags_isa.proofs.OrderLemmas.{order_at_number, order_number-below, order_number-injective, number_at}
+use Rattle.ags_isa.proofs.OrderLemmas.{order_at_number, order_number-below, number_at}
 use Rattle.ags_machfile.specs.OrderTable.{order_with_code_of, first_pair, shared_pair}
 use Rattle.ags_machfile.specs.Rule.{IsPair, IsFirstPair}
 use Rattle.ags_machfile.proofs.TableLemmas.{unfound, unpaired}
@@ -37,8 +37,10 @@ found table order (one ∷ others) other h =
   where
     equal : (m n : ℕ) → (m == n) ≡ true → n ≡ m
     equal m n test = grind (arith, nat_tests)
+
     differ : (m n : ℕ) → (m == n) ≡ false → n ≢ m
     differ m n test same = grind (arith, nat_tests)
+
     here : code_of table order ≡ code_of table one → one ≡ other → FoundAt table order (one ∷ others) other
     here same is = record {
       place = 0;
@@ -47,6 +49,7 @@ found table order (one ∷ others) other h =
       same = same ∙ ap (code_of table) is;
       before = λ k d below. absurd (omega (arith, below));
     }
+
     later : code_of table order ≢ code_of table one → FoundAt table order others other → FoundAt table order (one ∷ others) other
     later differs at_rest = record {
       place = suc at_rest.place;
@@ -111,6 +114,7 @@ pair_later table order others first second none later = record {
     least k zero d before within same = absurd (omega (arith, before))
     least zero (suc l) d before within same = absurd (unfound table order others none l d (omega (arith, within)) same)
     least (suc k) (suc l) d before within same = omega (arith, later.least_i k l d (omega (arith, before)) (omega (arith, within)) same)
+
     least_too : (l : ℕ) (d : Order) → suc later.i < l → l < length (order ∷ others) → code_of table first ≡ code_of table (get_or (order ∷ others) l d) → suc later.j ≤ l
     least_too zero d above within same = absurd (omega (arith, above))
     least_too (suc l) d above within same = omega (arith, later.least_j l d (omega (arith, above)) (omega (arith, within)) same)

@@ -1,6 +1,6 @@
 -- The parts of a document together: each gives its part of the machine, and the first that has a fault decides.
-use Rattle.std.proofs.Common.{◌≡◌, ℕ, List, [], ◌∷◌, codes, refl, ap, sym}
-use Rattle.std.specs.Prelude.{Result, Ok, Err, Option}
+use Rattle.std.proofs.Common.{◌≡◌, ℕ, List, [], ◌∷◌, codes, refl, ap}
+use Rattle.std.specs.Prelude.{Result, Ok, Err}
 use Rattle.std.specs.Result.{result_err}
 use Rattle.toml.specs.Data.{Members, get_member}
 use Rattle.ags_ports.specs.declared.machines.Machine.{Machine}

@@ -1,10 +1,9 @@
 -- The registers of an array: what is listed is what its entries give, and a fault is that of the first bad entry.
-use Rattle.std.proofs.Common.{◌≡◌, ◌≢◌, ◌⊎◌, ℕ, zero, suc, ◌+◌, ◌<◌, ◌≤◌, ◌==◌, Bool, true, false, List, [], ◌∷◌, ◌++◌, length, get_or, take, refl, sym, ap, subst, ◌∙◌, inl, inr, arith, append_assoc, All, AllPairs, codes}
+use Rattle.std.proofs.Common.{◌≡◌, ◌≢◌, ℕ, zero, suc, ◌+◌, ◌<◌, ◌≤◌, ◌==◌, Bool, true, false, List, [], ◌∷◌, ◌++◌, length, get_or, take, refl, sym, ap, subst, ◌∙◌, inl, inr, arith, append_assoc, AllPairs, codes}
 use Rattle.std.specs.Prelude.{Result, Ok, Err, Option, Some, None, ⊤, Any, option_map, nat_le, if◌then◌else◌}
 use Rattle.std.proofs.lemmas.Bool.{cases_Bool}
 use Rattle.std.proofs.lemmas.Bool.Decides.{nat_tests}
 use Rattle.std.proofs.lemmas.List.{length-append}
-use Rattle.std.proofs.lemmas.List.Elements.{All-append}
 use Rattle.std.proofs.lemmas.List.Folds.{Any-from_list_any}
 use Rattle.std.proofs.lemmas.List.Quantifiers.{all_pairs_push}
 use Rattle.toml.specs.Data.{Data, boolean, Members, Items, as_table, as_array, as_integer, get_member}
@@ -148,6 +147,7 @@ bad-step direction earlier entry entries fault (Ok port) here rest is = by_test 
   where
     same_address : Any (λ other. (other.address == port.address) ≡ true) earlier → Any (λ other. other.address ≡ port.address) earlier
     same_address (k, x, within, stands, test) = (k, x, within, stands, grind (arith, nat_tests))
+
     by_test : (same : Bool) → has_address earlier port.address ≡ same
         → (taken earlier same port >>= (λ port. ports_behind direction (earlier ++ port ∷ []) entries)) ≡ Err fault → IsBad direction earlier (entry ∷ entries) fault
     by_test true same is =

@@ -1,6 +1,6 @@
 -- What the rules of a machine file mean, for the laws: which of several faults is the first, and what stands in a table or an
 -- array that has none.
-use Rattle.std.specs.Prelude.{◌≡◌, ◌≢◌, ◌⊎◌, ℕ, ◌<◌, ◌≤◌, List, [], ◌∷◌, length, take, slice_index_or, All, Any, AllPairs, codes, Option, Some, None, Result, Ok, Err, IsOk}
+use Rattle.std.specs.Prelude.{◌≡◌, ◌≢◌, ◌⊎◌, ℕ, ◌<◌, ◌≤◌, List, [], ◌∷◌, length, take, slice_index_or, Any, AllPairs, codes, Option, Some, None, Result, Ok, Err, IsOk}
 use Rattle.toml.specs.Data.{Data, Members, get_member, as_table}
 use Rattle.ags_isa.specs.declared.orders.Order.{Order}
 use Rattle.ags_isa.specs.Order.{order_number}
@@ -14,7 +14,7 @@ use Rattle.ags_machfile.specs.declared.mach_error.MachError.TheVariants.{SamePor
 use Rattle.ags_machfile.specs.declared.port_tables.Direction.{Direction}
 use Rattle.ags_machfile.specs.declared.port_tables.Direction.TheVariants.{Input, Output}
 use Rattle.ags_machfile.specs.OrderTable.{codes_in, times_in}
-use Rattle.ags_machfile.specs.PortTable.{entry_port, ports_behind, ports_in}
+use Rattle.ags_machfile.specs.PortTable.{entry_port, ports_in}
 use Rattle.ags_machfile.specs.MachineFile.{address_in}
 
 -- each order has its number in the list, which has 27

@@ -1,6 +1,6 @@
 -- What the values of a document say: whole numbers within limits; and how tests follow each other, so that the first one that
 -- fails is told.
-use Rattle.std.specs.Prelude.{ℕ, Bool, ◌&&◌, nat_le, ℤ, pos, negsuc, List, [], ◌∷◌, ◌++◌, Option, Some, None, Result, Ok, Err, if◌then◌else◌}
+use Rattle.std.specs.Prelude.{ℕ, ◌&&◌, nat_le, ℤ, pos, negsuc, List, [], ◌∷◌, ◌++◌, Option, Some, None, Result, Ok, Err, if◌then◌else◌}
 use Rattle.toml.specs.Data.{Data, as_integer, Items, no_items, item}
 
 -- a test, and then one on its value: where the first fails, its fault is told and the second is not made

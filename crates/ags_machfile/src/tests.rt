@@ -1,6 +1,6 @@
 //! Rows typed from the rules of docs/MACHINE.md, Machine files, and from its tables of codes, times and registers.
 
-use crate::{MachError, read};
+use crate::{MachError, laws, read};
 use ags_isa::{Codes, Order};
 use ags_ports::{Machine, Port, Times};
 use std::alloc::Global;
@@ -340,4 +340,16 @@ fn faults_of_orders(rt: HostRuntime) -> Result<(), Fail> {
         "MACHINE ERROR 4 SameCode ABS DVP",
     )?;
     Ok(())
+}
+
+#[test]
+fn laws_can_be_called() {
+    laws::table_gives_each_order_its_number();
+    laws::shared_code_is_told_by_the_first_pair();
+    laws::wrong_value_is_told_before_a_missing_address();
+    laws::array_gives_each_entry_its_register();
+    laws::document_gives_the_machine_of_its_parts();
+    laws::file_says_what_its_document_says();
+    laws::file_gives_a_machine_or_a_fault();
+    laws::empty_file_gives_the_standard_machine();
 }

@@ -1,4 +1,4 @@
-use Rattle.std.proofs.Common.{rules, ◌≡◌, ◌∙◌, ◌<◌, ◌≤◌, sym, refl, arith}
+use Rattle.std.proofs.Common.{rules, ◌∙◌, ◌≤◌, sym, refl}
 use Rattle.std.proofs.lemmas.Result.{err_from_is_err_and}
 use Rattle.std.proofs.lemmas.List.Elements.{All-set, All-replicate}
 use Rattle.ags_machfile.proofs.TableLemmas.{filled_none, filled_more, filled_fault, filled_whole}

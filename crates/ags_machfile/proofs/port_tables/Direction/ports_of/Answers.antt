@@ -1,4 +1,4 @@
-use Rattle.std.proofs.Common.{◌∙◌, sym, arith}
+use Rattle.std.proofs.Common.{sym, arith}
 use Rattle.ags_machfile.proofs.PortTableLemmas.{ports_listed-few, ports_listed-many}
 use Rattle.ags_machfile.proofs.port_tables.Direction.ports_of.Goals as goal
 
