@@ -117,7 +117,7 @@ module _ (told : Told) (arguments : List (List ℕ)) (old new : Option (List ℕ
       let (work, found, makes) = done_work told (plan_of arguments) so.answer.end so.text so.answer.ends so.answer.comes in
       let (machine, machine_is, way) = way_asked machine_file (Assemble name) work asked found in
       let (defined, defines, text_is) = listing_told told machine name bytes so.text work known way makes in
-      (machine, machine_is, defined, defines, so.sent ∙ ap (λ (o : Option (List ℕ)). appended o so.text) holds ∙ ap (λ (t : List ℕ). Some (held ++ t)) text_is)
+      (machine, machine_is, (defined, defines, so.sent ∙ ap (λ (o : Option (List ℕ)). appended o so.text) holds ∙ ap (λ (t : List ℕ). Some (held ++ t)) text_is))
 
   pub plays_what_is_defined : PlaysWhatIsDefined told arguments old new result
   plays_what_is_defined source script source_bytes script_bytes held machine_file is asked known too holds =
