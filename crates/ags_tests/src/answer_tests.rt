@@ -33,7 +33,7 @@ pub(crate) fn compare_over(
 }
 
 /// The same over the source `S` alone.
-fn compare(
+pub(crate) fn compare(
     rt: &(impl AllocGlobal + Abort),
     source: &[u8],
     line: &str,
@@ -53,26 +53,6 @@ fn lists_sources(rt: HostRuntime) -> Result<(), Fail> {
         compare(&rt, first, "assemble S", most, Status::Done, listing)?;
     }
     compare(&rt, b"", "assemble S", 9, Status::Done, "")
-}
-
-#[test]
-fn says_the_first_fault(rt: HostRuntime) -> Result<(), Fail> {
-    let twice = b" ORG /10\n OCT 1\n ORG /10\n OCT 2\n".as_slice();
-    let cases = [
-        (
-            b" CLA 1\n".as_slice(),
-            "SOURCE CARD 0000001 ERROR 0 NotYet\n",
-        ),
-        (twice, "SOURCE CARD 0000004 ERROR 16 PlaceTwice 0000002\n"),
-        (
-            b" ORG /10000\n".as_slice(),
-            "SOURCE CARD 0000001 ERROR 12 PlaceRange\n",
-        ),
-    ];
-    for (source, line) in cases {
-        compare(&rt, source, "assemble S", 7, Status::BadSource, line)?;
-    }
-    Ok(())
 }
 
 #[test]
@@ -219,8 +199,8 @@ fn says_the_first_fault_of_a_script(rt: HostRuntime) -> Result<(), Fail> {
 fn takes_files_in_their_order(rt: HostRuntime) -> Result<(), Fail> {
     let long = vec![in rt.alloc(); b'\n'; 4_194_305]?;
     let good = b" OCT 1\n".as_slice();
-    let bad = b" CLA 1\n".as_slice();
-    let fault = "SOURCE CARD 0000001 ERROR 0 NotYet\n";
+    let bad = b" HLT 1\n".as_slice();
+    let fault = "SOURCE CARD 0000001 ERROR 4 UnknownOperation\n";
     let files = [("S", good), ("B", bad), ("L", long.as_slice())];
     let rows = [
         ("run Z Y", Status::AbsentFile, "ABSENT Z\n"),

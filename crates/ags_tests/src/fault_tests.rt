@@ -40,7 +40,7 @@ impl FailingShelf {
     fn new(alloc: Global, failing: &'static str) -> Result<FailingShelf, Fail> {
         let mut held = SteadyShelf::new(alloc);
         held.add("S", b"* FIRST\n ORG /4000\nA OCT 7\n")?;
-        held.add("B", b" CLA 1\n")?;
+        held.add("B", b" HLT 1\n")?;
         held.add("P", b"SHOW REG\nSHOW CELL 4000\n")?;
         Ok(FailingShelf {
             held,
@@ -95,7 +95,7 @@ fn compare(
 // is absent or has a fault.
 #[test]
 fn read_faults_write_nothing(rt: HostRuntime) -> Result<(), Fail> {
-    let fault = "SOURCE CARD 0000001 ERROR 0 NotYet\n";
+    let fault = "SOURCE CARD 0000001 ERROR 4 UnknownOperation\n";
     let rows = [
         ("S", "assemble S", Status::ReadFault, ""),
         ("S", "run S P", Status::ReadFault, ""),

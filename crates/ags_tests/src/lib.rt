@@ -10,3 +10,5 @@ mod command_lines;
 mod fault_tests;
 #[cfg(test)]
 mod machine_tests;
+#[cfg(test)]
+mod source_tests;

@@ -66,6 +66,17 @@ fn takes_the_machine_file_first(rt: HostRuntime) -> Result<(), Fail> {
     Ok(())
 }
 
+// The words of a listing are those of the machine's codes.
+#[test]
+fn lists_words_of_other_machines(rt: HostRuntime) -> Result<(), Fail> {
+    let files = [
+        ("S", b" CLA /20\n".as_slice()),
+        ("M", EXCHANGED.as_bytes()),
+    ];
+    let listing = "0000001 0000 100020  CLA /20\n";
+    compare_over(&rt, &files, "assemble S M", 9, Status::Done, listing)
+}
+
 // Other codes, and an input register that holds its word once.
 #[test]
 fn plays_on_other_machines(rt: HostRuntime) -> Result<(), Fail> {

@@ -1,0 +1,134 @@
+//! The source language through the program. The expected lines are typed by hand from docs/SOURCE.md.
+
+use crate::answer_tests::compare;
+use ags_top::Status;
+use std::process::Abort;
+use std::test::Fail;
+
+/// A source, and the line of its first fault.
+type Faulty<'a> = (&'a [u8], &'static str);
+
+/// Compares what each source is refused with.
+fn compare_faults(
+    rt: &(impl AllocGlobal + Abort),
+    rows: &[Faulty<'_>],
+) -> Result<(), Fail> {
+    for (source, line) in rows.iter().copied() {
+        compare(rt, source, "assemble S", 90, Status::BadSource, line)?;
+    }
+    Ok(())
+}
+
+#[test]
+fn says_what_is_no_card(rt: HostRuntime) -> Result<(), Fail> {
+    let long = vec![in rt.alloc(); b'*'; 121]?;
+    let rows: [Faulty; 23] = [
+        (b"\0".as_slice(), "SOURCE CARD 0000001 ERROR 1 BadByte\n"),
+        (b"* \xff\n".as_slice(), "SOURCE CARD 0000001 ERROR 1 BadByte\n"),
+        (b" OCT 1\r\r\n".as_slice(), "SOURCE CARD 0000001 ERROR 1 BadByte\n"),
+        (long.as_slice(), "SOURCE CARD 0000001 ERROR 2 LongCard\n"),
+        (b"a OCT 1\n".as_slice(), "SOURCE CARD 0000001 ERROR 3 BadSymbol\n"),
+        (b"1234 OCT 1\n".as_slice(), "SOURCE CARD 0000001 ERROR 3 BadSymbol\n"),
+        (b" EQU\n".as_slice(), "SOURCE CARD 0000001 ERROR 3 BadSymbol\n"),
+        (b"A\n".as_slice(), "SOURCE CARD 0000001 ERROR 4 UnknownOperation\n"),
+        (b"CLA\n".as_slice(), "SOURCE CARD 0000001 ERROR 4 UnknownOperation\n"),
+        (b" * OCT 1\n".as_slice(), "SOURCE CARD 0000001 ERROR 4 UnknownOperation\n"),
+        (b" CLA\n".as_slice(), "SOURCE CARD 0000001 ERROR 5 MissingOperand\n"),
+        (b" OCT 1,2\n".as_slice(), "SOURCE CARD 0000001 ERROR 6 ExtraOperand\n"),
+        (b" ORG 5,1\n".as_slice(), "SOURCE CARD 0000001 ERROR 6 ExtraOperand\n"),
+        (b" CLA 5,2\n".as_slice(), "SOURCE CARD 0000001 ERROR 7 BadExpression\n"),
+        (b" CLA 5,1,1\n".as_slice(), "SOURCE CARD 0000001 ERROR 7 BadExpression\n"),
+        (b" CLA 1+\n".as_slice(), "SOURCE CARD 0000001 ERROR 7 BadExpression\n"),
+        (b" CLA 1234567\n".as_slice(), "SOURCE CARD 0000001 ERROR 7 BadExpression\n"),
+        (b" DEC 1B61\n".as_slice(), "SOURCE CARD 0000001 ERROR 8 BadDecimal\n"),
+        (b" DEC 1E13\n".as_slice(), "SOURCE CARD 0000001 ERROR 8 BadDecimal\n"),
+        (b" DEC 00000000001\n".as_slice(), "SOURCE CARD 0000001 ERROR 8 BadDecimal\n"),
+        (b" OCT 8\n".as_slice(), "SOURCE CARD 0000001 ERROR 9 BadOctal\n"),
+        (b" HLT 1\n OCT 1\0\n".as_slice(), "SOURCE CARD 0000001 ERROR 4 UnknownOperation\n"),
+        (b" OCT 1\0\n HLT 1\n".as_slice(), "SOURCE CARD 0000001 ERROR 1 BadByte\n"),
+    ];
+    compare_faults(&rt, &rows)
+}
+
+#[test]
+fn says_what_is_wrong_with_places_and_words(rt: HostRuntime) -> Result<(), Fail> {
+    let rows: [Faulty; 17] = [
+        (b"A OCT 1\nA OCT 2\n".as_slice(), "SOURCE CARD 0000002 ERROR 10 SymbolTwice 0000001\n"),
+        (b"X EQU Y\nY EQU 1\n".as_slice(), "SOURCE CARD 0000001 ERROR 11 UndefinedEarly\n"),
+        (b"A EQU A\n".as_slice(), "SOURCE CARD 0000001 ERROR 11 UndefinedEarly\n"),
+        (b" ORG 4096\n".as_slice(), "SOURCE CARD 0000001 ERROR 12 PlaceRange\n"),
+        (b" BSS -1\n".as_slice(), "SOURCE CARD 0000001 ERROR 12 PlaceRange\n"),
+        (b" OCT 1\n BSS 4096\n".as_slice(), "SOURCE CARD 0000002 ERROR 12 PlaceRange\n"),
+        (b"A EQU 262144\n".as_slice(), "SOURCE CARD 0000001 ERROR 12 PlaceRange\n"),
+        (b" ORG 4095\n OCT 1\n OCT 1\n".as_slice(), "SOURCE CARD 0000003 ERROR 12 PlaceRange\n"),
+        (b" CLA X\n".as_slice(), "SOURCE CARD 0000001 ERROR 13 Undefined\n"),
+        (b" TRA 4096\n".as_slice(), "SOURCE CARD 0000001 ERROR 14 AddressRange 4096\n"),
+        (b" TRA -1\n".as_slice(), "SOURCE CARD 0000001 ERROR 14 AddressRange -1\n"),
+        (b" DEC 1B0\n".as_slice(), "SOURCE CARD 0000001 ERROR 15 ValueRange\n"),
+        (b" ORG /10\n OCT 1\n ORG /10\n OCT 2\n".as_slice(), "SOURCE CARD 0000004 ERROR 16 PlaceTwice 0000002\n"),
+        // the phase of cards comes before that of places, and that before words
+        (b" CLA 1\n BSS -1\n XYZ\n".as_slice(), "SOURCE CARD 0000003 ERROR 4 UnknownOperation\n"),
+        (b" CLA X\n BSS -1\n".as_slice(), "SOURCE CARD 0000002 ERROR 12 PlaceRange\n"),
+        // of two faults of a card the lesser number
+        (b"A OCT 1\nA ORG 4096\n".as_slice(), "SOURCE CARD 0000002 ERROR 10 SymbolTwice 0000001\n"),
+        (b" OCT 1\n ORG 0\n DEC 1B0\n".as_slice(), "SOURCE CARD 0000003 ERROR 15 ValueRange\n"),
+    ];
+    compare_faults(&rt, &rows)
+}
+
+/// A source, and its listing.
+type Listed = (&'static [u8], &'static str);
+
+// Words of orders, decimals and octal numbers; symbols before and behind their cards; places that cards set.
+#[test]
+fn lists_words(rt: HostRuntime) -> Result<(), Fail> {
+    let rows: [Listed; 10] = [
+        (
+            b" TRA /4001\n ADD /200,1\n COM ANY REMARK\n",
+            "0000001 0000 404001  TRA /4001\n0000002 0001 230200  ADD /200,1\n0000003 0002 600000  COM ANY REMARK\n",
+        ),
+        (
+            b" DEC 1.5B3\n DEC -1B0\n DEC 0.5B17\n DEC -0.5B17\n DEC -0\n",
+            "0000001 0000 060000  DEC 1.5B3\n0000002 0001 400000  DEC -1B0\n0000003 0002 000001  DEC 0.5B17\n0000004 0003 777777  DEC -0.5B17\n0000005 0004 000000  DEC -0\n",
+        ),
+        (b"A1 DEC 3E-1B2\n", "0000001 0000 023146 A1 DEC 3E-1B2\n"),
+        (
+            b" CLA Y\nY EQU 1\n",
+            "0000001 0000 200001  CLA Y\n0000002             Y EQU 1\n",
+        ),
+        // an ORG's symbol has the new place, a BSS's the old one, and an asterisk is the place of its card
+        (
+            b"A ORG /20\nB BSS *-16\n CLA A\n CLA B\n TRA *+1\n",
+            "0000001             A ORG /20\n0000002             B BSS *-16\n0000003 0020 200020  CLA A\n0000004 0021 200020  CLA B\n0000005 0022 400023  TRA *+1\n",
+        ),
+        // what stands behind the first END isn't read
+        (
+            b" OCT -1\r\n END\r\n\0 NO CARD\n",
+            "0000001 0000 777777  OCT -1\n0000002              END\n",
+        ),
+        // the symbol of an END behind the last place
+        (
+            b" ORG 4095\n OCT 7\nTOP END",
+            "0000001              ORG 4095\n0000002 7777 000007  OCT 7\n0000003             TOP END\n",
+        ),
+        // tabs, a symbol that is spelled as an operation, and an index on an order that doesn't count it
+        (
+            b"ORG\tOCT\t7\t7\n TIX ORG,1\n",
+            "0000001 0000 000007 ORG\tOCT\t7\t7\n0000002 0001 430000  TIX ORG,1\n",
+        ),
+        (b" OCT 1 ,2\n", "0000001 0000 000001  OCT 1 ,2\n"),
+        (b"\r\n\n", "0000001             \n0000002             \n"),
+    ];
+    for (source, listing) in rows {
+        compare(&rt, source, "assemble S", 90, Status::Done, listing)?;
+    }
+    Ok(())
+}
+
+// A card of 120 bytes, and an expression that fills it.
+#[test]
+fn takes_the_longest_card(rt: HostRuntime) -> Result<(), Fail> {
+    let source = b" CLA 1+1+1+1+1+1+1+1+1+1+1+1+1+1+1+1+1+1+1+1+1+1+1+1+1+1+1+1+1+1+1+1+1+1+1+1+1+1+1+1+1+1+1+1+1+1+1+1+1+1+1+1+1+1+1+1+1+1\n".as_slice();
+    let listing = "0000001 0000 200072  CLA 1+1+1+1+1+1+1+1+1+1+1+1+1+1+1+1+1+1+1+1+1+1+1+1+1+1+1+1+1+1+1+1+1+1+1+1+1+1+1+1+1+1+1+1+1+1+1+1+1+1+1+1+1+1+1+1+1+1\n";
+    compare(&rt, source, "assemble S", 200, Status::Done, listing)
+}
