@@ -63,6 +63,17 @@ fn cards_keep_their_spans(rt: HostRuntime) {
     assert_eq!(rt; assembled(&rt, rt.alloc(), b"").cards.len(), 0);
 }
 
+/// Compares the line of a source's first fault with the one that is wanted.
+fn expect_fault(rt: &impl Abort, alloc: Global, source: &[u8], wanted: &str) -> Result<(), Fail> {
+    assert!(rt; source.len() <= 4_194_304);
+    let Err(AssembleError::Source(fault)) = assemble(alloc, source, &Codes::standard()) else {
+        panic!(rt; "{wanted}");
+    };
+    let line = format!(in alloc; "{fault}")?;
+    assert!(rt; line.as_str() == wanted, "{wanted}");
+    Ok(())
+}
+
 #[test]
 fn first_faults_are_told(rt: HostRuntime) -> Result<(), Fail> {
     let rows: [(&[u8], &str); 9] = [
@@ -97,16 +108,8 @@ fn first_faults_are_told(rt: HostRuntime) -> Result<(), Fail> {
             "SOURCE CARD 0000003 ERROR 16 PlaceTwice 0000001",
         ),
     ];
-    let alloc = rt.alloc();
     for (source, wanted) in rows {
-        assert!(rt; source.len() <= 4_194_304);
-        let Err(AssembleError::Source(fault)) = assemble(alloc, source, &Codes::standard()) else {
-            panic!(rt; "{wanted}");
-        };
-        assert!(rt;
-            format!(in alloc; "{fault}")?.as_str() == wanted,
-            "{wanted}"
-        );
+        expect_fault(&rt, rt.alloc(), source, wanted)?;
     }
     each_card_has_its_definition();
     each_text_has_a_meaning();

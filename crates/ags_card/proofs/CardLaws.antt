@@ -1,4 +1,7 @@
 -- Lines and cards: what a line is read as is the card that it spells, both ways.
+--
+-- The lemmas that the crates above may cite, each of them behind a clause of `reading_laws.rt`: reading-spells and
+-- spelled-reading.
 use Rattle.std.proofs.Common.{◌≡◌, ◌≢◌, ℕ, ◌<◌, ◌==◌, ◌||◌, Bool, true, false, not, List, [], ◌∷◌, ◌++◌, length, Option, Some, None, unwrap_or, codes, nat_eq, refl, sym, ap, ◌∙◌, inl, inr, arith}
 use Rattle.std.specs.Prelude.{nat_lt, slice_index, Result, Ok}
 use Rattle.std.specs.Cmp.Lexicographic.{pointwise, same_text}

@@ -2,8 +2,8 @@ pub mod BodyLaws
 pub mod ByteLemmas
 pub mod CardLaws
 pub mod ExpressionLaws
-pub mod FaultLaws
 pub mod FieldLemmas
+pub mod LeastFaultLaws
 pub mod LimitLaws
 pub mod NumberLemmas
 pub mod OperandLaws
@@ -11,3 +11,4 @@ pub mod OperationLemmas
 pub mod ResultLemmas
 pub mod SymbolLemmas
 pub mod TermLemmas
+pub mod ToldFaultLaws

@@ -1,4 +1,7 @@
 -- What holds of each card that a line spells: its symbol, its limits, and the orders without an operand.
+--
+-- The lemmas that the crates above may cite, each of them behind a clause of `reading_laws.rt`: card_limits,
+-- card_symbol, equ_has_symbol, comment_no_symbol and bare_order.
 use Rattle.std.proofs.Common.{◌≡◌, ℕ, ◌+◌, ◌*◌, ◌^◌, ◌<◌, ◌≤◌, Bool, true, false, List, [], ◌∷◌, ◌++◌, length, Option, Some, None, unwrap_or, refl, sym, ap, ◌∙◌, inl, inr, arith}
 use Rattle.std.specs.Prelude.{All, IfSome, IsSome, Ok, neg_ℤ, pos}
 use Rattle.std.proofs.lemmas.List.{length-append}

@@ -1,16 +1,15 @@
 -- Operations and their names.
-use Rattle.std.proofs.Common.{◌≡◌, ℕ, ◌<◌, length, Bool, true, false, ◌==◌, List, [], ◌∷◌, Option, Some, None, refl, sym, ap, ◌∙◌, nat_eq, inl, inr}
+use Rattle.std.proofs.Common.{◌≡◌, ℕ, ◌<◌, length, Bool, true, List, [], ◌∷◌, Option, Some, None, refl, sym, ap, ◌∙◌, nat_eq, inl, inr}
 use Rattle.std.specs.Prelude.{IfSome}
 use Rattle.std.specs.List.{find}
 use Rattle.std.specs.Cmp.Lexicographic.{pointwise, same_text}
-use Rattle.std.proofs.lemmas.Bool.{cases_Bool, or_from, ne_eqb}
+use Rattle.std.proofs.lemmas.Bool.{cases_Bool}
 use Rattle.ags_isa.specs.declared.orders.Order.{Order}
 use Rattle.ags_isa.specs.declared.orders.Order.TheVariants.{Abs, Add, Adz, Als, Axt, Cla, Clz, Com, Dly, Dvp, Inp, Ldq, Lls, Lrs, Mpr, Mpy, Mpz, Out, Sto, Stq, Sub, Suz, Tix, Tmi, Tov, Tra, Tsq}
-use Rattle.ags_isa.specs.Order.{order_number, order_name}
-use Rattle.ags_isa.proofs.OrderLemmas.{order_number-injective}
+use Rattle.ags_isa.specs.Order.{order_name}
 use Rattle.ags_card.specs.declared.operations.Operation.{Operation}
 use Rattle.ags_card.specs.declared.operations.Operation.TheVariants as op
-use Rattle.ags_card.specs.Operation.{operation_name, operation_named, all_operations, is_bare}
+use Rattle.ags_card.specs.Operation.{operation_name, operation_named, all_operations}
 use Rattle.ags_card.proofs.NumberLemmas.{same_answer}
 use Rattle.ags_card.proofs.ByteLemmas.{list_cases}
 
@@ -87,10 +86,3 @@ pub named : (text : List ℕ) (result : Option Operation) → IfSome result (λ 
 named text result found only =
     same_answer (λ operation. operation_name operation ≡ text) result (operation_named text) found only (named_name text)
     (λ operation is. ap operation_named (sym is) ∙ name_named operation)
-
--- orders other than ABS and COM are not bare
-pub not_bare : (order : Order) → (order ≡ Abs → ⊥) → (order ≡ Com → ⊥) → is_bare order ≡ false
-not_bare order not_abs not_com =
-    or_from (order_number order == order_number Abs) (order_number order == order_number Com)
-    (ne_eqb (order_number order) (order_number Abs) (λ same. not_abs (order_number-injective order Abs same)))
-    (ne_eqb (order_number order) (order_number Com) (λ same. not_com (order_number-injective order Com same)))

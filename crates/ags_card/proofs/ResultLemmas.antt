@@ -6,10 +6,6 @@ use Rattle.ags_card.specs.declared.cards.CardFault.{CardFault}
 use Rattle.ags_card.specs.Spelling.{fault_number}
 use Rattle.ags_card.specs.Reading.{checked, mapped}
 
--- an answer is no fault
-ok_not_err : {T : Type 0} (x : T) (fault : CardFault) → ◌≡◌ {A = Result T CardFault} (Ok x) (Err fault) → ⊥
-ok_not_err x fault is = absurd (cc)
-
 pub checked_ok : {T : Type 0} (test : Bool) (fault : CardFault) (next : Result T CardFault) (x : T) → checked test fault next ≡ Ok x → (test ≡ true) × (next ≡ Ok x)
 checked_ok true fault next x is = (refl, is)
 checked_ok false fault next x is = absurd (cc)
@@ -53,10 +49,6 @@ option_map_some f None y is = absurd (cc)
 pub none_found : {T : Type 0} (P : T → Type 0) (found : Option T) → ((x : T) → found ≡ Some x → P x) → ((x : T) → P x → ⊥) → found ≡ None
 none_found P None tells none = refl
 none_found P (Some x) tells none = absurd (none x (tells x refl))
-
--- and where nothing is found, nothing has what is found of each that has it
-pub found_none : {T : Type 0} (P : T → Type 0) (found : Option T) → found ≡ None → ((x : T) → P x → found ≡ Some x) → (x : T) → P x → ⊥
-found_none P found none finds x is = let some = finds x is in let both : ◌≡◌ {A = Option _} None (Some x) = (cc) in absurd (cc)
 
 -- ---- a fault of that number at most
 

@@ -1,6 +1,6 @@
 -- what the public contracts cite
 pub mod Refusal
 pub mod Symbol
+pub mod View
 -- what serves inside
 pub mod Bound
-pub mod View
