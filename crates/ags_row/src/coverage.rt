@@ -116,7 +116,11 @@ pub fn covers<D: Domain>(
 ) -> bool
     ensures { IsTrue result ↔ Covers D.meaning target.now base.now post.now limits.now }
 {
-    covers_registers(target, post)
-        && covers_indicator(&target.v(), post.v0, post.v1)
-        && covers_cells(target.at(), base, limits, post)
+    if !covers_registers(target, post) {
+        return false;
+    }
+    if !covers_indicator(&target.v(), post.v0, post.v1) {
+        return false;
+    }
+    covers_cells(target.at(), base, limits, post)
 }

@@ -2,7 +2,7 @@
 //! which index and which indicator may stand. Limits say what every other cell and each port may hold, and a post what one order
 //! leaves of a row. It stands on `ags_domain` for the sets of words. `covers` says exactly whether a row holds all that a post
 //! says. No call takes memory but the one that makes limits.
-#![tactic(auto)]
+#![tactic(auto, unfolding(crate::specs::Limit::cell_limit, crate::specs::Limit::input_limit, crate::specs::Limit::output_limit, crate::specs::Limit::is_named, crate::specs::Cover::cell_value, crate::specs::Cover::post_value))]
 
 mod ats;
 mod cells;
