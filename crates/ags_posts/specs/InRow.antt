@@ -7,7 +7,7 @@ use Rattle.ags_ports.specs.declared.events.Phase.TheVariants.{Running}
 use Rattle.ags_ports.specs.Port.{place_of, register_at}
 use Rattle.ags_ports.specs.State.{State, cell, word_here}
 use Rattle.ags_row.specs.Flag.{has_flag, indicator_number}
-use Rattle.ags_row.specs.Limit.{Limiting, input_limit}
+use Rattle.ags_row.specs.Limit.{Limiting, cell_limit, input_limit}
 use Rattle.ags_row.specs.Cover.{cell_value}
 use Rattle.ags_row.specs.declared.rows.Row.{Row}
 use Rattle.ags_posts.specs.Case.{Case}
@@ -41,3 +41,7 @@ pub record IsInCase {D : Type 0} (meaning : Meaning D) (c : Case D) (s : State) 
   pub index : s.index ≡ c.index
   pub indicator : s.indicator ≡ c.indicator
   pub inputs : AreInputsHeld meaning c.machine c.limits s
+
+-- each erasable cell holds a word of its limit
+abbrev pub AreCellsInLimits : {D : Type 0} → Meaning D → Limiting D → State → Type 0
+AreCellsInLimits meaning limits s = (address : ℕ) → address < 2048 → meaning.held (cell_limit limits address) (cell s address) ≡ true
