@@ -11,7 +11,7 @@ ghost use Rattle.ags_row.specs.Cover.{Covers};
 ghost use Rattle.ags_row.specs.declared.posts.Post.{Post};
 ghost use Rattle.ags_row.specs.declared.rows.Row.{Row};
 ghost use Rattle.ags_posts.specs.Case.{Case};
-ghost use Rattle.ags_posts.specs.Posts.{IsPostsOfCase};
+ghost use Rattle.ags_posts.specs.Posts.{Outcome, IsPostsOfCase};
 ghost use Rattle.ags_posts.specs.InRow.{IsInRow, IsInCase, HasFixedWords, AreCellsInLimits};
 ghost use Rattle.ags_posts.specs.OneStep.{Agrees, Follows};
 ghost use Rattle.ags_posts.specs.declared.answers.PostPair.{PostPair};
@@ -39,4 +39,10 @@ pub fn step_that_follows_keeps_cells_in_limits<D: Domain>()
     ensures { (c : Case D) (s : State) (report : Report) (after : State) (pair : PostPair D) → IsState c.machine s
         → Steps c.machine s Step report after → Follows D.meaning c pair report after
         → AreCellsInLimits D.meaning c.limits s → AreCellsInLimits D.meaning c.limits after }
+{}
+
+/// A case has one answer: its posts, or its stop.
+pub fn case_has_one_answer<D: Domain>()
+    ensures { (c : Case D) (one other : Outcome D) → IsMachine c.machine → IsPostsOfCase D.meaning c one
+        → IsPostsOfCase D.meaning c other → one ≡ other }
 {}
