@@ -34,3 +34,15 @@ IsCode meaning image limits row (Some set) = MatchBool (is_erasable row.location
     (AreFew meaning (cell_value row limits row.location) (Some set))
     (set.list ≡ word_at image row.location ∷ [])
 IsCode meaning image limits row None = (is_erasable row.location ≡ true) × AreFew meaning (cell_value row limits row.location) None
+
+-- the case of these parts
+abbrev pub case_of : {D : Type 0} → Machine → List (Option ℕ) → Limiting D → Row D → (word index : ℕ) → Bool → Case D
+case_of machine image limits row word index indicator = record {
+  machine = machine;
+  image = image;
+  limits = limits;
+  row = row;
+  word = word;
+  index = index;
+  indicator = indicator;
+}
