@@ -1,9 +1,10 @@
 //! A case, and what stays as it is in it.
 
 ghost use Rattle.std.specs.Prelude.{◌≡◌, ◌<◌};
-ghost use Rattle.ags_posts.specs.Case.{is_erasable, next_of_row};
+ghost use Rattle.ags_posts.specs.Case.{next_of_row};
 ghost use Rattle.ags_posts.specs.Told.{IsTold, AreCellsTold};
 ghost use Rattle.ags_posts.specs.Line.{moves_on, cell_in_case, code_cell, IsPostOf};
+ghost use Rattle.ags_posts.specs.Posts.{loads, frees_q};
 
 use ags_domain::Domain;
 use ags_image::Image;
@@ -86,6 +87,20 @@ impl<'a, D: Domain> Case<'a, D> {
         }
     }
 
+    /// What A may hold.
+    pub(crate) fn a(&self) -> D
+        ensures { result ≡ self.now.row.a }
+    {
+        self.row.a()
+    }
+
+    /// What Q may hold.
+    pub(crate) fn q(&self) -> D
+        ensures { result ≡ self.now.row.q }
+    {
+        self.row.q()
+    }
+
     /// The post of an order that changes nothing and moves on.
     pub(crate) fn moves_on(&self) -> Post<D>
         ensures { IsPostOf D.meaning self.now (moves_on self.now) result }
@@ -99,6 +114,37 @@ impl<'a, D: Domain> Case<'a, D> {
             v1: self.indicator,
             stored: None,
             code: self.code_cell(),
+        }
+    }
+
+    /// The post of an order that goes to an address.
+    pub(crate) fn goes_to(&self, e: u16) -> Post<D>
+        ensures { IsPostOf D.meaning self.now (record (moves_on self.now) { next = e }) result }
+    {
+        Post {
+            next: e,
+            ..self.moves_on()
+        }
+    }
+
+    /// The post of an order that takes the cell to A.
+    pub(crate) fn loads(&self, e: u16) -> Post<D>
+        requires { e < 4096 }
+        ensures { IsPostOf D.meaning self.now (loads D.meaning self.now e) result }
+    {
+        Post {
+            a: self.cell(e),
+            ..self.moves_on()
+        }
+    }
+
+    /// The post of an order that leaves any Q.
+    pub(crate) fn frees_q(&self) -> Post<D>
+        ensures { IsPostOf D.meaning self.now (frees_q D.meaning self.now) result }
+    {
+        Post {
+            q: D::full(),
+            ..self.moves_on()
         }
     }
 }

@@ -16,10 +16,7 @@ impl<'a, D: Domain> Case<'a, D> {
         requires { e < 4096 }
         ensures { (y : ℕ) → IsPosts D.meaning self.now Cla e y result }
     {
-        Ok(single(Post {
-            a: self.cell(e),
-            ..self.moves_on()
-        }))
+        Ok(single(self.loads(e)))
     }
 
     /// LDQ: Q becomes the cell.
@@ -40,7 +37,7 @@ impl<'a, D: Domain> Case<'a, D> {
         if e >= FIXED {
             return Err(Stop::FixedWrite { address: e });
         }
-        self.stored(e, self.row.a(), self.moves_on())
+        self.stored(e, self.a(), self.moves_on())
     }
 
     /// STQ: the cell becomes Q.
@@ -50,7 +47,7 @@ impl<'a, D: Domain> Case<'a, D> {
         if e >= FIXED {
             return Err(Stop::FixedWrite { address: e });
         }
-        self.stored(e, self.row.q(), self.moves_on())
+        self.stored(e, self.q(), self.moves_on())
     }
 
     /// CLZ: as CLA, and then the cell is cleared.
@@ -61,12 +58,6 @@ impl<'a, D: Domain> Case<'a, D> {
         if e >= FIXED {
             return Err(Stop::FixedWrite { address: e });
         }
-        self.cleared(
-            e,
-            Post {
-                a: self.cell(e),
-                ..self.moves_on()
-            },
-        )
+        self.cleared(e, self.loads(e))
     }
 }

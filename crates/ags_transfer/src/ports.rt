@@ -32,7 +32,7 @@ impl<'a, D: Domain> Case<'a, D> {
     {
         match self.machine.ports.find_output(y) {
             Some(_) => {
-                let value = self.row.a();
+                let value = self.a();
                 if value.within(&self.limits.output(y)) {
                     Ok(single(self.moves_on()))
                 } else {

@@ -15,7 +15,7 @@ impl<'a, D: Domain> Case<'a, D> {
         ensures { (y : ℕ) → IsPosts D.meaning self.now Mpy e y result }
     {
         let m = self.cell(e);
-        self.computed(self.row.a().mul_high(&m), self.frees_q())
+        self.computed(self.a().mul_high(&m), self.frees_q())
     }
 
     /// MPR: A becomes the rounded product, and Q is that of MPY.
@@ -24,7 +24,7 @@ impl<'a, D: Domain> Case<'a, D> {
         ensures { (y : ℕ) → IsPosts D.meaning self.now Mpr e y result }
     {
         let m = self.cell(e);
-        self.computed(self.row.a().mul_round(&m), self.frees_q())
+        self.computed(self.a().mul_round(&m), self.frees_q())
     }
 
     /// MPZ: as MPR, and then the cell is cleared.
@@ -36,7 +36,7 @@ impl<'a, D: Domain> Case<'a, D> {
             return Err(Stop::FixedWrite { address: e });
         }
         let m = self.cell(e);
-        self.computed_and_cleared(e, self.row.a().mul_round(&m), self.frees_q())
+        self.computed_and_cleared(e, self.a().mul_round(&m), self.frees_q())
     }
 
     /// DVP: A becomes the quotient of A and Q by the cell.
@@ -45,6 +45,6 @@ impl<'a, D: Domain> Case<'a, D> {
         ensures { (y : ℕ) → IsPosts D.meaning self.now Dvp e y result }
     {
         let m = self.cell(e);
-        self.computed(self.row.a().quotient(&m), self.moves_on())
+        self.computed(self.a().quotient(&m), self.moves_on())
     }
 }

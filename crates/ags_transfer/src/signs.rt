@@ -2,8 +2,7 @@
 
 ghost use Rattle.std.specs.Prelude.{◌≡◌, ◌<◌, ◌%◌, ℕ};
 ghost use Rattle.ags_isa.specs.declared.orders.Order.TheVariants.{Abs, Als, Com, Lls, Lrs};
-ghost use Rattle.ags_posts.specs.Line.{IsPostOf};
-ghost use Rattle.ags_posts.specs.Posts.{IsPosts, frees_q};
+ghost use Rattle.ags_posts.specs.Posts.{IsPosts};
 
 use crate::cases::Case;
 use crate::deciding::single;
@@ -24,38 +23,28 @@ impl<'a, D: Domain> Case<'a, D> {
     pub(crate) fn com(&self) -> Result<PostPair<D>, Stop<D>>
         ensures { (e y : ℕ) → IsPosts D.meaning self.now Com e y result }
     {
-        self.computed(self.row.a().com(), self.moves_on())
+        self.computed(self.a().com(), self.moves_on())
     }
 
     /// ABS: A becomes its size.
     pub(crate) fn abs(&self) -> Result<PostPair<D>, Stop<D>>
         ensures { (e y : ℕ) → IsPosts D.meaning self.now Abs e y result }
     {
-        self.computed(self.row.a().abs(), self.moves_on())
+        self.computed(self.a().abs(), self.moves_on())
     }
 
     /// ALS: A is shifted to the left.
     pub(crate) fn als(&self, y: u16) -> Result<PostPair<D>, Stop<D>>
         ensures { (e : ℕ) → IsPosts D.meaning self.now Als e y result }
     {
-        self.computed(self.row.a().als(count_of(y)), self.moves_on())
-    }
-
-    /// The post of an order that leaves any Q, and moves on.
-    pub(crate) fn frees_q(&self) -> Post<D>
-        ensures { IsPostOf D.meaning self.now (frees_q D.meaning self.now) result }
-    {
-        Post {
-            q: D::full(),
-            ..self.moves_on()
-        }
+        self.computed(self.a().als(count_of(y)), self.moves_on())
     }
 
     /// LLS: A and Q are shifted to the left.
     pub(crate) fn lls(&self, y: u16) -> Result<PostPair<D>, Stop<D>>
         ensures { (e : ℕ) → IsPosts D.meaning self.now Lls e y result }
     {
-        self.computed(self.row.a().lls_high(count_of(y)), self.frees_q())
+        self.computed(self.a().lls_high(count_of(y)), self.frees_q())
     }
 
     /// LRS: A and Q are shifted to the right.
@@ -63,7 +52,7 @@ impl<'a, D: Domain> Case<'a, D> {
         ensures { (e : ℕ) → IsPosts D.meaning self.now Lrs e y result }
     {
         Ok(single(Post {
-            a: self.row.a().lrs_high(count_of(y)),
+            a: self.a().lrs_high(count_of(y)),
             ..self.frees_q()
         }))
     }

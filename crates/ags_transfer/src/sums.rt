@@ -15,7 +15,7 @@ impl<'a, D: Domain> Case<'a, D> {
         ensures { (y : ℕ) → IsPosts D.meaning self.now Add e y result }
     {
         let m = self.cell(e);
-        self.computed(self.row.a().add(&m), self.moves_on())
+        self.computed(self.a().add(&m), self.moves_on())
     }
 
     /// SUB: A becomes A less the cell.
@@ -24,7 +24,7 @@ impl<'a, D: Domain> Case<'a, D> {
         ensures { (y : ℕ) → IsPosts D.meaning self.now Sub e y result }
     {
         let m = self.cell(e);
-        self.computed(self.row.a().sub(&m), self.moves_on())
+        self.computed(self.a().sub(&m), self.moves_on())
     }
 
     /// ADZ: as ADD, and then the cell is cleared.
@@ -36,7 +36,7 @@ impl<'a, D: Domain> Case<'a, D> {
             return Err(Stop::FixedWrite { address: e });
         }
         let m = self.cell(e);
-        self.computed_and_cleared(e, self.row.a().add(&m), self.moves_on())
+        self.computed_and_cleared(e, self.a().add(&m), self.moves_on())
     }
 
     /// SUZ: as SUB, and then the cell is cleared.
@@ -48,6 +48,6 @@ impl<'a, D: Domain> Case<'a, D> {
             return Err(Stop::FixedWrite { address: e });
         }
         let m = self.cell(e);
-        self.computed_and_cleared(e, self.row.a().sub(&m), self.moves_on())
+        self.computed_and_cleared(e, self.a().sub(&m), self.moves_on())
     }
 }

@@ -1,7 +1,7 @@
 //! The orders that say where the machine goes on, and those that set and count the index register.
 
 ghost use Rattle.std.specs.Prelude.{◌≡◌, ◌<◌, ℕ};
-ghost use Rattle.ags_domain.specs.Domain.{is_negative, is_not_negative};
+ghost use Rattle.ags_domain.specs.Domain.{IsPart, is_negative, is_not_negative};
 ghost use Rattle.ags_isa.specs.declared.orders.Order.TheVariants.{Axt, Dly, Tix, Tmi, Tov, Tra, Tsq};
 ghost use Rattle.ags_posts.specs.Line.{Line, IsPostOf};
 ghost use Rattle.ags_posts.specs.Posts.{IsPosts, IsPostOfPart, pair_of};
@@ -44,20 +44,29 @@ impl<'a, D: Domain> Case<'a, D> {
     pub(crate) fn tra(&self, e: u16) -> Result<PostPair<D>, Stop<D>>
         ensures { (y : ℕ) → IsPosts D.meaning self.now Tra e y result }
     {
-        Ok(single(Post {
-            next: e,
-            ..self.moves_on()
-        }))
+        Ok(single(self.goes_to(e)))
+    }
+
+    /// The part of A whose words are negative.
+    fn negative_part(&self) -> Option<D>
+        ensures { IsPart D.meaning is_negative self.now.row.a result }
+    {
+        self.a().negative()
+    }
+
+    /// The part of A whose words aren't negative.
+    fn rest_part(&self) -> Option<D>
+        ensures { IsPart D.meaning is_not_negative self.now.row.a result }
+    {
+        self.a().rest()
     }
 
     /// TMI: goes there where A is negative.
     pub(crate) fn tmi(&self, e: u16) -> Result<PostPair<D>, Stop<D>>
         ensures { (y : ℕ) → IsPosts D.meaning self.now Tmi e y result }
     {
-        let stays = self.moves_on();
-        let a = self.row.a();
-        let taken = with_part(a.negative(), Post { next: e, ..stays });
-        let rest = with_part(a.rest(), stays);
+        let taken = with_part(self.negative_part(), self.goes_to(e));
+        let rest = with_part(self.rest_part(), self.moves_on());
         Ok(pair_of(taken, rest))
     }
 
@@ -120,9 +129,6 @@ impl<'a, D: Domain> Case<'a, D> {
     pub(crate) fn dly(&self, y: u16) -> Result<PostPair<D>, Stop<D>>
         ensures { (e : ℕ) → IsPosts D.meaning self.now Dly e y result }
     {
-        Ok(single(Post {
-            next: y,
-            ..self.moves_on()
-        }))
+        Ok(single(self.goes_to(y)))
     }
 }
