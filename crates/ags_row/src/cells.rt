@@ -51,13 +51,23 @@ pub(crate) fn ascend<D>(cells: &[At<D>]) -> bool
     true
 }
 
-/// What the cell at an address may hold, if it is among them.
+/// What the cell at an address may hold, if it is among some that ascend. It is found by halving.
 pub(crate) fn value_among<D: Copy>(cells: &[At<D>], address: u16) -> Option<D>
+    requires { cells_ascend 0 cells.now ≡ true }
     ensures { result ≡ value_among cells.now address }
 {
-    for cell in cells {
+    let mut low = 0;
+    let mut high = cells.len();
+    while low < high {
+        let middle = low + (high - low) / 2;
+        let cell = &cells[middle];
         if cell.address == address {
             return Some(cell.value);
+        }
+        if cell.address < address {
+            low = middle + 1;
+        } else {
+            high = middle;
         }
     }
     None
