@@ -101,7 +101,7 @@ module _ {D : Type 0} (cells : List (At D)) (ascends : cells_ascend 0 cells ≡ 
       (λ more.
       let here : k ≡ middle = omega arith in
       let same : cell.address ≡ (get_or cells k d).address = ap (λ (at : At D). at.address)
-          (is ∙ ap (λ (n : ℕ). get_or cells n cell) (sym here) ∙ get_or_default cells k cell d (omega arith)) in
+      (is ∙ ap (λ (n : ℕ). get_or cells n cell) (sym here) ∙ get_or_default cells k cell d (omega arith)) in
       omega arith)
       (cases_lt k middle)
 
@@ -115,7 +115,7 @@ module _ {D : Type 0} (cells : List (At D)) (ascends : cells_ascend 0 cells ≡ 
       (λ more.
       let here : k ≡ middle = omega arith in
       let same : cell.address ≡ (get_or cells k d).address = ap (λ (at : At D). at.address)
-          (is ∙ ap (λ (n : ℕ). get_or cells n cell) (sym here) ∙ get_or_default cells k cell d within) in
+      (is ∙ ap (λ (n : ℕ). get_or cells n cell) (sym here) ∙ get_or_default cells k cell d within) in
       omega arith)
       (cases_lt middle k)
 

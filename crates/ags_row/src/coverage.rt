@@ -78,7 +78,12 @@ fn covers_cell<D: Domain>(cell: &At<D>, base: &Row<D>, limits: &Limits<D>, post:
 }
 
 /// Whether each of some cells may hold all that it may hold after a post.
-fn covers_cells<D: Domain>(cells: &[At<D>], base: &Row<D>, limits: &Limits<D>, post: &Post<D>) -> bool
+fn covers_cells<D: Domain>(
+    cells: &[At<D>],
+    base: &Row<D>,
+    limits: &Limits<D>,
+    post: &Post<D>,
+) -> bool
     requires { All (λ at. at.address < 2048) cells.now }
     ensures { IsTrue result
         ↔ All (λ at. IsWithin D.meaning (post_value base.now limits.now post.now at.address) at.value) cells.now }
@@ -108,12 +113,7 @@ fn covers_registers<D: Domain>(target: &Row<D>, post: &Post<D>) -> bool
 
 /// Whether a row holds all that a post of a base row says: its location, A, Q, the index, every indicator that may stand, and
 /// each cell that the row names.
-pub fn covers<D: Domain>(
-    target: &Row<D>,
-    base: &Row<D>,
-    post: &Post<D>,
-    limits: &Limits<D>,
-) -> bool
+pub fn covers<D: Domain>(target: &Row<D>, base: &Row<D>, post: &Post<D>, limits: &Limits<D>) -> bool
     ensures { IsTrue result ↔ Covers D.meaning target.now base.now post.now limits.now }
 {
     if !covers_registers(target, post) {
