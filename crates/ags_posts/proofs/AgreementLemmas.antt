@@ -48,8 +48,8 @@ module _ {D : Type 0} (meaning : Meaning D) where
   kept_held (Some store) (Some at) address w base told below there elsewhere =
       let same : (at.address == address) ≡ (store.address == address) = ap (λ (n : ℕ). n == address) told.0 in
       chosen_held (at.address == address) at.value base w
-          (λ is. told_held store.value at.value w told.1 below (there (sym same ∙ is)))
-          (λ not. elsewhere (sym same ∙ not))
+      (λ is. told_held store.value at.value w told.1 below (there (sym same ∙ is)))
+      (λ not. elsewhere (sym same ∙ not))
   kept_held None (Some at) address w base told below there elsewhere = absurd told
   kept_held (Some store) None address w base told below there elsewhere = absurd told
 
@@ -74,9 +74,9 @@ module _ {D : Type 0} (meaning : Meaning D) where
       let at : store.address ≡ address = eqb-true store.address address same in
       let inside : store.address < length cells = omega (arith, written.erasable) in
       let read : get_or after address 0 ≡ written.word =
-          ap (λ (list : List ℕ). get_or list address 0) written.are
-          ∙ ap (λ (n : ℕ). get_or (set cells store.address written.word) n 0) (sym at)
-          ∙ get_or-set_same cells store.address written.word 0 inside in
+      ap (λ (list : List ℕ). get_or list address 0) written.are
+      ∙ ap (λ (n : ℕ). get_or (set cells store.address written.word) n 0) (sym at)
+      ∙ get_or-set_same cells store.address written.word 0 inside in
       subst (λ (w : ℕ). IsAmong meaning store.value w) (sym read) written.among
 
   written_elsewhere : (stored : Option (Store D)) (cells after : List ℕ) (address : ℕ) → AreCellsAfter stored cells after
@@ -137,6 +137,6 @@ module _ {D : Type 0} (meaning : Meaning D) where
           (erasable_word after is_state address below)
           (written_here line.stored s.cells after.cells address is.cells_count in_line.cells)
           (λ other. subst (λ (w : ℕ). meaning.held (unwrap_or (value_if post.code address) (cell_value c.row c.limits address)) w ≡ true)
-              (sym (written_elsewhere line.stored s.cells after.cells address in_line.cells other))
-              (case_cell post is_post.code address below));
+          (sym (written_elsewhere line.stored s.cells after.cells address in_line.cells other))
+          (case_cell post is_post.code address below));
     }

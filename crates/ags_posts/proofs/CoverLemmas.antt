@@ -49,8 +49,8 @@ module _ {D : Type 0} (meaning : Meaning D) where
   among_held (at ∷ cells) limit address w each in_limit =
       subst (λ (d : D). meaning.held d w ≡ true) (sym (if_some (at.address == address) at.value limit (value_among cells address)))
       (named_or (at.address == address) at.value (unwrap_or (value_among cells address) limit) w
-          (λ same. each zero at (omega arith) (eqb-true at.address address same))
-          (among_held cells limit address w (λ k d inside is. each (suc k) d (omega arith) is) in_limit))
+      (λ same. each zero at (omega arith) (eqb-true at.address address same))
+      (among_held cells limit address w (λ k d inside is. each (suc k) d (omega arith) is) in_limit))
 
   pub covered : (machine : Machine) (image : List (Option ℕ)) (limits : Limiting D) (target base : Row D) (post : Post D) (s : State)
       → IsState machine s → Covers meaning target base post limits → Agrees meaning limits base post s
@@ -66,7 +66,7 @@ module _ {D : Type 0} (meaning : Meaning D) where
     cells = λ address below. among_held target.at (cell_limit limits address) address (cell s address)
         (λ k d inside here.
         covers.cells k d inside (cell s address) (is.cells address 0 (omega (arith, is.cells_count)))
-            (subst (λ (n : ℕ). meaning.held (post_value base limits post n) (cell s address) ≡ true) (sym here) (agrees.cells address below)))
+        (subst (λ (n : ℕ). meaning.held (post_value base limits post n) (cell s address) ≡ true) (sym here) (agrees.cells address below)))
         (in_limits address below);
   }
 
@@ -86,7 +86,7 @@ module _ {D : Type 0} (meaning : Meaning D) where
           let at : stored.address ≡ address = sym (eqb-true address stored.address same) in
           let inside : stored.address < length cells = omega (arith, within.0) in
           let read : get_or (set cells stored.address stored.word) address 0 ≡ stored.word =
-              ap (λ (n : ℕ). get_or (set cells stored.address stored.word) n 0) (sym at) ∙ get_or-set_same cells stored.address stored.word 0 inside in
+          ap (λ (n : ℕ). get_or (set cells stored.address stored.word) n 0) (sym at) ∙ get_or-set_same cells stored.address stored.word 0 inside in
           subst (λ (w : ℕ). meaning.held (cell_limit limits address) w ≡ true) (sym read)
           (subst (λ (n : ℕ). meaning.held (cell_limit limits n) stored.word ≡ true) at within.1)
       written_in_limits true false other =

@@ -135,9 +135,9 @@ module _ {D : Type 0} (meaning : Meaning D) (lawful : IsMeaning D meaning) where
   wider operation a_ends m_ends d e p r w is held =
       let inside = lawful.between d w is held in
       let low : val (meaning.ends e).least ≤ℤ val (meaning.ends d).least =
-          subst (λ (n : ℕ). val (meaning.ends e).least ≤ℤ val n) p.hull.least.given (r.hull.each p.hull.least.at p.hull.least.operands).from in
+      subst (λ (n : ℕ). val (meaning.ends e).least ≤ℤ val n) p.hull.least.given (r.hull.each p.hull.least.at p.hull.least.operands).from in
       let high : val (meaning.ends d).greatest ≤ℤ val (meaning.ends e).greatest =
-          subst (λ (n : ℕ). val n ≤ℤ val (meaning.ends e).greatest) p.hull.greatest.given (r.hull.each p.hull.greatest.at p.hull.greatest.operands).to in
+      subst (λ (n : ℕ). val n ≤ℤ val (meaning.ends e).greatest) p.hull.greatest.given (r.hull.each p.hull.greatest.at p.hull.greatest.operands).to in
       lawful.ranged e w r.kept (record {
         is_word = is;
         from = through (val (meaning.ends e).least) (val (meaning.ends d).least) (val w) low inside.from;
@@ -209,7 +209,7 @@ module _ {D : Type 0} (meaning : Meaning D) (lawful : IsMeaning D meaning) where
         let first : p.0 ≡ r.0 = where_one is_negative taken p.0 r.0 p.2 r.2 in
         let second : p.1 ≡ r.1 = where_one is_not_negative stays p.1 r.1 p.3 r.3 in
         let same : one ≡ other = p.4 ∙ ap (λ (f : Option (Post D)). pair_of meaning c f p.1) first
-            ∙ ap (λ (f : Option (Post D)). pair_of meaning c r.0 f) second ∙ sym r.4 in
+        ∙ ap (λ (f : Option (Post D)). pair_of meaning c r.0 f) second ∙ sym r.4 in
         ap (λ (pair : PostPair D). Ok pair) same
     split_one taken stays (Ok one) (Err stop) p r = absurd r
     split_one taken stays (Err stop) other p r = absurd p
@@ -247,7 +247,7 @@ module _ {D : Type 0} (meaning : Meaning D) (lawful : IsMeaning D meaning) where
     with_one operation candidates e line follows goes one other p r =
         let same : p.0 ≡ r.0 = told_one (cell_in_case c e) p.0 r.0 p.1 r.1 in
         computes_one operation candidates (meaning.ends r.0) line follows goes one other
-            (subst (λ (m : D). Computes meaning c operation candidates (meaning.ends m) line follows one) same p.2) r.2
+        (subst (λ (m : D). Computes meaning c operation candidates (meaning.ends m) line follows one) same p.2) r.2
 
     stored_one : (e : ℕ) (told : Told D) (line : Line D) → IsOneOutcome (IsStored meaning c e told line)
     stored_one e told line (Ok one) (Ok other) p r = single_one _ (Ok one) (Ok other) p.3 r.3
@@ -286,7 +286,7 @@ module _ {D : Type 0} (meaning : Meaning D) (lawful : IsMeaning D meaning) where
     posts_one Lrs e y = λ one other p r.
         let same : p.0 ≡ r.0 = interval_one (long_right_high (y % 64)) (meaning.ends c.row.a) no_cell p.0 r.0 p.1 r.1 in
         single_one (record (frees_q meaning c) { a = These r.0 }) one other
-            (subst (λ (d : D). IsSingle meaning c (record (frees_q meaning c) { a = These d }) one) same p.2) r.2
+        (subst (λ (d : D). IsSingle meaning c (record (frees_q meaning c) { a = These d }) one) same p.2) r.2
     posts_one Clz e y = stores_one e _ (stored_one e (OneWord 0) (loads meaning c e))
     posts_one Adz e y = stores_one e _ (with_one sum sum_candidates e (moves_on c) (IsCleared meaning c e) (stored_one e (OneWord 0)))
     posts_one Suz e y = stores_one e _ (with_one difference difference_candidates e (moves_on c) (IsCleared meaning c e) (stored_one e (OneWord 0)))

@@ -30,7 +30,6 @@ use Rattle.ags_posts.proofs.OrderLemmas.{order_sound}
 
 module _ {D : Type 0} (meaning : Meaning D) (lawful : IsMeaning D meaning) (c : Case D) (s : State) (machine_is : IsMachine c.machine)
     (is : IsState c.machine s) (in_case : IsInCase meaning c s) where
-
   -- the word at the location is read as the case's word is, and so the step obeys it
   obeys : (d : Decoded) → IsDecoding c.machine.codes c.word (Some d)
       → let does = effect c.machine s d.order (effective s d.order d.indexed d.address) d.address in
@@ -38,7 +37,7 @@ module _ {D : Type 0} (meaning : Meaning D) (lawful : IsMeaning D meaning) (c : 
   obeys d names =
       let does = effect c.machine s d.order (effective s d.order d.indexed d.address) d.address in
       let names_here : IsDecoding c.machine.codes (word_here s) (Some d) =
-          subst (λ (w : ℕ). IsDecoding c.machine.codes w (Some d)) (sym in_case.word) names in
+      subst (λ (w : ℕ). IsDecoding c.machine.codes w (Some d)) (sym in_case.word) names in
       subst (λ (phase : Phase). StepsIn phase c.machine s (order_report s does) does.after) (sym in_case.running) (Some d, names_here, (refl, refl))
 
   -- what is told and left is what the order does
@@ -65,10 +64,10 @@ module _ {D : Type 0} (meaning : Meaning D) (lawful : IsMeaning D meaning) (c : 
       let taken : Steps c.machine s Step (order_report s does) does.after = obeys d names in
       let same = step_is_one c.machine s Step report (order_report s does) after does.after machine_is step taken in
       let posts_here : IsPosts meaning c d.order e d.address (Ok pair) =
-          subst (λ (n : ℕ). IsPosts meaning c d.order (effective_at n d.order d.indexed d.address) d.address (Ok pair)) (sym in_case.index) posts in
+      subst (λ (n : ℕ). IsPosts meaning c d.order (effective_at n d.order d.indexed d.address) d.address (Ok pair)) (sym in_case.index) posts in
       sound_follows d pair report after step does same.0 same.1
-          (order_sound meaning lawful c s is in_case d.order e d.address pair (effective_below c.machine s d.order d.indexed d.address is names.below)
-          posts_here (step_keeps c.machine s Step (order_report s does) does.after machine_is is tt taken))
+      (order_sound meaning lawful c s is in_case d.order e d.address pair (effective_below c.machine s d.order d.indexed d.address is names.below)
+      posts_here (step_keeps c.machine s Step (order_report s does) does.after machine_is is tt taken))
 
 pub one_step : {D : Type 0} (meaning : Meaning D) (lawful : IsMeaning D meaning) (c : Case D) (s : State) (report : Report) (after : State) (pair : PostPair D)
     → IsMachine c.machine → IsState c.machine s → IsInCase meaning c s → IsPostsOfCase meaning c (Ok pair) → Steps c.machine s Step report after

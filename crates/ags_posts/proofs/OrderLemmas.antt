@@ -51,7 +51,6 @@ and_both a b h k = rw (h, k) refl
 
 module _ {D : Type 0} (meaning : Meaning D) (lawful : IsMeaning D meaning) (c : Case D) (s : State) (is : IsState c.machine s)
     (in_case : IsInCase meaning c s) where
-
   -- ---- the word of a cell
 
   cell_by : (address : ℕ) (low here : Bool) → address < 4096 → is_erasable address ≡ low → (address == c.row.location) ≡ here
@@ -79,7 +78,7 @@ module _ {D : Type 0} (meaning : Meaning D) (lawful : IsMeaning D meaning) (c : 
       → IsSound meaning c pair (computed meaning lawful c s is in_case operation m v)
   computes_single operation candidates m_ends m v q pair between p among is_state =
       let found = chosen meaning lawful c s is in_case operation candidates m_ends (record (moves_on c) { q = q }) (IsSingle meaning c) p.0 pair
-          (met meaning lawful c s is in_case m) p.1 (met_between meaning lawful c s is in_case m m_ends between) is_state.a p.2 in
+      (met meaning lawful c s is in_case m) p.1 (met_between meaning lawful c s is in_case m m_ends between) is_state.a p.2 in
       record {
         agrees = single_agrees meaning lawful c s is in_case (record (moves_on c) { q = q; a = found.0; v1 = found.1 }) pair _ found.3
             (computed_in_line meaning lawful c s is in_case operation m v q found.0 found.1 found.2 is_state.a is_state.q among) is_state;
@@ -96,11 +95,11 @@ module _ {D : Type 0} (meaning : Meaning D) (lawful : IsMeaning D meaning) (c : 
       → IsSound meaning c pair (then_clears (computed meaning lawful c s is in_case operation m v) e)
   computes_cleared operation candidates m_ends e m v q pair between erasable p among is_state =
       let found = chosen meaning lawful c s is in_case operation candidates m_ends (record (moves_on c) { q = q }) (IsCleared meaning c e) p.0 pair
-          (met meaning lawful c s is in_case m) p.1 (met_between meaning lawful c s is in_case m m_ends between) is_state.a p.2 in
+      (met meaning lawful c s is in_case m) p.1 (met_between meaning lawful c s is in_case m m_ends between) is_state.a p.2 in
       stored_sound meaning lawful c s is in_case e (OneWord 0) (record (moves_on c) { q = q; a = found.0; v1 = found.1 }) pair
-          (computed meaning lawful c s is in_case operation m v) 0 erasable found.3
-          (computed_in_line meaning lawful c s is in_case operation m v q found.0 found.1 found.2 is_state.a is_state.q among)
-          refl is_state (omega arith) refl found.2.named refl refl
+      (computed meaning lawful c s is in_case operation m v) 0 erasable found.3
+      (computed_in_line meaning lawful c s is in_case operation m v q found.0 found.1 found.2 is_state.a is_state.q among)
+      refl is_state (omega arith) refl found.2.named refl refl
 
   -- ---- an order that goes two ways
 
@@ -239,11 +238,11 @@ module _ {D : Type 0} (meaning : Meaning D) (lawful : IsMeaning D meaning) (c : 
   order_sound Sto e y both below p kept =
       let goes = goes_on (is_erasable e) (IsStored meaning c e (These c.row.a) (moves_on c) (Ok both)) both (FixedWrite e) p in
       stored_sound meaning lawful c s is in_case e (These c.row.a) (moves_on c) both (leaves (moved_on s)) s.a goes.0 goes.1
-          (moves_in_line meaning lawful c s is in_case) refl kept is.a in_case.in_row.a (λ over. absurd (never over)) refl refl
+      (moves_in_line meaning lawful c s is in_case) refl kept is.a in_case.in_row.a (λ over. absurd (never over)) refl refl
   order_sound Stq e y both below p kept =
       let goes = goes_on (is_erasable e) (IsStored meaning c e (These c.row.q) (moves_on c) (Ok both)) both (FixedWrite e) p in
       stored_sound meaning lawful c s is in_case e (These c.row.q) (moves_on c) both (leaves (moved_on s)) s.q goes.0 goes.1
-          (moves_in_line meaning lawful c s is in_case) refl kept is.q in_case.in_row.q (λ over. absurd (never over)) refl refl
+      (moves_in_line meaning lawful c s is in_case) refl kept is.q in_case.in_row.q (λ over. absurd (never over)) refl refl
   order_sound Add e y both below p kept = computes_single sum sum_candidates (meaning.ends p.0) (cell s e) s.q (These c.row.q) both
       (cell_between e p.0 below p.1) p.2 in_case.in_row.q kept
   order_sound Sub e y both below p kept = computes_single difference difference_candidates (meaning.ends p.0) (cell s e) s.q (These c.row.q) both
@@ -265,19 +264,19 @@ module _ {D : Type 0} (meaning : Meaning D) (lawful : IsMeaning D meaning) (c : 
   order_sound Clz e y both below p kept =
       let goes = goes_on (is_erasable e) (IsCleared meaning c e (loads meaning c e) (Ok both)) both (FixedWrite e) p in
       stored_sound meaning lawful c s is in_case e (OneWord 0) (loads meaning c e) both (loads_a s (cell s e)) 0 goes.0 goes.1
-          (loads_in_line e below) refl kept (omega arith) refl (λ over. absurd (never over)) refl refl
+      (loads_in_line e below) refl kept (omega arith) refl (λ over. absurd (never over)) refl refl
   order_sound Adz e y both below p kept =
       let goes = goes_on (is_erasable e) (ComputesWith meaning c sum sum_candidates e (moves_on c) (IsCleared meaning c e) (Ok both)) both (FixedWrite e) p in
       computes_cleared sum sum_candidates (meaning.ends goes.1.0) e (cell s e) s.q (These c.row.q) both
-          (cell_between e goes.1.0 below goes.1.1) goes.0 goes.1.2 in_case.in_row.q kept
+      (cell_between e goes.1.0 below goes.1.1) goes.0 goes.1.2 in_case.in_row.q kept
   order_sound Suz e y both below p kept =
       let goes = goes_on (is_erasable e) (ComputesWith meaning c difference difference_candidates e (moves_on c) (IsCleared meaning c e) (Ok both)) both (FixedWrite e) p in
       computes_cleared difference difference_candidates (meaning.ends goes.1.0) e (cell s e) s.q (These c.row.q) both
-          (cell_between e goes.1.0 below goes.1.1) goes.0 goes.1.2 in_case.in_row.q kept
+      (cell_between e goes.1.0 below goes.1.1) goes.0 goes.1.2 in_case.in_row.q kept
   order_sound Mpz e y both below p kept =
       let goes = goes_on (is_erasable e) (ComputesWith meaning c product_rounded product_candidates e (frees_q meaning c) (IsCleared meaning c e) (Ok both)) both (FixedWrite e) p in
       computes_cleared product_rounded product_candidates (meaning.ends goes.1.0) e (cell s e) (pair (product s.a (cell s e))).1 EveryWord both
-          (cell_between e goes.1.0 below goes.1.1) goes.0 goes.1.2 kept.q kept
+      (cell_between e goes.1.0 below goes.1.1) goes.0 goes.1.2 kept.q kept
   order_sound Tra e y both below p kept =
       leaves_sound meaning lawful c s is in_case (record (moves_on c) { next = e }) both (gone_to s e) p (gone_in_line e) kept
   order_sound Tmi e y both below p kept = splits (is_negative s.a) e both refl p kept

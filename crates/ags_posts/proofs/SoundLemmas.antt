@@ -53,7 +53,6 @@ written low cells address word is = rw is refl
 
 module _ {D : Type 0} (meaning : Meaning D) (lawful : IsMeaning D meaning) (c : Case D) (s : State) (is : IsState c.machine s)
     (in_case : IsInCase meaning c s) where
-
   -- ---- one post
 
   some_agrees : (line : Line D) (found : Option (Post D)) (after : State) → IsSomeAnd found (IsPostOf meaning c line)
@@ -156,20 +155,29 @@ module _ {D : Type 0} (meaning : Meaning D) (lawful : IsMeaning D meaning) (c : 
       → Answers meaning operation candidates (meaning.ends c.row.a) m_ends answer → IsOperands (meaning.ends c.row.a) m_ends o
       → new_a_at operation o < 2 ^ 18 → Decides meaning c line follows answer (Ok pair)
       → (a : Told D) × (v1 : Bool) × IsChosen operation o line a v1 × follows (record line { a = a; v1 = v1 }) (Ok pair)
-  chosen operation candidates m_ends line follows (Ok d) pair o answers are below decides = (These d, line.v1, record {
-    among = lawful.ranged d (new_a_at operation o) answers.kept (answers.hull.each o are);
-    named = λ over. absurd (never (sym (answers.none o are) ∙ over));
-    set = λ over. absurd (never (sym (answers.none o are) ∙ over));
-    keeps = λ h. h;
-  }, decides)
+  chosen operation candidates m_ends line follows (Ok d) pair o answers are below decides = (
+    These d,
+    line.v1,
+    record {
+      among = lawful.ranged d (new_a_at operation o) answers.kept (answers.hull.each o are);
+      named = λ over. absurd (never (sym (answers.none o are) ∙ over));
+      set = λ over. absurd (never (sym (answers.none o are) ∙ over));
+      keeps = λ h. h;
+    },
+    decides,
+  )
   chosen operation candidates m_ends line follows (Err f) pair o answers are below decides =
-      let goes = goes_on (is_named c.limits c.row.location) (follows (record line { a = EveryWord; v1 = true }) (Ok pair)) pair (MayOverflow f) decides in
-      (EveryWord, true, record {
-        among = below;
-        named = λ over. goes.0;
-        set = λ over. refl;
-        keeps = λ h. refl;
-      }, goes.1)
+      let goes = goes_on (is_named c.limits c.row.location) (follows (record line { a = EveryWord; v1 = true }) (Ok pair)) pair (MayOverflow f) decides in (
+        EveryWord,
+        true,
+        record {
+          among = below;
+          named = λ over. goes.0;
+          set = λ over. refl;
+          keeps = λ h. refl;
+        },
+        goes.1,
+      )
 
   -- the state that an operation leaves, with a word in Q
   abbrev pub computed : Operation → (m v : ℕ) → Effect

@@ -8,3 +8,6 @@ mod answers;
 pub mod laws;
 
 pub use answers::{PostPair, Stop};
+
+#[cfg(test)]
+mod tests;
