@@ -1,6 +1,6 @@
 //! What is answered once a post is known.
 
-ghost use Rattle.std.specs.Prelude.{◌≡◌, ◌<◌, ℕ, Ok};
+ghost use Rattle.std.specs.Prelude.{◌≡◌, ◌<◌, ◌||◌, ℕ};
 ghost use Rattle.ags_posts.specs.Case.{is_erasable};
 ghost use Rattle.ags_posts.specs.Told.{Told, OneWord, IsTold};
 ghost use Rattle.ags_posts.specs.Line.{Line, IsPostOf};
@@ -12,6 +12,26 @@ use ags_domain::{Domain, Operands};
 use ags_posts::{PostPair, Stop};
 use ags_row::{At, Post};
 use ags_word::Word;
+
+/// What A may hold after an operation, and whether the indicator may be set by it.
+#[derive(Clone, Copy)]
+pub(crate) struct NewA<D> {
+    a: D,
+    may_set: bool,
+}
+
+impl<D: Copy> NewA<D> {
+    /// A post with this new A.
+    fn put_into(self, post: Post<D>) -> Post<D>
+        ensures { result ≡ record post { a = self.a; v1 = post.v1 || self.may_set } }
+    {
+        Post {
+            a: self.a,
+            v1: post.v1 || self.may_set,
+            ..post
+        }
+    }
+}
 
 /// One post alone.
 pub(crate) fn single<D>(post: Post<D>) -> PostPair<D>
@@ -47,18 +67,17 @@ impl<'a, D: Domain> Case<'a, D> {
         self.stored(e, D::of_word(Word::ZERO), post)
     }
 
-    /// A post with what the domain answered for A. Where some operands overflow, a named place goes on with any A.
-    fn decided(&self, answer: Result<D, Operands>, post: Post<D>) -> Result<Post<D>, Stop<D>>
-        ensures { IsDecided D.meaning self.now answer post result }
+    /// What goes on from the domain's answer for A. Where some operands overflow, a named place goes on with any A.
+    fn decided(&self, answer: Result<D, Operands>) -> Result<NewA<D>, Stop<D>>
+        ensures { IsDecided D.meaning self.now answer result }
     {
         match answer {
-            Ok(a) => Ok(Post { a, ..post }),
+            Ok(a) => Ok(NewA { a, may_set: false }),
             Err(operands) => {
                 if self.limits.may(self.row.location()) {
-                    Ok(Post {
+                    Ok(NewA {
                         a: D::full(),
-                        v1: true,
-                        ..post
+                        may_set: true,
                     })
                 } else {
                     Err(Stop::MayOverflow(operands))
@@ -76,8 +95,8 @@ impl<'a, D: Domain> Case<'a, D> {
         ensures { (line : Line D) → IsPostOf D.meaning self.now line post
             → Decides D.meaning self.now line (IsSingle D.meaning self.now) answer result }
     {
-        match self.decided(answer, post) {
-            Ok(post) => Ok(single(post)),
+        match self.decided(answer) {
+            Ok(new) => Ok(single(new.put_into(post))),
             Err(stop) => Err(stop),
         }
     }
@@ -93,8 +112,8 @@ impl<'a, D: Domain> Case<'a, D> {
         ensures { (line : Line D) → IsPostOf D.meaning self.now line post
             → Decides D.meaning self.now line (IsCleared D.meaning self.now e) answer result }
     {
-        match self.decided(answer, post) {
-            Ok(post) => self.cleared(e, post),
+        match self.decided(answer) {
+            Ok(new) => self.cleared(e, new.put_into(post)),
             Err(stop) => Err(stop),
         }
     }
