@@ -1,17 +1,16 @@
 -- A state that is in a line agrees with the line's post. All that is said of cells is here.
-use Rattle.std.proofs.Common.{◌≡◌, ◌≢◌, ℕ, ◌<◌, ◌≤◌, ◌^◌, Bool, true, false, refl, sym, ap, subst, ◌∙◌, arith, List, length, get_or, set}
-use Rattle.std.specs.Prelude.{Option, Some, None, not, ◌==◌, unwrap_or, if◌then◌else◌}
-use Rattle.std.proofs.lemmas.Bool.{eq-eqb, eqb-true, cases_lt}
-use Rattle.std.proofs.lemmas.Bool.Decides.{nat_tests}
+use Rattle.std.proofs.Common.{◌≡◌, ◌≢◌, ℕ, ◌<◌, ◌^◌, Bool, true, false, refl, sym, ap, subst, ◌∙◌, arith, List, length, get_or, set}
+use Rattle.std.specs.Prelude.{Option, Some, None, ◌==◌, unwrap_or, if◌then◌else◌}
+use Rattle.std.proofs.lemmas.Bool.{eq-eqb, eqb-true}
 use Rattle.std.proofs.lemmas.List.{get_or-set_same, get_or-set_other}
 use Rattle.ags_domain.specs.Domain.{Meaning}
-use Rattle.ags_ports.specs.State.{State, IsState, cell, word_here, next_location}
+use Rattle.ags_ports.specs.State.{State, IsState, cell}
 use Rattle.ags_row.specs.Cover.{cell_value, post_value, value_if}
 use Rattle.ags_row.specs.declared.ats.At.{At}
 use Rattle.ags_row.specs.declared.posts.Post.{Post}
-use Rattle.ags_posts.specs.Case.{Case, is_erasable, next_of_row}
+use Rattle.ags_posts.specs.Case.{Case, is_erasable}
 use Rattle.ags_posts.specs.Told.{Told, OneWord, These, EveryWord, IsTold, IsAmong, Store, AreCellsTold}
-use Rattle.ags_posts.specs.Line.{Line, moves_on, code_cell, IsPostOf}
+use Rattle.ags_posts.specs.Line.{Line, code_cell, IsPostOf}
 use Rattle.ags_posts.specs.InRow.{IsInCase}
 use Rattle.ags_posts.specs.OneStep.{Agrees}
 

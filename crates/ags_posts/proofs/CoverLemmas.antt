@@ -1,14 +1,14 @@
 -- A covering row holds the state after a step, and a step keeps the cells in their limits.
-use Rattle.std.proofs.Common.{◌≡◌, ◌≢◌, ℕ, zero, suc, ◌<◌, ◌≤◌, ◌^◌, Bool, true, false, refl, sym, ap, subst, ◌∙◌, arith, List, [], ◌∷◌, length, get_or, set}
-use Rattle.std.specs.Prelude.{Option, Some, None, All, IfSome, ◌==◌, nat_lt, unwrap_or, if◌then◌else◌}
-use Rattle.std.proofs.lemmas.Bool.{eq-eqb, eqb-true, ltb-true}
+use Rattle.std.proofs.Common.{◌≡◌, ◌≢◌, ℕ, zero, suc, ◌<◌, Bool, true, false, refl, sym, ap, subst, ◌∙◌, arith, List, [], ◌∷◌, length, get_or, set}
+use Rattle.std.specs.Prelude.{Option, Some, None, IfSome, ◌==◌, nat_lt, unwrap_or, if◌then◌else◌}
+use Rattle.std.proofs.lemmas.Bool.{eq-eqb, eqb-true}
 use Rattle.std.proofs.lemmas.List.{get_or-set_same, get_or-set_other}
-use Rattle.ags_domain.specs.Domain.{Meaning, IsWithin}
+use Rattle.ags_domain.specs.Domain.{Meaning}
 use Rattle.ags_ports.specs.declared.events.Event.TheVariants.{Step}
 use Rattle.ags_ports.specs.declared.events.Report.{Report}
 use Rattle.ags_ports.specs.declared.events.Stored.{Stored}
 use Rattle.ags_ports.specs.declared.machines.Machine.{Machine}
-use Rattle.ags_ports.specs.State.{State, IsState, cell, cells_with_word}
+use Rattle.ags_ports.specs.State.{State, IsState, cell}
 use Rattle.ags_ports.specs.Change.{cells_after_store}
 use Rattle.ags_ports.specs.Step.{Steps}
 use Rattle.ags_ports.proofs.ChangeLemmas.{cells_told}

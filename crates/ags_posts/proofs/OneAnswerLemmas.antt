@@ -1,7 +1,7 @@
 -- A case has one answer. Behind the law of the same name is
 --     one_answer    outcomes of a case are one
-use Rattle.std.proofs.Common.{◌≡◌, ◌≢◌, ℕ, ◌-◌, ◌%◌, ◌<◌, ◌≤◌, ◌^◌, Bool, true, false, refl, sym, ap, subst, ◌∙◌, arith, List, [], ◌∷◌, ℤ, ◌≤ℤ◌}
-use Rattle.std.specs.Prelude.{Option, Some, None, Result, Ok, Err, ◌&&◌, nat_eq, MatchBool, if◌then◌else◌}
+use Rattle.std.proofs.Common.{◌≡◌, ℕ, ◌%◌, ◌<◌, ◌^◌, Bool, true, false, refl, sym, ap, subst, ◌∙◌, arith, List, [], ◌∷◌, ℤ, ◌≤ℤ◌}
+use Rattle.std.specs.Prelude.{Option, Some, None, Result, Ok, Err, ◌&&◌, MatchBool, if◌then◌else◌}
 use Rattle.std.specs.Option.{IsSomeAnd}
 use Rattle.std.specs.List.{find}
 use Rattle.std.proofs.lemmas.Int.{ints}
@@ -11,25 +11,25 @@ use Rattle.ags_isa.specs.declared.orders.Order.{Order}
 use Rattle.ags_isa.specs.declared.orders.Order.TheVariants.{Abs, Add, Adz, Als, Axt, Cla, Clz, Com, Dly, Dvp, Inp, Ldq, Lls, Lrs, Mpr, Mpy, Mpz, Out, Sto, Stq, Sub, Suz, Tix, Tmi, Tov, Tra, Tsq}
 use Rattle.ags_isa.specs.declared.decoding.Decoded.{Decoded}
 use Rattle.ags_isa.specs.Code.{AreCodes}
-use Rattle.ags_isa.specs.Naming.{order_word, IsDecoding}
+use Rattle.ags_isa.specs.Naming.{IsDecoding}
 use Rattle.ags_isa.proofs.WordLemmas.{names-one}
-use Rattle.ags_domain.specs.Domain.{Ends, Meaning, IsMeaning, IsAlone, IsFull, IsPart, IsBetween, is_negative, is_not_negative}
-use Rattle.ags_domain.specs.Hull.{Answers, IsInterval, IsFirstOverflow, IsReached, overflows_at, no_cell}
+use Rattle.ags_domain.specs.Domain.{Ends, Meaning, IsMeaning, IsAlone, IsFull, IsPart, is_negative, is_not_negative}
+use Rattle.ags_domain.specs.Hull.{Answers, IsInterval, IsFirstOverflow, overflows_at, no_cell}
 use Rattle.ags_domain.specs.Candidates.{sum_candidates, difference_candidates, sign_candidates, left_shift_candidates, product_candidates, long_left_candidates, quotient_candidates}
 use Rattle.ags_domain.specs.declared.operands.Operands.{Operands}
 use Rattle.ags_ports.specs.Effect.{effective_at}
 use Rattle.ags_ports.specs.Port.{place_of}
 use Rattle.ags_ports.specs.Machine.{IsMachine}
-use Rattle.ags_row.specs.Limit.{cell_limit, input_limit, is_named}
+use Rattle.ags_row.specs.Limit.{is_named}
 use Rattle.ags_row.specs.declared.ats.At.{At}
 use Rattle.ags_row.specs.declared.posts.Post.{Post}
-use Rattle.ags_posts.specs.Case.{Case, is_erasable, next_of_row}
+use Rattle.ags_posts.specs.Case.{Case, is_erasable}
 use Rattle.ags_posts.specs.Told.{Told, OneWord, These, EveryWord, IsTold, Store, AreCellsTold}
 use Rattle.ags_posts.specs.Line.{Line, moves_on, cell_in_case, IsPostOf}
 use Rattle.ags_posts.specs.Posts.{Outcome, IsSingle, IsPostOfPart, IsPostWhere, pair_of, IsSplit, HasPort, Stores, Decides, Computes, ComputesWith, IsStored, IsGiven, IsCleared, loads, frees_q, IsPosts, IsPostsOfWord, IsPostsOfCase}
 use Rattle.ags_posts.specs.declared.answers.PostPair.{PostPair}
 use Rattle.ags_posts.specs.declared.answers.Stop.{Stop}
-use Rattle.ags_posts.specs.declared.answers.Stop.TheVariants.{FixedWrite, MayOverflow, CellRange, OutputRange}
+use Rattle.ags_posts.specs.declared.answers.Stop.TheVariants.{FixedWrite, MayOverflow, CellRange}
 
 -- ---- what is found passes
 

@@ -1,19 +1,16 @@
 -- One step from a state of a case follows the case's posts. Behind the law of the same name is
 --     one_step    the step runs an order, and follows the posts
-use Rattle.std.proofs.Common.{◌≡◌, ℕ, ◌<◌, ◌≤◌, ◌^◌, Bool, true, false, refl, sym, ap, subst, ◌∙◌, List}
-use Rattle.std.specs.Prelude.{Option, Some, None, Result, Ok, Err, IsSome, IfSome}
-use Rattle.ags_isa.specs.declared.orders.Order.{Order}
+use Rattle.std.proofs.Common.{◌≡◌, ℕ, refl, sym, ap, subst, ◌∙◌}
+use Rattle.std.specs.Prelude.{Option, Some, None, Ok, IsSome, IfSome}
 use Rattle.ags_isa.specs.declared.decoding.Decoded.{Decoded}
 use Rattle.ags_isa.specs.Naming.{IsDecoding}
 use Rattle.ags_domain.specs.Domain.{Meaning, IsMeaning}
-use Rattle.ags_image.specs.Image.{word_at}
 use Rattle.ags_ports.specs.declared.events.Phase.{Phase}
-use Rattle.ags_ports.specs.declared.events.Phase.TheVariants.{Running}
 use Rattle.ags_ports.specs.declared.events.Event.TheVariants.{Step}
 use Rattle.ags_ports.specs.declared.events.Report.{Report}
 use Rattle.ags_ports.specs.Port.{place_of}
 use Rattle.ags_ports.specs.Machine.{IsMachine}
-use Rattle.ags_ports.specs.State.{State, IsState, cell, word_here}
+use Rattle.ags_ports.specs.State.{State, IsState, word_here}
 use Rattle.ags_ports.specs.Effect.{effect, effective, effective_at}
 use Rattle.ags_ports.specs.Step.{Steps, StepsIn, order_report}
 use Rattle.ags_ports.proofs.StepLemmas.{one_step as step_is_one}

@@ -1,35 +1,33 @@
 -- Each order follows the posts of its case.
-use Rattle.std.proofs.Common.{◌≡◌, ◌≢◌, ℕ, ◌+◌, ◌-◌, ◌%◌, ◌<◌, ◌≤◌, ◌^◌, Bool, true, false, refl, sym, ap, subst, ◌∙◌, arith, List, ◌⊎◌, inl, inr}
-use Rattle.std.specs.Prelude.{Option, Some, None, Result, Ok, Err, ◌==◌, ◌&&◌, nat_lt, nat_eq, int_lt, pos, IsSome, IfSome, MatchBool, if◌then◌else◌}
-use Rattle.std.specs.Option.{IsSomeAnd}
+use Rattle.std.proofs.Common.{◌≡◌, ℕ, ◌-◌, ◌%◌, ◌<◌, ◌≤◌, Bool, true, false, refl, sym, ap, subst, ◌∙◌, arith, List, inl, inr}
+use Rattle.std.specs.Prelude.{Option, Some, None, Ok, ◌==◌, ◌&&◌, nat_eq, IsSome, if◌then◌else◌}
 use Rattle.std.proofs.lemmas.Bool.{ltb-true, eqb-true}
 use Rattle.std.proofs.lemmas.Bool.Decides.{nat_tests}
 use Rattle.std.proofs.lemmas.Int.{ints}
-use Rattle.ags_word.specs.Word.{val}
 use Rattle.ags_word.specs.Long.{long, pair, shifted_right, wrap_long}
 use Rattle.ags_word.specs.Operation.{Operation, sum, difference, negative, size, left_shift, product, product_high, product_rounded, quotient, shifted_left, long_left_high, long_right_high}
 use Rattle.ags_isa.specs.declared.orders.Order.{Order}
 use Rattle.ags_isa.specs.declared.orders.Order.TheVariants.{Abs, Add, Adz, Als, Axt, Cla, Clz, Com, Dly, Dvp, Inp, Ldq, Lls, Lrs, Mpr, Mpy, Mpz, Out, Sto, Stq, Sub, Suz, Tix, Tmi, Tov, Tra, Tsq}
 use Rattle.ags_isa.specs.Naming.{order_word}
-use Rattle.ags_domain.specs.Domain.{Ends, Meaning, IsMeaning, IsWithin, IsBetween, IsPart, is_negative, is_not_negative}
+use Rattle.ags_domain.specs.Domain.{Ends, Meaning, IsMeaning, IsBetween, IsPart, is_negative, is_not_negative}
 use Rattle.ags_domain.specs.Hull.{no_cell}
 use Rattle.ags_domain.specs.Candidates.{sum_candidates, difference_candidates, sign_candidates, left_shift_candidates, product_candidates, long_left_candidates, quotient_candidates}
 use Rattle.ags_domain.specs.declared.operands.Operands.{Operands}
 use Rattle.ags_image.specs.Image.{word_at}
-use Rattle.ags_ports.specs.Port.{place_of, register_at, set_at, read_at}
-use Rattle.ags_ports.specs.State.{State, IsState, cell, next_location}
-use Rattle.ags_ports.specs.Effect.{Effect, effect, leaves, moved_on, gone_to, then_clears, loads as loads_a}
-use Rattle.ags_row.specs.Limit.{input_limit, output_limit}
+use Rattle.ags_ports.specs.Port.{place_of, register_at}
+use Rattle.ags_ports.specs.State.{State, IsState, cell}
+use Rattle.ags_ports.specs.Effect.{effect, leaves, moved_on, gone_to, then_clears, loads as loads_a}
+use Rattle.ags_row.specs.Limit.{input_limit}
 use Rattle.ags_row.specs.Cover.{cell_value}
 use Rattle.ags_row.specs.declared.posts.Post.{Post}
 use Rattle.ags_posts.specs.Case.{Case, is_erasable, next_of_row}
 use Rattle.ags_posts.specs.Told.{Told, OneWord, These, EveryWord, IsTold, IsAmong}
-use Rattle.ags_posts.specs.Line.{Line, moves_on, cell_in_case, IsPostOf}
-use Rattle.ags_posts.specs.Posts.{Outcome, IsSingle, IsPostOfPart, IsPostWhere, pair_of, IsSplit, HasPort, Stores, Computes, ComputesWith, IsStored, IsGiven, IsCleared, loads, frees_q, IsPosts}
+use Rattle.ags_posts.specs.Line.{Line, moves_on, cell_in_case}
+use Rattle.ags_posts.specs.Posts.{Outcome, IsSingle, IsPostOfPart, pair_of, IsSplit, HasPort, Computes, ComputesWith, IsStored, IsGiven, IsCleared, loads, frees_q, IsPosts}
 use Rattle.ags_posts.specs.InRow.{IsInCase}
-use Rattle.ags_posts.specs.OneStep.{AgreesWith, AgreesWithOne, IsGivenInLimit}
+use Rattle.ags_posts.specs.OneStep.{AgreesWith, AgreesWithOne}
 use Rattle.ags_posts.specs.declared.answers.PostPair.{PostPair}
-use Rattle.ags_posts.specs.declared.answers.Stop.TheVariants.{BadPort, FixedWrite}
+use Rattle.ags_posts.specs.declared.answers.Stop.TheVariants.{FixedWrite}
 use Rattle.ags_posts.proofs.AgreementLemmas.{told_held, IsInLine, line_agrees}
 use Rattle.ags_posts.proofs.SoundLemmas.{IsSound, never, goes_on, single_agrees, leaves_sound, next_is, clear_stays, set_stays, moves_in_line, cell_word, stored_sound, chosen, computed, met, computed_in_line, met_between}
 

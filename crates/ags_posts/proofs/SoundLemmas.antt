@@ -1,21 +1,21 @@
 -- What the parts of the table of posts are worth: an order that is in a line is sound, one that stores, and one that computes.
-use Rattle.std.proofs.Common.{◌≡◌, ℕ, ◌+◌, ◌%◌, ◌<◌, ◌≤◌, ◌^◌, Bool, true, false, refl, sym, ap, subst, ◌∙◌, arith, List, length, get_or, set, ◌⊎◌, inl, inr, ⊎_elim}
+use Rattle.std.proofs.Common.{◌≡◌, ℕ, ◌+◌, ◌%◌, ◌<◌, ◌^◌, Bool, true, false, refl, sym, ap, subst, ◌∙◌, arith, List, set, inl}
 use Rattle.std.specs.Prelude.{Option, Some, None, Result, Ok, Err, not, ◌||◌, nat_lt, IsSome, IfSome, MatchBool, if◌then◌else◌}
 use Rattle.std.specs.Option.{IsSomeAnd}
 use Rattle.std.proofs.lemmas.Bool.{ltb-true}
 use Rattle.ags_word.specs.Operation.{Operation}
-use Rattle.ags_domain.specs.Domain.{Ends, Meaning, IsMeaning, IsWithin, IsBetween}
-use Rattle.ags_domain.specs.Hull.{Answers, IsInterval, IsOperands, new_a_at, overflows_at, no_cell}
+use Rattle.ags_domain.specs.Domain.{Ends, Meaning, IsMeaning, IsBetween}
+use Rattle.ags_domain.specs.Hull.{Answers, IsOperands, new_a_at, overflows_at}
 use Rattle.ags_domain.specs.declared.operands.Operands.{Operands}
 use Rattle.ags_ports.specs.Port.{place_of}
-use Rattle.ags_ports.specs.State.{State, IsState, cell, next_location, cells_with_word}
+use Rattle.ags_ports.specs.State.{State, IsState, cell, next_location}
 use Rattle.ags_ports.specs.Effect.{Effect, leaves, moved_on, overflowing, then_stores}
-use Rattle.ags_row.specs.Limit.{cell_limit, is_named}
+use Rattle.ags_row.specs.Limit.{is_named}
 use Rattle.ags_row.specs.declared.posts.Post.{Post}
 use Rattle.ags_posts.specs.Case.{Case, is_erasable, next_of_row}
-use Rattle.ags_posts.specs.Told.{Told, OneWord, These, EveryWord, IsTold, IsAmong, Store}
-use Rattle.ags_posts.specs.Line.{Line, moves_on, cell_in_case, IsPostOf}
-use Rattle.ags_posts.specs.Posts.{Outcome, IsSingle, Decides, Computes, IsStored}
+use Rattle.ags_posts.specs.Told.{Told, These, EveryWord, IsAmong}
+use Rattle.ags_posts.specs.Line.{Line, moves_on, IsPostOf}
+use Rattle.ags_posts.specs.Posts.{Outcome, IsSingle, Decides, IsStored}
 use Rattle.ags_posts.specs.InRow.{IsInCase}
 use Rattle.ags_posts.specs.OneStep.{AgreesWith, AgreesWithOne, IsStoreInLimit, IsGivenInLimit}
 use Rattle.ags_posts.specs.declared.answers.PostPair.{PostPair}

@@ -4,7 +4,6 @@ use Rattle.ags_domain.specs.Domain.{Meaning, AreFew}
 use Rattle.ags_domain.specs.declared.word_sets.WordSet.{WordSet}
 use Rattle.ags_ports.specs.declared.machines.Machine.{Machine}
 use Rattle.ags_image.specs.Image.{word_at}
-use Rattle.ags_row.specs.Flag.{has_flag, indicator_number}
 use Rattle.ags_row.specs.Limit.{Limiting}
 use Rattle.ags_row.specs.Cover.{cell_value}
 use Rattle.ags_row.specs.declared.rows.Row.{Row}

@@ -1,6 +1,6 @@
 -- The posts of a case, or why the checker stops at it. What a row of the table doesn't name is as in the case. The stops are
 -- nested in the order in which they are tested.
-use Rattle.std.specs.Prelude.{◌≡◌, ◌≢◌, ℕ, ◌-◌, ◌%◌, Bool, true, false, nat_eq, List, Option, Some, None, Result, Ok, Err, MatchBool, if◌then◌else◌}
+use Rattle.std.specs.Prelude.{◌≡◌, ℕ, ◌-◌, ◌%◌, Bool, true, false, nat_eq, List, Option, Some, None, Result, Ok, Err, MatchBool, if◌then◌else◌}
 use Rattle.std.specs.Option.{IsSomeAnd}
 use Rattle.ags_word.specs.Operation.{Operation, sum, difference, negative, size, left_shift, product_high, product_rounded, quotient, long_left_high, long_right_high}
 use Rattle.ags_isa.specs.declared.orders.Order.{Order}

@@ -1,6 +1,6 @@
 -- What is decided is what the table of posts says of a line.
 use Rattle.std.proofs.Common.{◌≡◌, ℕ, ◌<◌, Bool, true, false, refl, ap, ◌∙◌, arith}
-use Rattle.std.specs.Prelude.{Option, Some, None, Result, Ok, Err, ◌||◌, MatchBool}
+use Rattle.std.specs.Prelude.{Result, Ok, Err, ◌||◌, MatchBool}
 use Rattle.std.proofs.lemmas.Bool.Decides.{nat_tests}
 use Rattle.ags_domain.specs.Domain.{Meaning}
 use Rattle.ags_domain.specs.declared.operands.Operands.{Operands}
@@ -11,7 +11,7 @@ use Rattle.ags_posts.specs.Told.{These, EveryWord}
 use Rattle.ags_posts.specs.Line.{Line, IsPostOf}
 use Rattle.ags_posts.specs.Posts.{Outcome, Decides}
 use Rattle.ags_transfer.specs.declared.deciding.NewA.{NewA}
-use Rattle.ags_transfer.specs.Decision.{IsDecided, IsFree}
+use Rattle.ags_transfer.specs.Decision.{IsDecided}
 
 where_true : (b : Bool) (P Q : Type 0) → b ≡ true → P → MatchBool b P Q
 where_true true P Q is p = p

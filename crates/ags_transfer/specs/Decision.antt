@@ -1,5 +1,5 @@
 -- The steps by which the call comes to its answer.
-use Rattle.std.specs.Prelude.{◌≡◌, Bool, true, false, Option, Some, None, Result, Ok, Err}
+use Rattle.std.specs.Prelude.{◌≡◌, true, false, Some, None, Result, Ok, Err}
 use Rattle.ags_domain.specs.Domain.{Meaning, IsFull}
 use Rattle.ags_domain.specs.declared.operands.Operands.{Operands}
 use Rattle.ags_row.specs.Limit.{is_named}
