@@ -1,5 +1,5 @@
 -- What a cell may hold in a row and after a post, and which row holds all that a post says.
-use Rattle.std.specs.Prelude.{◌≡◌, ℕ, Bool, true, All, Option, Some, None, unwrap_or}
+use Rattle.std.specs.Prelude.{◌≡◌, ℕ, true, All, Option, Some, None, unwrap_or}
 use Rattle.ags_domain.specs.Domain.{Meaning, IsWithin}
 use Rattle.ags_row.specs.Cell.{value_where, value_among}
 use Rattle.ags_row.specs.Flag.{has_flag}

@@ -1,5 +1,5 @@
 -- Limits: what each cell and each port may hold wherever the machine stands, and the places where an overflow is named.
-use Rattle.std.specs.Prelude.{◌≡◌, ◌≢◌, ℕ, ◌<◌, Bool, true, false, List, length, get_or, slice_set}
+use Rattle.std.specs.Prelude.{◌≡◌, ◌≢◌, ℕ, Bool, true, false, List, length, get_or}
 use Rattle.ags_domain.specs.Domain.{Meaning, IsFull}
 
 -- The sets of the erasable cells, and of the input and the output registers by their addresses; whether a location is a named

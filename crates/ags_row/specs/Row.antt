@@ -1,6 +1,5 @@
 -- Rows, and the parts that one is made of.
-use Rattle.std.specs.Prelude.{◌≡◌, ℕ, ◌<◌, ◌≤◌, Bool, true, length, List, Option, Some, None}
-use Rattle.std.specs.List.{list_any}
+use Rattle.std.specs.Prelude.{◌≡◌, ◌<◌, ◌≤◌, true, length, Option, Some, None}
 use Rattle.ags_row.specs.Cell.{cells_ascend}
 use Rattle.ags_row.specs.Flag.{some_flag}
 use Rattle.ags_row.specs.declared.rows.RowParts.{RowParts}

@@ -1,4 +1,4 @@
-use Rattle.std.proofs.Common.{◌≡◌, ℕ, ◌+◌, ◌-◌, ◌/◌, ◌<◌, ◌≢◌, sym, arith, ⊎_elim}
+use Rattle.std.proofs.Common.{◌+◌, ◌-◌, ◌/◌, sym, arith, ⊎_elim}
 use Rattle.std.proofs.lemmas.Bool.{cases_lt}
 use Rattle.ags_row.proofs.CellLemmas.{none_at, read_found, all_below, all_above}
 use Rattle.ags_row.proofs.cells.value_among.Goals as goal
