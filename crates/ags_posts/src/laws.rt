@@ -1,16 +1,18 @@
 //! What the posts of a case mean. Each law is what a function that does nothing ensures, so that it is proved with the crate.
 
-ghost use Rattle.std.specs.Prelude.{◌≡◌, ℕ, List, Option, Ok};
+ghost use Rattle.std.specs.Prelude.{◌≡◌, ℕ, true, List, Option, Some, Ok};
+ghost use Rattle.ags_domain.specs.WordSet.{lists};
+ghost use Rattle.ags_domain.specs.declared.word_sets.WordSet.{WordSet};
 ghost use Rattle.ags_ports.specs.declared.events.Event.TheVariants.{Step};
 ghost use Rattle.ags_ports.specs.declared.events.Report.{Report};
 ghost use Rattle.ags_ports.specs.Machine.{IsMachine};
-ghost use Rattle.ags_ports.specs.State.{State, IsState};
+ghost use Rattle.ags_ports.specs.State.{State, IsState, word_here};
 ghost use Rattle.ags_ports.specs.Step.{Steps};
 ghost use Rattle.ags_row.specs.Limit.{Limiting};
 ghost use Rattle.ags_row.specs.Cover.{Covers};
 ghost use Rattle.ags_row.specs.declared.posts.Post.{Post};
 ghost use Rattle.ags_row.specs.declared.rows.Row.{Row};
-ghost use Rattle.ags_posts.specs.Case.{Case};
+ghost use Rattle.ags_posts.specs.Case.{Case, IsCode};
 ghost use Rattle.ags_posts.specs.Posts.{Outcome, IsPostsOfCase};
 ghost use Rattle.ags_posts.specs.InRow.{IsInRow, IsInCase, HasFixedWords, AreCellsInLimits};
 ghost use Rattle.ags_posts.specs.OneStep.{Agrees, Follows};
@@ -45,4 +47,13 @@ pub fn step_that_follows_keeps_cells_in_limits<D: Domain>()
 pub fn case_has_one_answer<D: Domain>()
     ensures { (c : Case D) (one other : Outcome D) → IsMachine c.machine → IsPostsOfCase D.meaning c one
         → IsPostsOfCase D.meaning c other → one ≡ other }
+{}
+
+/// The code of a row has the word that each state of the row stands at, and a row has one code.
+pub fn code_has_the_word_of_each_state<D: Domain>()
+    ensures word { (machine : Machine) (image : List (Option ℕ)) (limits : Limiting D) (row : Row D) (set : WordSet) (s : State)
+        → IsState machine s → IsInRow D.meaning image limits row s → IsCode D.meaning image limits row (Some set)
+        → lists set.list (word_here s) ≡ true }
+    ensures one { (image : List (Option ℕ)) (limits : Limiting D) (row : Row D) (one other : Option WordSet)
+        → IsCode D.meaning image limits row one → IsCode D.meaning image limits row other → one ≡ other }
 {}

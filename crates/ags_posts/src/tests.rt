@@ -1,8 +1,8 @@
 //! The laws at the two domains: a law of a type parameter is proved from its bound alone.
 
 use crate::laws::{
-    case_has_one_answer, covering_row_holds_what_agrees, one_step_follows_the_posts,
-    step_that_follows_keeps_cells_in_limits,
+    case_has_one_answer, code_has_the_word_of_each_state, covering_row_holds_what_agrees,
+    one_step_follows_the_posts, step_that_follows_keeps_cells_in_limits,
 };
 use ags_domain::{Domain, Range, Value};
 
@@ -12,6 +12,7 @@ fn laws_at<D: Domain>() {
     covering_row_holds_what_agrees::<D>();
     step_that_follows_keeps_cells_in_limits::<D>();
     case_has_one_answer::<D>();
+    code_has_the_word_of_each_state::<D>();
 }
 
 #[test]
