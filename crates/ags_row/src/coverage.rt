@@ -112,7 +112,7 @@ fn covers_registers<D: Domain>(target: &Row<D>, post: &Post<D>) -> bool
 }
 
 /// Whether a row holds all that a post of a base row says: its location, A, Q, the index, every indicator that may stand, and
-/// each cell that the row names.
+/// each cell that the row names (docs/CHECKER.md, When a row covers a post).
 pub fn covers<D: Domain>(target: &Row<D>, base: &Row<D>, post: &Post<D>, limits: &Limits<D>) -> bool
     ensures { IsTrue result ↔ Covers D.meaning target.now base.now post.now limits.now }
 {

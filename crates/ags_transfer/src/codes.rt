@@ -9,7 +9,7 @@ use ags_image::Image;
 use ags_row::{Limits, Row, cell_of};
 
 /// The words that may stand at a row's location: the one word of a fixed cell; of an erasable one those that it may hold, and
-/// nothing where these are more than 16.
+/// nothing where these are more than 16 (docs/CHECKER.md, What is known).
 pub fn code<D: Domain>(image: &Image, limits: &Limits<D>, base: &Row<D>) -> Option<WordSet>
     ensures { IsCode D.meaning image.now limits.now base.now result }
 {

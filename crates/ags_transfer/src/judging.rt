@@ -24,7 +24,8 @@ use ags_row::{Limits, Row};
 use ags_word::Word;
 
 /// The posts of a case, or the first reason why the checker stops at it. The case is a word of the row's code, an index and an
-/// indicator of the row. Where there are posts, the step of the machine from each state of the case follows them.
+/// indicator of the row. Where there are posts, the step of the machine from each state of the case follows them
+/// (docs/CHECKER.md, What an order leaves).
 pub fn posts<D: Domain>(
     machine: &Machine,
     image: &Image,
