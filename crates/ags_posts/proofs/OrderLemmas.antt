@@ -1,0 +1,363 @@
+-- Each order follows the posts of its case.
+use Rattle.std.proofs.Common.{◌≡◌, ℕ, ◌-◌, ◌%◌, ◌<◌, ◌≤◌, Bool, true, false, refl, sym, ap, subst, ◌∙◌, arith, List, inl, inr}
+use Rattle.std.specs.Prelude.{Option, Some, None, Ok, ◌==◌, ◌&&◌, nat_eq, IsSome, if◌then◌else◌}
+use Rattle.std.proofs.lemmas.Bool.{ltb-true, eqb-true}
+use Rattle.std.proofs.lemmas.Bool.Decides.{nat_tests}
+use Rattle.std.proofs.lemmas.Int.{ints}
+use Rattle.ags_word.specs.Long.{long, pair, shifted_right, wrap_long}
+use Rattle.ags_word.specs.Operation.{Operation, sum, difference, negative, size, left_shift, product, product_high, product_rounded, quotient, shifted_left, long_left_high, long_right_high}
+use Rattle.ags_isa.specs.declared.orders.Order.{Order}
+use Rattle.ags_isa.specs.declared.orders.Order.TheVariants.{Abs, Add, Adz, Als, Axt, Cla, Clz, Com, Dly, Dvp, Inp, Ldq, Lls, Lrs, Mpr, Mpy, Mpz, Out, Sto, Stq, Sub, Suz, Tix, Tmi, Tov, Tra, Tsq}
+use Rattle.ags_isa.specs.Naming.{order_word}
+use Rattle.ags_domain.specs.Domain.{Ends, Meaning, IsMeaning, IsBetween, IsPart, is_negative, is_not_negative}
+use Rattle.ags_domain.specs.Hull.{no_cell}
+use Rattle.ags_domain.specs.Candidates.{sum_candidates, difference_candidates, sign_candidates, left_shift_candidates, product_candidates, long_left_candidates, quotient_candidates}
+use Rattle.ags_domain.specs.declared.operands.Operands.{Operands}
+use Rattle.ags_image.specs.Image.{word_at}
+use Rattle.ags_ports.specs.Port.{place_of, register_at}
+use Rattle.ags_ports.specs.State.{State, IsState, cell}
+use Rattle.ags_ports.specs.Effect.{effect, leaves, moved_on, gone_to, then_clears, loads as loads_a}
+use Rattle.ags_row.specs.Limit.{input_limit}
+use Rattle.ags_row.specs.Cover.{cell_value}
+use Rattle.ags_row.specs.declared.posts.Post.{Post}
+use Rattle.ags_posts.specs.Case.{Case, is_erasable, next_of_row}
+use Rattle.ags_posts.specs.Told.{Told, OneWord, These, EveryWord, IsTold, IsAmong}
+use Rattle.ags_posts.specs.Line.{Line, moves_on, cell_in_case}
+use Rattle.ags_posts.specs.Posts.{Outcome, IsSingle, IsPostOfPart, pair_of, IsSplit, HasPort, Computes, ComputesWith, IsStored, IsGiven, IsCleared, loads, frees_q, IsPosts}
+use Rattle.ags_posts.specs.InRow.{IsInCase}
+use Rattle.ags_posts.specs.OneStep.{AgreesWith, AgreesWithOne}
+use Rattle.ags_posts.specs.declared.answers.PostPair.{PostPair}
+use Rattle.ags_posts.specs.declared.answers.Stop.TheVariants.{FixedWrite}
+use Rattle.ags_posts.proofs.AgreementLemmas.{told_held, IsInLine, line_agrees}
+use Rattle.ags_posts.proofs.SoundLemmas.{IsSound, never, goes_on, single_agrees, leaves_sound, next_is, clear_stays, set_stays, moves_in_line, cell_word, stored_sound, chosen, computed, met, computed_in_line, met_between}
+
+-- the one word of an operation without a cell
+zero_between : IsBetween no_cell 0
+zero_between = record { is_word = omega arith; from = omega (arith, ints); to = omega (arith, ints) }
+
+fixed_from : (address : ℕ) → is_erasable address ≡ false → 2048 ≤ address
+fixed_from address h = grind (arith, nat_tests)
+
+-- a register was found where there are posts
+port_found : {D : Type 0} (meaning : Meaning D) (c : Case D) (place : Option ℕ) (follows : Outcome D → Type 0) (pair : PostPair D)
+    → HasPort meaning c place follows (Ok pair) → (n : ℕ) × (place ≡ Some n) × follows (Ok pair)
+port_found meaning c None follows pair h = absurd cc
+port_found meaning c (Some n) follows pair h = (n, refl, h)
+
+and_both : (a b : Bool) → a ≡ true → b ≡ true → (a && b) ≡ true
+and_both a b h k = rw (h, k) refl
+
+module _ {D : Type 0} (meaning : Meaning D) (lawful : IsMeaning D meaning) (c : Case D) (s : State) (is : IsState c.machine s)
+    (in_case : IsInCase meaning c s) where
+  -- ---- the word of a cell
+
+  cell_by : (address : ℕ) (low here : Bool) → address < 4096 → is_erasable address ≡ low → (address == c.row.location) ≡ here
+      → IsAmong meaning (if low then (if here then OneWord c.word else These (cell_value c.row c.limits address)) else OneWord (word_at c.image address)) (cell s address)
+  cell_by address true true below erasable same =
+      let at : address ≡ s.location = eqb-true address c.row.location same ∙ sym in_case.in_row.location in
+      ap (λ (n : ℕ). cell s n) at ∙ in_case.word
+  cell_by address true false below erasable other = in_case.in_row.cells address (ltb-true address 2048 erasable)
+  cell_by address false here below fixed same = in_case.in_row.fixed address (fixed_from address fixed) below
+
+  -- a cell's word is among what the case says of it
+  cell_among : (address : ℕ) → address < 4096 → IsAmong meaning (cell_in_case c address) (cell s address)
+  cell_among address below = cell_by address (is_erasable address) (address == c.row.location) below refl refl
+
+  cell_between : (address : ℕ) (m : D) → address < 4096 → IsTold meaning (cell_in_case c address) m → IsBetween (meaning.ends m) (cell s address)
+  cell_between address m below told =
+      let word = cell_word meaning lawful c s is in_case address below in
+      lawful.between m (cell s address) word (told_held meaning (cell_in_case c address) m (cell s address) told word (cell_among address below))
+
+  -- ---- operations
+
+  computes_single : (operation : Operation) (candidates : Ends → Ends → List Operands) (m_ends : Ends) (m v : ℕ) (q : Told D) (pair : PostPair D)
+      → IsBetween m_ends m → Computes meaning c operation candidates m_ends (record (moves_on c) { q = q }) (IsSingle meaning c) (Ok pair)
+      → IsAmong meaning q v → IsState c.machine (computed meaning lawful c s is in_case operation m v).after
+      → IsSound meaning c pair (computed meaning lawful c s is in_case operation m v)
+  computes_single operation candidates m_ends m v q pair between p among is_state =
+      let found = chosen meaning lawful c s is in_case operation candidates m_ends (record (moves_on c) { q = q }) (IsSingle meaning c) p.0 pair
+      (met meaning lawful c s is in_case m) p.1 (met_between meaning lawful c s is in_case m m_ends between) is_state.a p.2 in
+      record {
+        agrees = single_agrees meaning lawful c s is in_case (record (moves_on c) { q = q; a = found.0; v1 = found.1 }) pair _ found.3
+            (computed_in_line meaning lawful c s is in_case operation m v q found.0 found.1 found.2 is_state.a is_state.q among) is_state;
+        overflow = found.2.named;
+        stored = tt;
+        took = tt;
+        gave = tt;
+      }
+
+  computes_cleared : (operation : Operation) (candidates : Ends → Ends → List Operands) (m_ends : Ends) (e m v : ℕ) (q : Told D) (pair : PostPair D)
+      → IsBetween m_ends m → is_erasable e ≡ true
+      → Computes meaning c operation candidates m_ends (record (moves_on c) { q = q }) (IsCleared meaning c e) (Ok pair)
+      → IsAmong meaning q v → IsState c.machine (then_clears (computed meaning lawful c s is in_case operation m v) e).after
+      → IsSound meaning c pair (then_clears (computed meaning lawful c s is in_case operation m v) e)
+  computes_cleared operation candidates m_ends e m v q pair between erasable p among is_state =
+      let found = chosen meaning lawful c s is in_case operation candidates m_ends (record (moves_on c) { q = q }) (IsCleared meaning c e) p.0 pair
+      (met meaning lawful c s is in_case m) p.1 (met_between meaning lawful c s is in_case m m_ends between) is_state.a p.2 in
+      stored_sound meaning lawful c s is in_case e (OneWord 0) (record (moves_on c) { q = q; a = found.0; v1 = found.1 }) pair
+      (computed meaning lawful c s is in_case operation m v) 0 erasable found.3
+      (computed_in_line meaning lawful c s is in_case operation m v q found.0 found.1 found.2 is_state.a is_state.q among)
+      refl is_state (omega arith) refl found.2.named refl refl
+
+  -- ---- an order that goes two ways
+
+  -- the post for those words of A that a test chooses is there where A's word is chosen
+  part_agrees : (chooses : ℕ → Bool) (line : Line D) (part : Option D) (post : Option (Post D)) (after : State)
+      → IsPart meaning chooses c.row.a part → IsPostOfPart meaning c line part post → chooses s.a ≡ true → after.a ≡ s.a
+      → IsInLine meaning s after line → IsState c.machine after → AgreesWith meaning c.limits c.row post after
+  part_agrees chooses line None post after is_part is_post chosen same in_line is_state =
+      absurd (never (sym (is_part s.a is.a in_case.in_row.a) ∙ chosen))
+  part_agrees chooses line (Some part) None after is_part is_post chosen same in_line is_state = absurd is_post
+  part_agrees chooses line (Some part) (Some post) after is_part is_post chosen same in_line is_state =
+      line_agrees meaning c s is in_case (record line { a = These part }) post after is_post (record {
+        next = in_line.next;
+        a_word = in_line.a_word;
+        a = ap (λ (w : ℕ). meaning.held part w) same ∙ is_part.1 s.a is.a ∙ and_both (meaning.held c.row.a s.a) (chooses s.a) in_case.in_row.a chosen;
+        q_word = in_line.q_word;
+        q = in_line.q;
+        x = in_line.x;
+        clear = in_line.clear;
+        set = in_line.set;
+        cells = in_line.cells;
+      }) is_state
+
+  first_of_pair : (first second : Option (Post D)) (after : State) → AgreesWith meaning c.limits c.row first after
+      → AgreesWithOne meaning c.limits c.row (pair_of meaning c first second) after
+  first_of_pair None second after h = absurd h
+  first_of_pair (Some first) second after h = inl h
+
+  second_of_pair : (first second : Option (Post D)) (after : State) → AgreesWith meaning c.limits c.row second after
+      → AgreesWithOne meaning c.limits c.row (pair_of meaning c first second) after
+  second_of_pair None second after h = inl h
+  second_of_pair (Some first) second after h = inr h
+
+  leaves_one : (pair : PostPair D) (after : State) → AgreesWithOne meaning c.limits c.row pair after → IsSound meaning c pair (leaves after)
+  leaves_one pair after h = record { agrees = h; overflow = λ over. absurd (never over); stored = tt; took = tt; gave = tt }
+
+  gone_in_line : (e : ℕ) → IsInLine meaning s (gone_to s e) (record (moves_on c) { next = e })
+  gone_in_line e = record {
+    next = refl;
+    a_word = is.a;
+    a = in_case.in_row.a;
+    q_word = is.q;
+    q = in_case.in_row.q;
+    x = in_case.index;
+    clear = clear_stays meaning lawful c s is in_case;
+    set = set_stays meaning lawful c s is in_case;
+    cells = refl;
+  }
+
+  splits : (negative : Bool) (e : ℕ) (pair : PostPair D) → is_negative s.a ≡ negative
+      → IsSplit meaning c (record (moves_on c) { next = e }) (moves_on c) (Ok pair)
+      → IsState c.machine (if negative then gone_to s e else moved_on s)
+      → IsSound meaning c pair (leaves (if negative then gone_to s e else moved_on s))
+  splits true e pair negative p is_state = leaves_one pair (gone_to s e)
+      (subst (λ (q : PostPair D). AgreesWithOne meaning c.limits c.row q (gone_to s e)) (sym p.4)
+      (first_of_pair p.0 p.1 (gone_to s e)
+      (part_agrees is_negative (record (moves_on c) { next = e }) p.2.0 p.0 (gone_to s e) p.2.1 p.2.2 negative refl (gone_in_line e) is_state)))
+  splits false e pair other p is_state =
+      let not_negative : is_not_negative s.a ≡ true = rw other refl in
+      leaves_one pair (moved_on s)
+      (subst (λ (q : PostPair D). AgreesWithOne meaning c.limits c.row q (moved_on s)) (sym p.4)
+      (second_of_pair p.0 p.1 (moved_on s)
+      (part_agrees is_not_negative (moves_on c) p.3.0 p.1 (moved_on s) p.3.1 p.3.2 not_negative refl (moves_in_line meaning lawful c s is in_case) is_state)))
+
+  -- ---- orders that look at the indicator, or at the index
+
+  clears : (set : Bool) (e : ℕ) (pair : PostPair D) → s.indicator ≡ set
+      → IsSingle meaning c (if set then (record (moves_on c) { next = e; v0 = true; v1 = false }) else moves_on c) (Ok pair)
+      → IsState c.machine (if set then (record s { indicator = false; location = e }) else moved_on s)
+      → IsSound meaning c pair (leaves (if set then (record s { indicator = false; location = e }) else moved_on s))
+  clears true e pair set p is_state = leaves_sound meaning lawful c s is in_case (record (moves_on c) { next = e; v0 = true; v1 = false }) pair
+      (record s { indicator = false; location = e }) p (record {
+        next = refl;
+        a_word = is.a;
+        a = in_case.in_row.a;
+        q_word = is.q;
+        q = in_case.in_row.q;
+        x = in_case.index;
+        clear = λ no. refl;
+        set = λ yes. yes;
+        cells = refl;
+      }) is_state
+  clears false e pair set p is_state =
+      leaves_sound meaning lawful c s is in_case (moves_on c) pair (moved_on s) p (moves_in_line meaning lawful c s is in_case) is_state
+
+  counts_down : (zero : Bool) (y : ℕ) (pair : PostPair D)
+      → IsSingle meaning c (if zero then moves_on c else (record (moves_on c) { next = y; x = c.index - 1 })) (Ok pair)
+      → IsState c.machine (if zero then moved_on s else (record s { index = s.index - 1; location = y }))
+      → IsSound meaning c pair (leaves (if zero then moved_on s else (record s { index = s.index - 1; location = y })))
+  counts_down true y pair p is_state =
+      leaves_sound meaning lawful c s is in_case (moves_on c) pair (moved_on s) p (moves_in_line meaning lawful c s is in_case) is_state
+  counts_down false y pair p is_state = leaves_sound meaning lawful c s is in_case (record (moves_on c) { next = y; x = c.index - 1 }) pair
+      (record s { index = s.index - 1; location = y }) p (record {
+        next = refl;
+        a_word = is.a;
+        a = in_case.in_row.a;
+        q_word = is.q;
+        q = in_case.in_row.q;
+        x = ap (λ (n : ℕ). n - 1) in_case.index;
+        clear = clear_stays meaning lawful c s is in_case;
+        set = set_stays meaning lawful c s is in_case;
+        cells = refl;
+      }) is_state
+
+  -- ---- the table
+
+  loads_in_line : (e : ℕ) → e < 4096 → IsInLine meaning s ((loads_a s (cell s e)).after) (loads meaning c e)
+  loads_in_line e below = record {
+    next = next_is meaning lawful c s is in_case;
+    a_word = cell_word meaning lawful c s is in_case e below;
+    a = cell_among e below;
+    q_word = is.q;
+    q = in_case.in_row.q;
+    x = in_case.index;
+    clear = clear_stays meaning lawful c s is in_case;
+    set = set_stays meaning lawful c s is in_case;
+    cells = refl;
+  }
+
+  pub order_sound : (order : Order) (e y : ℕ) (pair_found : PostPair D) → e < 4096 → IsPosts meaning c order e y (Ok pair_found)
+      → IsState c.machine ((effect c.machine s order e y).after) → IsSound meaning c pair_found (effect c.machine s order e y)
+  order_sound Cla e y both below p kept =
+      leaves_sound meaning lawful c s is in_case (loads meaning c e) both _ p (loads_in_line e below) kept
+  order_sound Ldq e y both below p kept =
+      leaves_sound meaning lawful c s is in_case (record (moves_on c) { q = cell_in_case c e }) both _ p (record {
+        next = next_is meaning lawful c s is in_case;
+        a_word = is.a;
+        a = in_case.in_row.a;
+        q_word = cell_word meaning lawful c s is in_case e below;
+        q = cell_among e below;
+        x = in_case.index;
+        clear = clear_stays meaning lawful c s is in_case;
+        set = set_stays meaning lawful c s is in_case;
+        cells = refl;
+      }) kept
+  order_sound Sto e y both below p kept =
+      let goes = goes_on (is_erasable e) (IsStored meaning c e (These c.row.a) (moves_on c) (Ok both)) both (FixedWrite e) p in
+      stored_sound meaning lawful c s is in_case e (These c.row.a) (moves_on c) both (leaves (moved_on s)) s.a goes.0 goes.1
+      (moves_in_line meaning lawful c s is in_case) refl kept is.a in_case.in_row.a (λ over. absurd (never over)) refl refl
+  order_sound Stq e y both below p kept =
+      let goes = goes_on (is_erasable e) (IsStored meaning c e (These c.row.q) (moves_on c) (Ok both)) both (FixedWrite e) p in
+      stored_sound meaning lawful c s is in_case e (These c.row.q) (moves_on c) both (leaves (moved_on s)) s.q goes.0 goes.1
+      (moves_in_line meaning lawful c s is in_case) refl kept is.q in_case.in_row.q (λ over. absurd (never over)) refl refl
+  order_sound Add e y both below p kept = computes_single sum sum_candidates (meaning.ends p.0) (cell s e) s.q (These c.row.q) both
+      (cell_between e p.0 below p.1) p.2 in_case.in_row.q kept
+  order_sound Sub e y both below p kept = computes_single difference difference_candidates (meaning.ends p.0) (cell s e) s.q (These c.row.q) both
+      (cell_between e p.0 below p.1) p.2 in_case.in_row.q kept
+  order_sound Com e y both below p kept = computes_single negative sign_candidates no_cell 0 s.q (These c.row.q) both zero_between p in_case.in_row.q kept
+  order_sound Abs e y both below p kept = computes_single size sign_candidates no_cell 0 s.q (These c.row.q) both zero_between p in_case.in_row.q kept
+  order_sound Als e y both below p kept =
+      computes_single (left_shift (y % 64)) left_shift_candidates no_cell 0 s.q (These c.row.q) both zero_between p in_case.in_row.q kept
+  order_sound Dvp e y both below p kept = computes_single quotient quotient_candidates (meaning.ends p.0) (cell s e) s.q (These c.row.q) both
+      (cell_between e p.0 below p.1) p.2 in_case.in_row.q kept
+  order_sound Mpy e y both below p kept = computes_single product_high product_candidates (meaning.ends p.0) (cell s e)
+      (pair (product s.a (cell s e))).1 EveryWord both (cell_between e p.0 below p.1) p.2 kept.q kept
+  order_sound Mpr e y both below p kept = computes_single product_rounded product_candidates (meaning.ends p.0) (cell s e)
+      (pair (product s.a (cell s e))).1 EveryWord both (cell_between e p.0 below p.1) p.2 kept.q kept
+  order_sound Lls e y both below p kept = computes_single (long_left_high (y % 64)) long_left_candidates no_cell 0
+      (pair (wrap_long (shifted_left (y % 64) s.a s.q))).1 EveryWord both zero_between p kept.q kept
+  order_sound Lrs e y both below p kept = computes_single (long_right_high (y % 64)) sign_candidates no_cell 0
+      (pair (shifted_right (long s.a s.q) (y % 64))).1 EveryWord both zero_between (Ok p.0, p.1, p.2) kept.q kept
+  order_sound Clz e y both below p kept =
+      let goes = goes_on (is_erasable e) (IsCleared meaning c e (loads meaning c e) (Ok both)) both (FixedWrite e) p in
+      stored_sound meaning lawful c s is in_case e (OneWord 0) (loads meaning c e) both (loads_a s (cell s e)) 0 goes.0 goes.1
+      (loads_in_line e below) refl kept (omega arith) refl (λ over. absurd (never over)) refl refl
+  order_sound Adz e y both below p kept =
+      let goes = goes_on (is_erasable e) (ComputesWith meaning c sum sum_candidates e (moves_on c) (IsCleared meaning c e) (Ok both)) both (FixedWrite e) p in
+      computes_cleared sum sum_candidates (meaning.ends goes.1.0) e (cell s e) s.q (These c.row.q) both
+      (cell_between e goes.1.0 below goes.1.1) goes.0 goes.1.2 in_case.in_row.q kept
+  order_sound Suz e y both below p kept =
+      let goes = goes_on (is_erasable e) (ComputesWith meaning c difference difference_candidates e (moves_on c) (IsCleared meaning c e) (Ok both)) both (FixedWrite e) p in
+      computes_cleared difference difference_candidates (meaning.ends goes.1.0) e (cell s e) s.q (These c.row.q) both
+      (cell_between e goes.1.0 below goes.1.1) goes.0 goes.1.2 in_case.in_row.q kept
+  order_sound Mpz e y both below p kept =
+      let goes = goes_on (is_erasable e) (ComputesWith meaning c product_rounded product_candidates e (frees_q meaning c) (IsCleared meaning c e) (Ok both)) both (FixedWrite e) p in
+      computes_cleared product_rounded product_candidates (meaning.ends goes.1.0) e (cell s e) (pair (product s.a (cell s e))).1 EveryWord both
+      (cell_between e goes.1.0 below goes.1.1) goes.0 goes.1.2 kept.q kept
+  order_sound Tra e y both below p kept =
+      leaves_sound meaning lawful c s is in_case (record (moves_on c) { next = e }) both (gone_to s e) p (gone_in_line e) kept
+  order_sound Tmi e y both below p kept = splits (is_negative s.a) e both refl p kept
+  order_sound Tov e y both below p kept = clears s.indicator e both refl
+      (subst (λ (b : Bool). IsSingle meaning c (if b then (record (moves_on c) { next = e; v0 = true; v1 = false }) else moves_on c) (Ok both))
+      (sym in_case.indicator) p) kept
+  order_sound Tix e y both below p kept = counts_down (nat_eq s.index 0) y both
+      (subst (λ (n : ℕ). IsSingle meaning c (if nat_eq n 0 then moves_on c else (record (moves_on c) { next = y; x = c.index - 1 })) (Ok both))
+      (sym in_case.index) p) kept
+  order_sound Axt e y both below p kept =
+      leaves_sound meaning lawful c s is in_case (record (moves_on c) { x = y % 8 }) both _ p (record {
+        next = next_is meaning lawful c s is in_case;
+        a_word = is.a;
+        a = in_case.in_row.a;
+        q_word = is.q;
+        q = in_case.in_row.q;
+        x = refl;
+        clear = clear_stays meaning lawful c s is in_case;
+        set = set_stays meaning lawful c s is in_case;
+        cells = refl;
+      }) kept
+  order_sound Tsq e y both below p kept =
+      leaves_sound meaning lawful c s is in_case
+      (record (moves_on c) { next = e; q = OneWord (order_word c.machine.codes Tra false (next_of_row c.row)) }) both _ p (record {
+        next = refl;
+        a_word = is.a;
+        a = in_case.in_row.a;
+        q_word = kept.q;
+        q = ap (λ (n : ℕ). order_word c.machine.codes Tra false n) (next_is meaning lawful c s is in_case);
+        x = in_case.index;
+        clear = clear_stays meaning lawful c s is in_case;
+        set = set_stays meaning lawful c s is in_case;
+        cells = refl;
+      }) kept
+  order_sound Inp e y both below p kept =
+      let place = place_of c.machine.ports.inputs y in
+      let found = port_found meaning c place (IsSingle meaning c (record (moves_on c) { a = These (input_limit c.limits y) })) both p in
+      record {
+        agrees = single_agrees meaning lawful c s is in_case (record (moves_on c) { a = These (input_limit c.limits y) }) both _ found.2 (record {
+          next = next_is meaning lawful c s is in_case;
+          a_word = kept.a;
+          a = subst (λ (at : Option ℕ). meaning.held (input_limit c.limits y) (register_at s.inputs at) ≡ true) (sym found.1) (in_case.inputs y found.0 found.1);
+          q_word = is.q;
+          q = in_case.in_row.q;
+          x = in_case.index;
+          clear = clear_stays meaning lawful c s is in_case;
+          set = set_stays meaning lawful c s is in_case;
+          cells = refl;
+        }) kept;
+        overflow = λ over. absurd (never over);
+        stored = tt;
+        took = subst (λ (at : Option ℕ). IsSome at) (sym found.1) refl;
+        gave = tt;
+      }
+  order_sound Out e y both below p kept =
+      let place = place_of c.machine.ports.outputs y in
+      let found = port_found meaning c place (IsGiven meaning c y (moves_on c)) both p in
+      record {
+        agrees = single_agrees meaning lawful c s is in_case (moves_on c) both _ found.2.1 (record {
+          next = next_is meaning lawful c s is in_case;
+          a_word = is.a;
+          a = in_case.in_row.a;
+          q_word = is.q;
+          q = in_case.in_row.q;
+          x = in_case.index;
+          clear = clear_stays meaning lawful c s is in_case;
+          set = set_stays meaning lawful c s is in_case;
+          cells = refl;
+        }) kept;
+        overflow = λ over. absurd (never over);
+        stored = tt;
+        took = tt;
+        gave = (subst (λ (at : Option ℕ). IsSome at) (sym found.1) refl, found.2.0 s.a is.a in_case.in_row.a);
+      }
+  order_sound Dly e y both below p kept =
+      leaves_sound meaning lawful c s is in_case (record (moves_on c) { next = y }) both _ p (record {
+        next = refl;
+        a_word = is.a;
+        a = in_case.in_row.a;
+        q_word = is.q;
+        q = in_case.in_row.q;
+        x = in_case.index;
+        clear = clear_stays meaning lawful c s is in_case;
+        set = set_stays meaning lawful c s is in_case;
+        cells = refl;
+      }) kept

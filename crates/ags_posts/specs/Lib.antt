@@ -1,0 +1,7 @@
+-- what the public contracts cite
+pub mod Case
+pub mod Line
+pub mod Told
+pub mod Posts
+pub mod InRow
+pub mod OneStep

@@ -1,0 +1,59 @@
+//! What the posts of a case mean. Each law is what a function that does nothing ensures, so that it is proved with the crate.
+
+ghost use Rattle.std.specs.Prelude.{◌≡◌, ℕ, true, List, Option, Some, Ok};
+ghost use Rattle.ags_domain.specs.WordSet.{lists};
+ghost use Rattle.ags_domain.specs.declared.word_sets.WordSet.{WordSet};
+ghost use Rattle.ags_ports.specs.declared.events.Event.TheVariants.{Step};
+ghost use Rattle.ags_ports.specs.declared.events.Report.{Report};
+ghost use Rattle.ags_ports.specs.Machine.{IsMachine};
+ghost use Rattle.ags_ports.specs.State.{State, IsState, word_here};
+ghost use Rattle.ags_ports.specs.Step.{Steps};
+ghost use Rattle.ags_row.specs.Limit.{Limiting};
+ghost use Rattle.ags_row.specs.Cover.{Covers};
+ghost use Rattle.ags_row.specs.declared.posts.Post.{Post};
+ghost use Rattle.ags_row.specs.declared.rows.Row.{Row};
+ghost use Rattle.ags_posts.specs.Case.{Case, IsCode};
+ghost use Rattle.ags_posts.specs.Posts.{Outcome, IsPostsOfCase};
+ghost use Rattle.ags_posts.specs.InRow.{IsInRow, IsInCase, HasFixedWords, AreCellsInLimits};
+ghost use Rattle.ags_posts.specs.OneStep.{Agrees, Follows};
+ghost use Rattle.ags_posts.specs.declared.answers.PostPair.{PostPair};
+
+use ags_domain::Domain;
+use ags_ports::Machine;
+
+/// Where a case has posts, the step from each state of the case runs an order, and follows them.
+pub fn one_step_follows_the_posts<D: Domain>()
+    ensures { (c : Case D) (s : State) (report : Report) (after : State) (pair : PostPair D) → IsMachine c.machine
+        → IsState c.machine s → IsInCase D.meaning c s → IsPostsOfCase D.meaning c (Ok pair)
+        → Steps c.machine s Step report after → Follows D.meaning c pair report after }
+{}
+
+/// A row that covers a post holds each state that agrees with the post, where the cells are in their limits and the fixed cells are
+/// the image's.
+pub fn covering_row_holds_what_agrees<D: Domain>()
+    ensures { (machine : Machine) (image : List (Option ℕ)) (limits : Limiting D) (target base : Row D) (post : Post D) (s : State)
+        → IsState machine s → Covers D.meaning target base post limits → Agrees D.meaning limits base post s
+        → HasFixedWords image s → AreCellsInLimits D.meaning limits s → IsInRow D.meaning image limits target s }
+{}
+
+/// A step that follows the posts of its case keeps the cells in their limits.
+pub fn step_that_follows_keeps_cells_in_limits<D: Domain>()
+    ensures { (c : Case D) (s : State) (report : Report) (after : State) (pair : PostPair D) → IsState c.machine s
+        → Steps c.machine s Step report after → Follows D.meaning c pair report after
+        → AreCellsInLimits D.meaning c.limits s → AreCellsInLimits D.meaning c.limits after }
+{}
+
+/// A case has one answer: its posts, or its stop.
+pub fn case_has_one_answer<D: Domain>()
+    ensures { (c : Case D) (one other : Outcome D) → IsMachine c.machine → IsPostsOfCase D.meaning c one
+        → IsPostsOfCase D.meaning c other → one ≡ other }
+{}
+
+/// The code of a row has the word that each state of the row stands at, and a row has one code.
+pub fn code_has_the_word_of_each_state<D: Domain>()
+    ensures word { (machine : Machine) (image : List (Option ℕ)) (limits : Limiting D) (row : Row D) (set : WordSet) (s : State)
+        → IsState machine s → IsInRow D.meaning image limits row s → IsCode D.meaning image limits row (Some set)
+        → lists set.list (word_here s) ≡ true }
+    ensures one { (image : List (Option ℕ)) (limits : Limiting D) (row : Row D) (one other : Option WordSet)
+        → IsCode D.meaning image limits row one → IsCode D.meaning image limits row other → one ≡ other }
+{}

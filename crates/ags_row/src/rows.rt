@@ -1,0 +1,124 @@
+//! Rows: what may stand where one order begins.
+
+ghost use Rattle.std.specs.Prelude.{◌≡◌, ◌<◌, ◌≤◌, true, length};
+ghost use Rattle.ags_row.specs.Cell.{cells_ascend};
+ghost use Rattle.ags_row.specs.Flag.{some_flag};
+
+use crate::ats::At;
+use crate::cells::{Cells, ascend};
+
+/// How many cells a row names at most.
+const MOST_CELLS: usize = 64;
+
+/// How many locations the memory has.
+const LOCATIONS: u16 = 4096;
+
+/// The parts that a row is made of.
+#[derive(Debug, Drop)]
+pub struct RowParts<D> {
+    /// The location, below 4096.
+    pub location: u16,
+    /// The words that A may hold.
+    pub a: D,
+    /// The words that Q may hold.
+    pub q: D,
+    /// For each value of the index register whether it may stand; one may.
+    pub x: [bool; 8],
+    /// Whether the indicator may be clear, and whether it may be set; one of them.
+    pub v: [bool; 2],
+    /// What some erasable cells may hold, at most 64, in ascending order.
+    pub at: Vec<At<D>>,
+}
+
+/// What may stand where the order at one location begins. A cell that it doesn't name may hold what the limits say.
+#[derive(Debug, Drop)]
+pub struct Row<D> {
+    location: u16,
+    a: D,
+    q: D,
+    x: [bool; 8],
+    v: [bool; 2],
+    at: Cells<D>,
+    pub ghost below: { location < 4096 },
+    pub ghost some_index: { some_flag x ≡ true },
+    pub ghost some_indicator: { some_flag v ≡ true },
+    pub ghost indices: { length x ≡ 8 },
+    pub ghost indicators: { length v ≡ 2 },
+    pub ghost few: { length at ≤ 64 },
+    pub ghost ascending: { cells_ascend 0 at ≡ true },
+}
+
+impl<D: Copy> Row<D> {
+    ghost use Rattle.std.specs.Prelude.{◌≡◌};
+    ghost use Rattle.ags_row.specs.Row.{IsRowOf};
+
+    /// The row of some parts, and nothing where they make none: where the location is above 4095, no index or no indicator
+    /// may stand, or the cells are more than 64, not erasable, or don't ascend.
+    pub fn of(parts: RowParts<D>) -> Option<Row<D>>
+        ensures { IsRowOf parts result }
+    {
+        if parts.location >= LOCATIONS || !some_flag(&parts.x) || !some_flag(&parts.v) {
+            return None;
+        }
+        if parts.at.len() > MOST_CELLS || !ascend(parts.at.as_slice()) {
+            return None;
+        }
+        Some(Row {
+            location: parts.location,
+            a: parts.a,
+            q: parts.q,
+            x: parts.x,
+            v: parts.v,
+            at: Cells::of(parts.at),
+        })
+    }
+
+    /// The location, below 4096.
+    pub fn location(&self) -> u16
+        ensures { result ≡ self.now.location }
+    {
+        self.location
+    }
+
+    /// The words that A may hold.
+    pub fn a(&self) -> D
+        ensures { result ≡ self.now.a }
+    {
+        self.a
+    }
+
+    /// The words that Q may hold.
+    pub fn q(&self) -> D
+        ensures { result ≡ self.now.q }
+    {
+        self.q
+    }
+
+    /// For each value of the index register whether it may stand; one may.
+    pub fn x(&self) -> [bool; 8]
+        ensures { result ≡ self.now.x }
+    {
+        self.x
+    }
+
+    /// Whether the indicator may be clear, and whether it may be set; one of them.
+    pub fn v(&self) -> [bool; 2]
+        ensures { result ≡ self.now.v }
+    {
+        self.v
+    }
+
+    /// What some erasable cells may hold, at most 64, in ascending order.
+    pub fn at(&self) -> &[At<D>]
+        ensures { result.now ≡ self.now.at }
+    {
+        self.at.as_slice()
+    }
+}
+
+/// Whether one of some flags is set.
+fn some_flag(flags: &[bool]) -> bool
+    ensures { result ≡ some_flag flags.now }
+{
+    flags.iter().any(|flag| *flag)
+}

@@ -1,0 +1,134 @@
+//! The orders that say where the machine goes on, and those that set and count the index register.
+
+ghost use Rattle.std.specs.Prelude.{◌≡◌, ◌<◌, ℕ};
+ghost use Rattle.ags_domain.specs.Domain.{IsPart, is_negative, is_not_negative};
+ghost use Rattle.ags_isa.specs.declared.orders.Order.TheVariants.{Axt, Dly, Tix, Tmi, Tov, Tra, Tsq};
+ghost use Rattle.ags_posts.specs.Line.{Line, IsPostOf};
+ghost use Rattle.ags_posts.specs.Posts.{IsPosts, IsPostOfPart, pair_of};
+
+use crate::cases::Case;
+use crate::deciding::single;
+use ags_domain::Domain;
+use ags_isa::{Order, encode};
+use ags_posts::{PostPair, Stop};
+use ags_row::Post;
+
+/// Two posts that may be there: a single one is the first.
+fn pair_of<D: Domain>(first: Option<Post<D>>, second: Option<Post<D>>) -> PostPair<D>
+    ensures { (case : _) → result ≡ pair_of D.meaning case first second }
+{
+    match first {
+        Some(first) => PostPair {
+            first: Some(first),
+            second,
+        },
+        None => PostPair {
+            first: second,
+            second: None,
+        },
+    }
+}
+
+/// A post with a part of A, where there is one.
+fn with_part<D: Domain>(part: Option<D>, post: Post<D>) -> Option<Post<D>>
+    ensures { (case : _) (line : Line D) → IsPostOf D.meaning case line post → IsPostOfPart D.meaning case line part result }
+{
+    match part {
+        Some(a) => Some(Post { a, ..post }),
+        None => None,
+    }
+}
+
+impl<'a, D: Domain> Case<'a, D> {
+    /// TRA: goes to an address.
+    pub(crate) fn tra(&self, e: u16) -> Result<PostPair<D>, Stop<D>>
+        ensures { (y : ℕ) → IsPosts D.meaning self.now Tra e y result }
+    {
+        Ok(single(self.goes_to(e)))
+    }
+
+    /// The part of A whose words are negative.
+    fn negative_part(&self) -> Option<D>
+        ensures { IsPart D.meaning is_negative self.now.row.a result }
+    {
+        self.a().negative()
+    }
+
+    /// The part of A whose words aren't negative.
+    fn rest_part(&self) -> Option<D>
+        ensures { IsPart D.meaning is_not_negative self.now.row.a result }
+    {
+        self.a().rest()
+    }
+
+    /// TMI: goes there where A is negative.
+    pub(crate) fn tmi(&self, e: u16) -> Result<PostPair<D>, Stop<D>>
+        ensures { (y : ℕ) → IsPosts D.meaning self.now Tmi e y result }
+    {
+        let taken = with_part(self.negative_part(), self.goes_to(e));
+        let rest = with_part(self.rest_part(), self.moves_on());
+        Ok(pair_of(taken, rest))
+    }
+
+    /// TOV: where the indicator is set, clears it and goes there.
+    pub(crate) fn tov(&self, e: u16) -> Result<PostPair<D>, Stop<D>>
+        ensures { (y : ℕ) → IsPosts D.meaning self.now Tov e y result }
+    {
+        let stays = self.moves_on();
+        if self.indicator {
+            Ok(single(Post {
+                next: e,
+                v0: true,
+                v1: false,
+                ..stays
+            }))
+        } else {
+            Ok(single(stays))
+        }
+    }
+
+    /// TIX: where the index isn't 0, lowers it by one and goes there.
+    pub(crate) fn tix(&self, y: u16) -> Result<PostPair<D>, Stop<D>>
+        ensures { (e : ℕ) → IsPosts D.meaning self.now Tix e y result }
+    {
+        let stays = self.moves_on();
+        if self.index == 0 {
+            Ok(single(stays))
+        } else {
+            Ok(single(Post {
+                next: y,
+                x: self.index - 1,
+                ..stays
+            }))
+        }
+    }
+
+    /// AXT: the index becomes an address modulo 8.
+    pub(crate) fn axt(&self, y: u16) -> Result<PostPair<D>, Stop<D>>
+        ensures { (e : ℕ) → IsPosts D.meaning self.now Axt e y result }
+    {
+        Ok(single(Post {
+            x: (y % 8) as u8,
+            ..self.moves_on()
+        }))
+    }
+
+    /// TSQ: Q becomes the order that goes back to the next location, and it goes to an address.
+    pub(crate) fn tsq(&self, e: u16) -> Result<PostPair<D>, Stop<D>>
+        ensures { (y : ℕ) → IsPosts D.meaning self.now Tsq e y result }
+    {
+        let back = encode(&self.machine.codes, Order::Tra, false, self.next());
+        Ok(single(Post {
+            next: e,
+            q: D::of_word(back),
+            ..self.moves_on()
+        }))
+    }
+
+    /// DLY: the location becomes an address, and the machine waits there.
+    pub(crate) fn dly(&self, y: u16) -> Result<PostPair<D>, Stop<D>>
+        ensures { (e : ℕ) → IsPosts D.meaning self.now Dly e y result }
+    {
+        Ok(single(self.goes_to(y)))
+    }
+}
