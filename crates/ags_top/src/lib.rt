@@ -1,7 +1,8 @@
 //! The program's one call: from the arguments of a command line to a status and the bytes that are written, over any shelf
-//! and any sink. It stands on `ags_plan` for the walk along files, on `ags_asm` for sources, on `ags_image`, `ags_ports`,
-//! `ags_core` and `ags_run` for the machine and its scripts, on `ags_text` for digits and on `ags_outside` for the traits.
-//! `ags_main` answers exactly what the definitions in `specs/` say of the arguments and the files.
+//! and any sink. It stands on `ags_plan` for the walk along files, on `ags_machfile` for machine files, on `ags_asm` for
+//! sources, on `ags_ports`, `ags_core` and `ags_run` for the machine and its scripts, on `ags_text` for digits and on
+//! `ags_outside` for the traits. `ags_main` answers exactly what the definitions in `specs/` say of the arguments and the
+//! files.
 #![tactic(auto)]
 
 mod answer_laws;
