@@ -1,0 +1,6 @@
+-- what the public contracts cite
+pub mod Certificate
+pub mod Start
+pub mod Safe
+pub mod Accepted
+pub mod Failing
