@@ -1,0 +1,4 @@
+-- what the public contracts cite
+pub mod ErrorText
+pub mod Listing
+pub mod Reads

@@ -1,0 +1,40 @@
+-- The listing of printed cards.
+use Rattle.std.specs.Prelude.{ℕ, ◌<◌, ◌^◌, List, [], ◌∷◌, ◌++◌, Option, Some, None, codes, IfSome}
+use Rattle.std.specs.List.{filter_map}
+use Rattle.ags_text.specs.Line.{HasNoFeed}
+use Rattle.ags_text.specs.Numeral.{decimal7_text, octal4_text, octal6_text}
+use Rattle.ags_image.specs.Image.{PlacedWord, IsMemoryWord}
+
+-- a card as it is printed: its number, its word at its place, if it has one, and its text
+pub record PrintedCard : Type 0 where
+  pub number : ℕ
+  pub placed : Option PlacedWord
+  pub text : List ℕ
+
+-- the columns of a card's place and word: eleven blanks where it has none
+abbrev pub columns : Option PlacedWord → List ℕ
+columns None = codes "           "
+columns (Some placed) = octal4_text placed.place ++ codes " " ++ octal6_text placed.word
+
+-- a card's line, without its line feed: its number, its place and word, and its text
+abbrev pub printed_line : PrintedCard → List ℕ
+printed_line card = decimal7_text card.number ++ codes " " ++ columns card.placed ++ codes " " ++ card.text
+
+-- and with it
+abbrev pub listing_line : PrintedCard → List ℕ
+listing_line card = printed_line card ++ codes "\n"
+
+-- the listing of cards, a line each
+unfoldable pub listing_text : List PrintedCard → List ℕ
+listing_text [] = []
+listing_text (card ∷ cards) = listing_line card ++ listing_text cards
+
+-- the words of the cards, in order
+abbrev pub printed_words : List PrintedCard → List PlacedWord
+printed_words cards = filter_map (λ card. card.placed) cards
+
+-- a card can be printed: its number fits its seven digits, its word is one of the memory, and its text has no line feed
+pub record IsPrintable (card : PrintedCard) : Type 0 where
+  pub numbered : card.number < 10 ^ 7
+  pub within : IfSome card.placed IsMemoryWord
+  pub unbroken : HasNoFeed card.text

@@ -1,0 +1,42 @@
+-- What holds of each element, by recursion, over the lists that the cases of a row are made of.
+use Rattle.std.proofs.Common.{zero, arith, List, [], ◌∷◌, ◌++◌, map}
+use Rattle.std.specs.List.{All, AllByRecursion, flat_map}
+use Rattle.std.proofs.lemmas.List.Elements.{All-nil, All-cons, All-tail}
+
+module _ {X : Type 0} (P : X → Type 0) where
+  pub from_all : (xs : List X) → All P xs → AllByRecursion P xs
+  from_all [] all = tt
+  from_all (x ∷ xs) all = (all zero x (omega arith), from_all xs (All-tail P x xs all))
+
+  pub to_all : (xs : List X) → AllByRecursion P xs → All P xs
+  to_all [] each = All-nil P
+  to_all (x ∷ xs) each = All-cons P x xs each.0 (to_all xs each.1)
+
+  pub append_each : (xs ys : List X) → AllByRecursion P xs → AllByRecursion P ys → AllByRecursion P (xs ++ ys)
+  append_each [] ys left right = right
+  append_each (x ∷ xs) ys left right = (left.0, append_each xs ys left.1 right)
+
+  pub left_each : (xs ys : List X) → AllByRecursion P (xs ++ ys) → AllByRecursion P xs
+  left_each [] ys each = tt
+  left_each (x ∷ xs) ys each = (each.0, left_each xs ys each.1)
+
+  pub right_each : (xs ys : List X) → AllByRecursion P (xs ++ ys) → AllByRecursion P ys
+  right_each [] ys each = each
+  right_each (x ∷ xs) ys each = right_each xs ys each.1
+
+module _ {X Y : Type 0} (P : Y → Type 0) where
+  pub map_each : (f : X → Y) (xs : List X) → AllByRecursion (λ x. P (f x)) xs → AllByRecursion P (map f xs)
+  map_each f [] each = tt
+  map_each f (x ∷ xs) each = (each.0, map_each f xs each.1)
+
+  pub each_map : (f : X → Y) (xs : List X) → AllByRecursion P (map f xs) → AllByRecursion (λ x. P (f x)) xs
+  each_map f [] each = tt
+  each_map f (x ∷ xs) each = (each.0, each_map f xs each.1)
+
+  pub flat_each : (f : X → List Y) (xs : List X) → AllByRecursion (λ x. AllByRecursion P (f x)) xs → AllByRecursion P (flat_map f xs)
+  flat_each f [] each = tt
+  flat_each f (x ∷ xs) each = append_each P (f x) (flat_map f xs) each.0 (flat_each f xs each.1)
+
+  pub each_flat : (f : X → List Y) (xs : List X) → AllByRecursion P (flat_map f xs) → AllByRecursion (λ x. AllByRecursion P (f x)) xs
+  each_flat f [] each = tt
+  each_flat f (x ∷ xs) each = (left_each P (f x) (flat_map f xs) each, each_flat f xs (right_each P (f x) (flat_map f xs) each))

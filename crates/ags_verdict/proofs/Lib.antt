@@ -1,0 +1,4 @@
+mod EachLemmas
+mod CaseLemmas
+mod InOrderLemmas
+pub mod VerdictLemmas

@@ -1,0 +1,7 @@
+-- what the public contracts cite
+pub mod InOrder
+pub mod RowCase
+pub mod Fault
+pub mod Verdict
+pub mod Flat
+pub mod VerdictText

@@ -1,0 +1,40 @@
+//! What the verdict means. Each law is what a function that does nothing ensures, so that it is proved with the crate.
+
+ghost use Rattle.std.specs.Prelude.{◌≡◌, ℕ, List, length, Option};
+ghost use Rattle.ags_ports.specs.Machine.{IsMachine};
+ghost use Rattle.ags_safe.specs.Certificate.{Certificate};
+ghost use Rattle.ags_safe.specs.Accepted.{Accepted};
+ghost use Rattle.ags_verdict.specs.Verdict.{IsVerdict};
+ghost use Rattle.ags_verdict.specs.Flat.{IsNumberOfCases, IsFirstFailing};
+ghost use Rattle.ags_verdict.specs.declared.verdicts.Verdict.{Verdict};
+ghost use Rattle.ags_verdict.specs.declared.verdicts.Verdict.TheVariants.{Certified, Refused};
+ghost use Rattle.ags_verdict.specs.declared.verdicts.Refusal.{Refusal};
+
+use ags_domain::Domain;
+use ags_ports::Machine;
+
+/// Just the accepted certificates are certified, with the number of their rows and of their cases; and one that is refused is not
+/// accepted.
+pub fn accepted_certificates_are_certified<D: Domain>()
+    ensures certified { (machine : Machine) (image : List (Option ℕ)) (cert : Certificate D) → Accepted D.meaning machine image cert
+        → (cases : ℕ) × IsVerdict D.meaning machine image cert (Certified (length cert.rows) cases) }
+    ensures accepted { (machine : Machine) (image : List (Option ℕ)) (cert : Certificate D) (rows cases : ℕ)
+        → IsVerdict D.meaning machine image cert (Certified rows cases) → Accepted D.meaning machine image cert }
+    ensures counted { (machine : Machine) (image : List (Option ℕ)) (cert : Certificate D) (rows cases : ℕ)
+        → IsVerdict D.meaning machine image cert (Certified rows cases)
+        → (rows ≡ length cert.rows) × IsNumberOfCases D.meaning image cert.limits cert.rows cases }
+    ensures refused { (machine : Machine) (image : List (Option ℕ)) (cert : Certificate D) (refusal : Refusal D) → IsMachine machine
+        → IsVerdict D.meaning machine image cert (Refused refusal) → ¬ Accepted D.meaning machine image cert }
+{}
+
+/// A certificate has one verdict.
+pub fn certificate_has_one_verdict<D: Domain>()
+    ensures { (machine : Machine) (image : List (Option ℕ)) (cert : Certificate D) (one other : Verdict D) → IsMachine machine
+        → IsVerdict D.meaning machine image cert one → IsVerdict D.meaning machine image cert other → one ≡ other }
+{}
+
+/// A refusal tells the first item that fails, in the order of the first words, the start, and the rows with their cases.
+pub fn refusal_tells_what_fails_first<D: Domain>()
+    ensures { (machine : Machine) (image : List (Option ℕ)) (cert : Certificate D) (refusal : Refusal D)
+        → IsVerdict D.meaning machine image cert (Refused refusal) → IsFirstFailing D.meaning machine image cert refusal }
+{}

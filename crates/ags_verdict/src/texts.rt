@@ -1,0 +1,175 @@
+//! A verdict as it is printed.
+
+ghost use Rattle.std.specs.Prelude.{Some};
+
+use crate::verdicts::{Refusal, Verdict};
+use ags_domain::{Operands, Value};
+use ags_text::octal4;
+use ags_word::Word;
+use std::fmt;
+
+/// A word that prints as six octal digits.
+#[derive(Clone, Copy)]
+struct SixDigits(Word);
+
+impl fmt::Display for SixDigits {
+    ghost use Rattle.ags_text.specs.Numeral.{octal6_text};
+
+    ghost output = { λ word. Some (octal6_text word.0) };
+
+    fn fmt<W: fmt::Write>(&self, f: &mut fmt::Formatter<W>) -> fmt::Result {
+        let digits = self.0.octal6();
+        f.write_str(str::from_utf8(&digits).unwrap())
+    }
+}
+
+/// An address that prints as its last four octal digits.
+#[derive(Clone, Copy)]
+struct FourDigits(u16);
+
+impl fmt::Display for FourDigits {
+    ghost use Rattle.ags_text.specs.Numeral.{octal4_text};
+
+    ghost output = { λ address. Some (octal4_text address.0) };
+
+    fn fmt<W: fmt::Write>(&self, f: &mut fmt::Formatter<W>) -> fmt::Result {
+        let digits = octal4(u32::from(self.0));
+        f.write_str(str::from_utf8(&digits).unwrap())
+    }
+}
+
+/// A row's number with a case's word.
+#[derive(Clone, Copy)]
+struct At(u32, Word);
+
+impl fmt::Display for At {
+    ghost use Rattle.ags_verdict.specs.VerdictText.{at_text};
+
+    ghost output = { λ at. Some (at_text at.0 at.1) };
+
+    fn fmt<W: fmt::Write>(&self, f: &mut fmt::Formatter<W>) -> fmt::Result {
+        let row = self.0;
+        let word = SixDigits(self.1);
+        write!(f, " ROW {row} WORD {word}")
+    }
+}
+
+/// Operands that overflow.
+#[derive(Clone, Copy)]
+struct Overflowing(Operands);
+
+impl fmt::Display for Overflowing {
+    ghost use Rattle.ags_verdict.specs.VerdictText.{operands_text};
+
+    ghost output = { λ operands. Some (operands_text operands.0) };
+
+    fn fmt<W: fmt::Write>(&self, f: &mut fmt::Formatter<W>) -> fmt::Result {
+        let a = SixDigits(self.0.a);
+        let q = SixDigits(self.0.q);
+        let m = SixDigits(self.0.m);
+        write!(f, " A {a} Q {q} M {m}")
+    }
+}
+
+/// An address with a value.
+#[derive(Clone, Copy)]
+struct Place(u16, Value);
+
+impl fmt::Display for Place {
+    ghost use Rattle.ags_verdict.specs.VerdictText.{place_text};
+
+    ghost output = { λ place. Some (place_text place.0 place.1) };
+
+    fn fmt<W: fmt::Write>(&self, f: &mut fmt::Formatter<W>) -> fmt::Result {
+        let address = FourDigits(self.0);
+        let value = self.1;
+        write!(f, " AT {address} VALUE {value}")
+    }
+}
+
+/// Prints the refusal's number and its name, and what it tells.
+impl fmt::Display for Refusal<Value> {
+    ghost use Rattle.ags_verdict.specs.VerdictText.{refusal_text};
+
+    ghost output = { λ refusal. Some (refusal_text refusal) };
+
+    fn fmt<W: fmt::Write>(&self, f: &mut fmt::Formatter<W>) -> fmt::Result {
+        match *self {
+            Refusal::InitRange { address, word } => {
+                let address = FourDigits(address);
+                let word = SixDigits(word);
+                write!(f, "1 InitRange {address} {word}")
+            }
+            Refusal::StartUncovered => f.write_str("2 StartUncovered"),
+            Refusal::CodeUnknown { row } => write!(f, "3 CodeUnknown ROW {row}"),
+            Refusal::NoOrder { row, word } => {
+                let at = At(row, word);
+                write!(f, "4 NoOrder{at}")
+            }
+            Refusal::BadPort { row, word } => {
+                let at = At(row, word);
+                write!(f, "5 BadPort{at}")
+            }
+            Refusal::FixedWrite { row, word, address } => {
+                let at = At(row, word);
+                let address = FourDigits(address);
+                write!(f, "6 FixedWrite{at} AT {address}")
+            }
+            Refusal::MayOverflow {
+                row,
+                word,
+                operands,
+            } => {
+                let at = At(row, word);
+                let operands = Overflowing(operands);
+                write!(f, "7 MayOverflow{at}{operands}")
+            }
+            Refusal::CellRange {
+                row,
+                word,
+                address,
+                value,
+            } => {
+                let at = At(row, word);
+                let place = Place(address, value);
+                write!(f, "8 CellRange{at}{place}")
+            }
+            Refusal::OutputRange {
+                row,
+                word,
+                address,
+                value,
+            } => {
+                let at = At(row, word);
+                let place = Place(address, value);
+                write!(f, "9 OutputRange{at}{place}")
+            }
+            Refusal::NotCovered {
+                row,
+                word,
+                x,
+                v,
+                next,
+            } => {
+                let at = At(row, word);
+                let indicator = if v { "1" } else { "0" };
+                let next = FourDigits(next);
+                write!(f, "10 NotCovered{at} X {x} V {indicator} NEXT {next}")
+            }
+        }
+    }
+}
+
+/// Prints the line of a verdict, without a line feed.
+impl fmt::Display for Verdict<Value> {
+    ghost use Rattle.ags_verdict.specs.VerdictText.{verdict_text};
+
+    ghost output = { λ verdict. Some (verdict_text verdict) };
+
+    fn fmt<W: fmt::Write>(&self, f: &mut fmt::Formatter<W>) -> fmt::Result {
+        match *self {
+            Verdict::Certified { rows, cases } => write!(f, "CERTIFIED ROWS {rows} CASES {cases}"),
+            Verdict::Refused(refusal) => write!(f, "REFUSED {refusal}"),
+        }
+    }
+}
