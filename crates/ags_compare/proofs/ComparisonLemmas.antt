@@ -1,7 +1,7 @@
 -- Two images compare in one way.
-use Rattle.std.proofs.Common.{◌≡◌, ◌≢◌, ℕ, ◌<◌, List, Option, refl, sym, ◌∙◌, ap, arith, inl, inr}
+use Rattle.std.proofs.Common.{◌≡◌, ℕ, ◌<◌, List, Option, refl, sym, ◌∙◌, arith, inl, inr}
 use Rattle.std.proofs.lemmas.Bool.{cases_lt, cases_eq}
-use Rattle.ags_image.specs.Image.{memory_size, entry_at, IsImage}
+use Rattle.ags_image.specs.Image.{memory_size, IsImage}
 use Rattle.ags_image.proofs.ImageLaws.{image_same}
 use Rattle.ags_compare.specs.declared.comparing.Compared.{Compared}
 use Rattle.ags_compare.specs.declared.comparing.Compared.TheVariants.{Equal, Differs}

@@ -1,0 +1,24 @@
+//! Scripts: what is done with the machine and its panel, line by line, and what is shown of them. `read` answers exactly
+//! what the definitions in `specs/` say of a script's text for a machine: its commands, or its first fault
+//! (docs/SCRIPT.md). It stands on `ags_text` for lines, fields and digits, on `ags_ports` for the machine's registers, on
+//! `ags_deda` for keys, and on `ags_word`.
+#![tactic(auto)]
+
+mod commands;
+mod counting;
+mod keys;
+pub mod laws;
+mod numbers;
+mod operands;
+mod reader;
+mod script_errors;
+mod scripts;
+#[cfg(test)]
+mod tests;
+mod verb_commands;
+mod verbs;
+
+pub use commands::Command;
+pub use counting::{CYCLE_STEPS, STEP_LIMIT};
+pub use script_errors::{ScriptError, ScriptKind};
+pub use scripts::{SCRIPT_LIMIT, Script, read};

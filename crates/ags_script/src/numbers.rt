@@ -1,0 +1,31 @@
+//! The addresses and words of a script's lines, which have so many digits and no fewer.
+
+ghost use Rattle.std.specs.Prelude.{◌≡◌, ◌<◌, ℕ, Some, IfSome};
+ghost use Rattle.ags_text.specs.Numeral.{Writes};
+
+use ags_word::Word;
+
+/// The address that four octal digits write, and nothing for any other text.
+pub(crate) fn read_address(text: &[u8]) -> Option<u16>
+    ensures found { IfSome result (λ address. Writes 8 4 text.now address) }
+    ensures only { (address : ℕ) → Writes 8 4 text.now address → result ≡ Some address }
+{
+    if text.len() != 4 {
+        return None;
+    }
+    let Some(number) = ags_text::read_octal(text) else {
+        return None;
+    };
+    Some(number as u16)
+}
+
+/// The word that six octal digits write, and nothing for any other text.
+pub(crate) fn read_word(text: &[u8]) -> Option<Word>
+    ensures found { IfSome result (λ word. Writes 8 6 text.now word) }
+    ensures only { (word : ℕ) → Writes 8 6 text.now word → result ≡ Some word }
+{
+    if text.len() != 6 {
+        return None;
+    }
+    Word::read_octal(text)
+}
