@@ -1,0 +1,7 @@
+-- what the public contracts cite
+pub mod FaultText
+pub mod Spelling
+pub mod Reading
+pub mod Statement
+pub mod Fault
+pub mod Text

@@ -1,0 +1,124 @@
+-- How a certificate's lines are spelled: forwards from what a line states to the lines that state it.
+use Rattle.std.specs.Prelude.{◌≡◌, ◌≢◌, ℕ, ◌+◌, ◌≤◌, ◌⊎◌, Bool, true, false, ℤ, pos, neg_ℤ, ◌<ℤ◌, List, [], ◌∷◌, ◌++◌, length, slice_index, Option, Some, None, if◌then◌else◌, codes}
+use Rattle.ags_text.specs.Field.{AreBlanks, HasFields}
+use Rattle.ags_text.specs.Numeral.{IsDecimal, Writes}
+use Rattle.ags_word.specs.Word.{fits}
+use Rattle.ags_domain.specs.Domain.{IsFull}
+use Rattle.ags_domain.specs.Range.{IsRangeOf}
+use Rattle.ags_domain.specs.Value.{value_meaning}
+use Rattle.ags_domain.specs.declared.values.Value.{Value}
+use Rattle.ags_domain.specs.declared.values.Value.TheVariants.{Range, Words}
+use Rattle.ags_row.specs.Flag.{some_flag}
+use Rattle.ags_certtext.specs.declared.statements.Entry.{Entry}
+use Rattle.ags_certtext.specs.declared.statements.RowLine.{RowLine}
+use Rattle.ags_certtext.specs.declared.statements.Statement.{Statement}
+use Rattle.ags_certtext.specs.declared.statements.Statement.TheVariants.{Start, Cell, Init, In, Out, May, Row, At, End}
+
+-- ---- values
+
+-- a signed number: a minus or nothing, and one to six decimal digits
+pub record IsSigned (text : List ℕ) (number : ℤ) : Type 0 where
+  pub negative : Bool
+  pub digits : List ℕ
+  pub size : ℕ
+  pub whole : text ≡ (if negative then 45 ∷ digits else digits)
+  pub is_decimal : IsDecimal 6 digits size
+  pub number_is : number ≡ (if negative then neg_ℤ (pos size) else pos size)
+
+-- the fields of a range: its keyword, and two signed numbers that are values of words
+pub record AreEnds (fields : List (List ℕ)) (least greatest : ℤ) : Type 0 where
+  pub first : List ℕ
+  pub second : List ℕ
+  pub are : fields ≡ codes "RANGE" ∷ first ∷ second ∷ []
+  pub least_is : IsSigned first least
+  pub greatest_is : IsSigned second greatest
+  pub least_fits : fits least ≡ true
+  pub greatest_fits : fits greatest ≡ true
+
+-- each field is a word of six octal digits
+abbrev pub AreWords : List (List ℕ) → List ℕ → Type 0
+AreWords [] [] = Unit {0}
+AreWords (field ∷ fields) (word ∷ words) = Writes 8 6 field word × AreWords fields words
+AreWords [] (word ∷ words) = ⊥
+AreWords (field ∷ fields) [] = ⊥
+
+-- The fields state a value: the range of all words by its keyword, a range by its ends, or a word set by its words. There is no
+-- value where they are a range whose least is above its greatest.
+abbrev pub StateValue : List (List ℕ) → Option Value → Type 0
+StateValue fields (Some (Range range)) = ((fields ≡ codes "ANY" ∷ []) × IsFull value_meaning (Range range))
+    ⊎ ((least greatest : ℤ) × AreEnds fields least greatest × IsRangeOf least greatest (Some range))
+StateValue fields (Some (Words set)) = (words : List (List ℕ)) × (fields ≡ codes "WORDS" ∷ words) × AreWords words set.list
+StateValue fields None = (least greatest : ℤ) × AreEnds fields least greatest × (greatest <ℤ least)
+
+-- ---- lines
+
+-- the line has a keyword and a location of four octal digits
+pub record StatesPlace (keyword line : List ℕ) (location : ℕ) : Type 0 where
+  pub place : List ℕ
+  pub location_is : Writes 8 4 place location
+  pub fields : HasFields line (keyword ∷ place ∷ [])
+
+-- the line has a keyword, an address of four octal digits and a value
+pub record StatesEntry (keyword line : List ℕ) (entry : Entry) : Type 0 where
+  pub place : List ℕ
+  pub value : List (List ℕ)
+  pub address_is : Writes 8 4 place entry.address
+  pub value_is : StateValue value entry.value
+  pub fields : HasFields line (keyword ∷ place ∷ value)
+
+-- the digits of the flags that are set, where the first flag's is this one
+abbrev pub flag_digits : (digit : ℕ) → List Bool → List ℕ
+flag_digits digit [] = []
+flag_digits digit (true ∷ flags) = digit ∷ flag_digits (digit + 1) flags
+flag_digits digit (false ∷ flags) = flag_digits (digit + 1) flags
+
+-- the line of a row: its location, what A and Q may hold, and the digits of each index and each indicator that may stand
+pub record StatesRow (line : List ℕ) (row : RowLine) : Type 0 where
+  pub place : List ℕ
+  pub a : List (List ℕ)
+  pub q : List (List ℕ)
+  pub location_is : Writes 8 4 place row.location
+  pub a_is : StateValue a row.a
+  pub q_is : StateValue q row.q
+  pub indices : length row.x ≡ 8
+  pub indicators : length row.v ≡ 2
+  pub some_index : some_flag row.x ≡ true
+  pub some_indicator : some_flag row.v ≡ true
+  pub fields : HasFields line (codes "ROW" ∷ place ∷ codes "A" ∷ (a ++ (codes "Q" ∷ (q
+      ++ (codes "X" ∷ flag_digits 48 row.x ∷ codes "V" ∷ flag_digits 48 row.v ∷ [])))))
+
+-- the line states this
+abbrev pub States : List ℕ → Statement → Type 0
+States line (Start location) = StatesPlace (codes "START") line location
+States line (Cell entry) = StatesEntry (codes "CELL") line entry
+States line (Init entry) = StatesEntry (codes "INIT") line entry
+States line (In entry) = StatesEntry (codes "IN") line entry
+States line (Out entry) = StatesEntry (codes "OUT") line entry
+States line (May location) = StatesPlace (codes "MAY") line location
+States line (Row row) = StatesRow line row
+States line (At entry) = StatesEntry (codes "AT") line entry
+States line End = HasFields line (codes "END" ∷ [])
+
+-- The line is a spelling of the statement: at most 512 bytes that state it.
+pub record Spells (line : List ℕ) (statement : Statement) : Type 0 where
+  pub most : length line ≤ 512
+  pub states : States line statement
+
+-- The line is skipped: at most 512 bytes that are nothing but blanks, or begin with a number sign.
+pub record IsSkipped (line : List ℕ) : Type 0 where
+  pub most : length line ≤ 512
+  pub empty : AreBlanks line ⊎ (slice_index line 0 ≡ 35)
+
+-- The line opens a certificate: at most 512 bytes that are its keyword and the number of this version.
+pub record Opens (line : List ℕ) : Type 0 where
+  pub most : length line ≤ 512
+  pub fields : HasFields line (codes "AGSCERT" ∷ codes "1" ∷ [])
+
+-- The line opens a certificate of another version: its number has one to six digits.
+pub record OpensAnother (line : List ℕ) : Type 0 where
+  pub most : length line ≤ 512
+  pub version : ℕ
+  pub digits : List ℕ
+  pub is_decimal : IsDecimal 6 digits version
+  pub other : version ≢ 1
+  pub fields : HasFields line (codes "AGSCERT" ∷ digits ∷ [])

@@ -1,0 +1,50 @@
+//! What the lines of a certificate state.
+
+use ags_domain::Value;
+
+/// An address and the value behind it.
+#[derive(Clone, Copy, Debug, PartialEq, Eq)]
+pub struct Entry {
+    /// The address, below 4096.
+    pub address: u16,
+    /// The value; nothing where it is a range whose least is above its greatest.
+    pub value: Option<Value>,
+}
+
+/// What the line of a row states.
+#[derive(Clone, Copy, Debug, PartialEq, Eq)]
+pub struct RowLine {
+    /// The location, below 4096.
+    pub location: u16,
+    /// The words that A may hold; nothing where they are a range whose least is above its greatest.
+    pub a: Option<Value>,
+    /// The words that Q may hold; nothing where they are a range whose least is above its greatest.
+    pub q: Option<Value>,
+    /// For each value of the index register whether it may stand.
+    pub x: [bool; 8],
+    /// Whether the indicator may be clear, and whether it may be set.
+    pub v: [bool; 2],
+}
+
+/// What a line states.
+#[derive(Clone, Copy, Debug, PartialEq, Eq)]
+pub enum Statement {
+    /// The location that a run starts at.
+    Start(u16),
+    /// What an erasable cell may hold.
+    Cell(Entry),
+    /// What an erasable cell may hold at the start.
+    Init(Entry),
+    /// What an input register may hold.
+    In(Entry),
+    /// What an output register may hold.
+    Out(Entry),
+    /// A location where an overflow is expected.
+    May(u16),
+    /// A row.
+    Row(RowLine),
+    /// What a cell may hold in the row above.
+    At(Entry),
+    /// The end of the certificate.
+    End,
+}
