@@ -5,10 +5,12 @@ use ags_top::Status;
 use std::test::Fail;
 
 /// The standard codes, but that CLA and STO have each other's.
-const EXCHANGED: &str = "[codes]\nABS = 0o62\nADD = 0o22\nADZ = 0o32\nALS = 0o56\nAXT = 0o50\nCLA = 0o10\nCLZ = 0o30\nCOM = 0o60\nDLY = 0o70\nDVP = 0o02\nINP = 0o64\nLDQ = 0o14\nLLS = 0o52\nLRS = 0o54\nMPR = 0o16\nMPY = 0o26\nMPZ = 0o36\nOUT = 0o66\nSTO = 0o20\nSTQ = 0o12\nSUB = 0o24\nSUZ = 0o34\nTIX = 0o42\nTMI = 0o46\nTOV = 0o44\nTRA = 0o40\nTSQ = 0o72\n";
+const EXCHANGED: &str =
+    "[codes]\nABS = 0o62\nADD = 0o22\nADZ = 0o32\nALS = 0o56\nAXT = 0o50\nCLA = 0o10\nCLZ = 0o30\nCOM = 0o60\nDLY = 0o70\nDVP = 0o02\nINP = 0o64\nLDQ = 0o14\nLLS = 0o52\nLRS = 0o54\nMPR = 0o16\nMPY = 0o26\nMPZ = 0o36\nOUT = 0o66\nSTO = 0o20\nSTQ = 0o12\nSUB = 0o24\nSUZ = 0o34\nTIX = 0o42\nTMI = 0o46\nTOV = 0o44\nTRA = 0o40\nTSQ = 0o72\n";
 
 /// The standard codes, but that ADD has CLA's.
-const SHARED: &str = "[codes]\nABS = 0o62\nADD = 0o20\nADZ = 0o32\nALS = 0o56\nAXT = 0o50\nCLA = 0o20\nCLZ = 0o30\nCOM = 0o60\nDLY = 0o70\nDVP = 0o02\nINP = 0o64\nLDQ = 0o14\nLLS = 0o52\nLRS = 0o54\nMPR = 0o16\nMPY = 0o26\nMPZ = 0o36\nOUT = 0o66\nSTO = 0o10\nSTQ = 0o12\nSUB = 0o24\nSUZ = 0o34\nTIX = 0o42\nTMI = 0o46\nTOV = 0o44\nTRA = 0o40\nTSQ = 0o72\n";
+const SHARED: &str =
+    "[codes]\nABS = 0o62\nADD = 0o20\nADZ = 0o32\nALS = 0o56\nAXT = 0o50\nCLA = 0o20\nCLZ = 0o30\nCOM = 0o60\nDLY = 0o70\nDVP = 0o02\nINP = 0o64\nLDQ = 0o14\nLLS = 0o52\nLRS = 0o54\nMPR = 0o16\nMPY = 0o26\nMPZ = 0o36\nOUT = 0o66\nSTO = 0o10\nSTQ = 0o12\nSUB = 0o24\nSUZ = 0o34\nTIX = 0o42\nTMI = 0o46\nTOV = 0o44\nTRA = 0o40\nTSQ = 0o72\n";
 
 /// A source of one word, at 4000.
 const FIRST: &str = "* FIRST\n ORG /4000\nA OCT 7\n";
@@ -58,7 +60,11 @@ fn takes_the_machine_file_first(rt: HostRuntime) -> Result<(), Fail> {
         ("run S Z M", Status::AbsentFile, "ABSENT Z\n"),
         ("assemble Z L", Status::LongFile, "LONG L 65536\n"),
         // a source is no machine file
-        ("assemble S S", Status::BadMachine, "MACHINE ERROR 1 NotToml\n"),
+        (
+            "assemble S S",
+            Status::BadMachine,
+            "MACHINE ERROR 1 NotToml\n",
+        ),
     ];
     for (line, status, text) in rows {
         compare_over(&rt, &files, line, 9, status, text)?;
@@ -69,10 +75,7 @@ fn takes_the_machine_file_first(rt: HostRuntime) -> Result<(), Fail> {
 // The words of a listing are those of the machine's codes.
 #[test]
 fn lists_words_of_other_machines(rt: HostRuntime) -> Result<(), Fail> {
-    let files = [
-        ("S", b" CLA /20\n".as_slice()),
-        ("M", EXCHANGED.as_bytes()),
-    ];
+    let files = [("S", b" CLA /20\n".as_slice()), ("M", EXCHANGED.as_bytes())];
     let listing = "0000001 0000 100020  CLA /20\n";
     compare_over(&rt, &files, "assemble S M", 9, Status::Done, listing)
 }

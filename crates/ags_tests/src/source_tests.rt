@@ -9,10 +9,7 @@ use std::test::Fail;
 type Faulty<'a> = (&'a [u8], &'static str);
 
 /// Compares what each source is refused with.
-fn compare_faults(
-    rt: &(impl AllocGlobal + Abort),
-    rows: &[Faulty<'_>],
-) -> Result<(), Fail> {
+fn compare_faults(rt: &(impl AllocGlobal + Abort), rows: &[Faulty<'_>]) -> Result<(), Fail> {
     for (source, line) in rows.iter().copied() {
         compare(rt, source, "assemble S", 90, Status::BadSource, line)?;
     }
@@ -24,28 +21,91 @@ fn says_what_is_no_card(rt: HostRuntime) -> Result<(), Fail> {
     let long = vec![in rt.alloc(); b'*'; 121]?;
     let rows: [Faulty; 23] = [
         (b"\0".as_slice(), "SOURCE CARD 0000001 ERROR 1 BadByte\n"),
-        (b"* \xff\n".as_slice(), "SOURCE CARD 0000001 ERROR 1 BadByte\n"),
-        (b" OCT 1\r\r\n".as_slice(), "SOURCE CARD 0000001 ERROR 1 BadByte\n"),
+        (
+            b"* \xff\n".as_slice(),
+            "SOURCE CARD 0000001 ERROR 1 BadByte\n",
+        ),
+        (
+            b" OCT 1\r\r\n".as_slice(),
+            "SOURCE CARD 0000001 ERROR 1 BadByte\n",
+        ),
         (long.as_slice(), "SOURCE CARD 0000001 ERROR 2 LongCard\n"),
-        (b"a OCT 1\n".as_slice(), "SOURCE CARD 0000001 ERROR 3 BadSymbol\n"),
-        (b"1234 OCT 1\n".as_slice(), "SOURCE CARD 0000001 ERROR 3 BadSymbol\n"),
-        (b" EQU\n".as_slice(), "SOURCE CARD 0000001 ERROR 3 BadSymbol\n"),
-        (b"A\n".as_slice(), "SOURCE CARD 0000001 ERROR 4 UnknownOperation\n"),
-        (b"CLA\n".as_slice(), "SOURCE CARD 0000001 ERROR 4 UnknownOperation\n"),
-        (b" * OCT 1\n".as_slice(), "SOURCE CARD 0000001 ERROR 4 UnknownOperation\n"),
-        (b" CLA\n".as_slice(), "SOURCE CARD 0000001 ERROR 5 MissingOperand\n"),
-        (b" OCT 1,2\n".as_slice(), "SOURCE CARD 0000001 ERROR 6 ExtraOperand\n"),
-        (b" ORG 5,1\n".as_slice(), "SOURCE CARD 0000001 ERROR 6 ExtraOperand\n"),
-        (b" CLA 5,2\n".as_slice(), "SOURCE CARD 0000001 ERROR 7 BadExpression\n"),
-        (b" CLA 5,1,1\n".as_slice(), "SOURCE CARD 0000001 ERROR 7 BadExpression\n"),
-        (b" CLA 1+\n".as_slice(), "SOURCE CARD 0000001 ERROR 7 BadExpression\n"),
-        (b" CLA 1234567\n".as_slice(), "SOURCE CARD 0000001 ERROR 7 BadExpression\n"),
-        (b" DEC 1B61\n".as_slice(), "SOURCE CARD 0000001 ERROR 8 BadDecimal\n"),
-        (b" DEC 1E13\n".as_slice(), "SOURCE CARD 0000001 ERROR 8 BadDecimal\n"),
-        (b" DEC 00000000001\n".as_slice(), "SOURCE CARD 0000001 ERROR 8 BadDecimal\n"),
-        (b" OCT 8\n".as_slice(), "SOURCE CARD 0000001 ERROR 9 BadOctal\n"),
-        (b" HLT 1\n OCT 1\0\n".as_slice(), "SOURCE CARD 0000001 ERROR 4 UnknownOperation\n"),
-        (b" OCT 1\0\n HLT 1\n".as_slice(), "SOURCE CARD 0000001 ERROR 1 BadByte\n"),
+        (
+            b"a OCT 1\n".as_slice(),
+            "SOURCE CARD 0000001 ERROR 3 BadSymbol\n",
+        ),
+        (
+            b"1234 OCT 1\n".as_slice(),
+            "SOURCE CARD 0000001 ERROR 3 BadSymbol\n",
+        ),
+        (
+            b" EQU\n".as_slice(),
+            "SOURCE CARD 0000001 ERROR 3 BadSymbol\n",
+        ),
+        (
+            b"A\n".as_slice(),
+            "SOURCE CARD 0000001 ERROR 4 UnknownOperation\n",
+        ),
+        (
+            b"CLA\n".as_slice(),
+            "SOURCE CARD 0000001 ERROR 4 UnknownOperation\n",
+        ),
+        (
+            b" * OCT 1\n".as_slice(),
+            "SOURCE CARD 0000001 ERROR 4 UnknownOperation\n",
+        ),
+        (
+            b" CLA\n".as_slice(),
+            "SOURCE CARD 0000001 ERROR 5 MissingOperand\n",
+        ),
+        (
+            b" OCT 1,2\n".as_slice(),
+            "SOURCE CARD 0000001 ERROR 6 ExtraOperand\n",
+        ),
+        (
+            b" ORG 5,1\n".as_slice(),
+            "SOURCE CARD 0000001 ERROR 6 ExtraOperand\n",
+        ),
+        (
+            b" CLA 5,2\n".as_slice(),
+            "SOURCE CARD 0000001 ERROR 7 BadExpression\n",
+        ),
+        (
+            b" CLA 5,1,1\n".as_slice(),
+            "SOURCE CARD 0000001 ERROR 7 BadExpression\n",
+        ),
+        (
+            b" CLA 1+\n".as_slice(),
+            "SOURCE CARD 0000001 ERROR 7 BadExpression\n",
+        ),
+        (
+            b" CLA 1234567\n".as_slice(),
+            "SOURCE CARD 0000001 ERROR 7 BadExpression\n",
+        ),
+        (
+            b" DEC 1B61\n".as_slice(),
+            "SOURCE CARD 0000001 ERROR 8 BadDecimal\n",
+        ),
+        (
+            b" DEC 1E13\n".as_slice(),
+            "SOURCE CARD 0000001 ERROR 8 BadDecimal\n",
+        ),
+        (
+            b" DEC 00000000001\n".as_slice(),
+            "SOURCE CARD 0000001 ERROR 8 BadDecimal\n",
+        ),
+        (
+            b" OCT 8\n".as_slice(),
+            "SOURCE CARD 0000001 ERROR 9 BadOctal\n",
+        ),
+        (
+            b" HLT 1\n OCT 1\0\n".as_slice(),
+            "SOURCE CARD 0000001 ERROR 4 UnknownOperation\n",
+        ),
+        (
+            b" OCT 1\0\n HLT 1\n".as_slice(),
+            "SOURCE CARD 0000001 ERROR 1 BadByte\n",
+        ),
     ];
     compare_faults(&rt, &rows)
 }
@@ -53,25 +113,76 @@ fn says_what_is_no_card(rt: HostRuntime) -> Result<(), Fail> {
 #[test]
 fn says_what_is_wrong_with_places_and_words(rt: HostRuntime) -> Result<(), Fail> {
     let rows: [Faulty; 17] = [
-        (b"A OCT 1\nA OCT 2\n".as_slice(), "SOURCE CARD 0000002 ERROR 10 SymbolTwice 0000001\n"),
-        (b"X EQU Y\nY EQU 1\n".as_slice(), "SOURCE CARD 0000001 ERROR 11 UndefinedEarly\n"),
-        (b"A EQU A\n".as_slice(), "SOURCE CARD 0000001 ERROR 11 UndefinedEarly\n"),
-        (b" ORG 4096\n".as_slice(), "SOURCE CARD 0000001 ERROR 12 PlaceRange\n"),
-        (b" BSS -1\n".as_slice(), "SOURCE CARD 0000001 ERROR 12 PlaceRange\n"),
-        (b" OCT 1\n BSS 4096\n".as_slice(), "SOURCE CARD 0000002 ERROR 12 PlaceRange\n"),
-        (b"A EQU 262144\n".as_slice(), "SOURCE CARD 0000001 ERROR 12 PlaceRange\n"),
-        (b" ORG 4095\n OCT 1\n OCT 1\n".as_slice(), "SOURCE CARD 0000003 ERROR 12 PlaceRange\n"),
-        (b" CLA X\n".as_slice(), "SOURCE CARD 0000001 ERROR 13 Undefined\n"),
-        (b" TRA 4096\n".as_slice(), "SOURCE CARD 0000001 ERROR 14 AddressRange 4096\n"),
-        (b" TRA -1\n".as_slice(), "SOURCE CARD 0000001 ERROR 14 AddressRange -1\n"),
-        (b" DEC 1B0\n".as_slice(), "SOURCE CARD 0000001 ERROR 15 ValueRange\n"),
-        (b" ORG /10\n OCT 1\n ORG /10\n OCT 2\n".as_slice(), "SOURCE CARD 0000004 ERROR 16 PlaceTwice 0000002\n"),
+        (
+            b"A OCT 1\nA OCT 2\n".as_slice(),
+            "SOURCE CARD 0000002 ERROR 10 SymbolTwice 0000001\n",
+        ),
+        (
+            b"X EQU Y\nY EQU 1\n".as_slice(),
+            "SOURCE CARD 0000001 ERROR 11 UndefinedEarly\n",
+        ),
+        (
+            b"A EQU A\n".as_slice(),
+            "SOURCE CARD 0000001 ERROR 11 UndefinedEarly\n",
+        ),
+        (
+            b" ORG 4096\n".as_slice(),
+            "SOURCE CARD 0000001 ERROR 12 PlaceRange\n",
+        ),
+        (
+            b" BSS -1\n".as_slice(),
+            "SOURCE CARD 0000001 ERROR 12 PlaceRange\n",
+        ),
+        (
+            b" OCT 1\n BSS 4096\n".as_slice(),
+            "SOURCE CARD 0000002 ERROR 12 PlaceRange\n",
+        ),
+        (
+            b"A EQU 262144\n".as_slice(),
+            "SOURCE CARD 0000001 ERROR 12 PlaceRange\n",
+        ),
+        (
+            b" ORG 4095\n OCT 1\n OCT 1\n".as_slice(),
+            "SOURCE CARD 0000003 ERROR 12 PlaceRange\n",
+        ),
+        (
+            b" CLA X\n".as_slice(),
+            "SOURCE CARD 0000001 ERROR 13 Undefined\n",
+        ),
+        (
+            b" TRA 4096\n".as_slice(),
+            "SOURCE CARD 0000001 ERROR 14 AddressRange 4096\n",
+        ),
+        (
+            b" TRA -1\n".as_slice(),
+            "SOURCE CARD 0000001 ERROR 14 AddressRange -1\n",
+        ),
+        (
+            b" DEC 1B0\n".as_slice(),
+            "SOURCE CARD 0000001 ERROR 15 ValueRange\n",
+        ),
+        (
+            b" ORG /10\n OCT 1\n ORG /10\n OCT 2\n".as_slice(),
+            "SOURCE CARD 0000004 ERROR 16 PlaceTwice 0000002\n",
+        ),
         // the phase of cards comes before that of places, and that before words
-        (b" CLA 1\n BSS -1\n XYZ\n".as_slice(), "SOURCE CARD 0000003 ERROR 4 UnknownOperation\n"),
-        (b" CLA X\n BSS -1\n".as_slice(), "SOURCE CARD 0000002 ERROR 12 PlaceRange\n"),
+        (
+            b" CLA 1\n BSS -1\n XYZ\n".as_slice(),
+            "SOURCE CARD 0000003 ERROR 4 UnknownOperation\n",
+        ),
+        (
+            b" CLA X\n BSS -1\n".as_slice(),
+            "SOURCE CARD 0000002 ERROR 12 PlaceRange\n",
+        ),
         // of two faults of a card the lesser number
-        (b"A OCT 1\nA ORG 4096\n".as_slice(), "SOURCE CARD 0000002 ERROR 10 SymbolTwice 0000001\n"),
-        (b" OCT 1\n ORG 0\n DEC 1B0\n".as_slice(), "SOURCE CARD 0000003 ERROR 15 ValueRange\n"),
+        (
+            b"A OCT 1\nA ORG 4096\n".as_slice(),
+            "SOURCE CARD 0000002 ERROR 10 SymbolTwice 0000001\n",
+        ),
+        (
+            b" OCT 1\n ORG 0\n DEC 1B0\n".as_slice(),
+            "SOURCE CARD 0000003 ERROR 15 ValueRange\n",
+        ),
     ];
     compare_faults(&rt, &rows)
 }
@@ -128,7 +239,9 @@ fn lists_words(rt: HostRuntime) -> Result<(), Fail> {
 // A card of 120 bytes, and an expression that fills it.
 #[test]
 fn takes_the_longest_card(rt: HostRuntime) -> Result<(), Fail> {
-    let source = b" CLA 1+1+1+1+1+1+1+1+1+1+1+1+1+1+1+1+1+1+1+1+1+1+1+1+1+1+1+1+1+1+1+1+1+1+1+1+1+1+1+1+1+1+1+1+1+1+1+1+1+1+1+1+1+1+1+1+1+1\n".as_slice();
-    let listing = "0000001 0000 200072  CLA 1+1+1+1+1+1+1+1+1+1+1+1+1+1+1+1+1+1+1+1+1+1+1+1+1+1+1+1+1+1+1+1+1+1+1+1+1+1+1+1+1+1+1+1+1+1+1+1+1+1+1+1+1+1+1+1+1+1\n";
+    let source =
+        b" CLA 1+1+1+1+1+1+1+1+1+1+1+1+1+1+1+1+1+1+1+1+1+1+1+1+1+1+1+1+1+1+1+1+1+1+1+1+1+1+1+1+1+1+1+1+1+1+1+1+1+1+1+1+1+1+1+1+1+1\n".as_slice();
+    let listing =
+        "0000001 0000 200072  CLA 1+1+1+1+1+1+1+1+1+1+1+1+1+1+1+1+1+1+1+1+1+1+1+1+1+1+1+1+1+1+1+1+1+1+1+1+1+1+1+1+1+1+1+1+1+1+1+1+1+1+1+1+1+1+1+1+1+1\n";
     compare(&rt, source, "assemble S", 200, Status::Done, listing)
 }
