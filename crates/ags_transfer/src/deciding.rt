@@ -22,14 +22,11 @@ pub(crate) struct NewA<D> {
 
 impl<D: Copy> NewA<D> {
     /// A post with this new A.
-    fn put_into(self, post: Post<D>) -> Post<D>
-        ensures { result ≡ record post { a = self.a; v1 = post.v1 || self.may_set } }
+    fn put_into(self, post: &mut Post<D>)
+        ensures { post.new ≡ record post.old { a = self.a; v1 = post.old.v1 || self.may_set } }
     {
-        Post {
-            a: self.a,
-            v1: post.v1 || self.may_set,
-            ..post
-        }
+        post.a = self.a;
+        post.v1 = post.v1 || self.may_set;
     }
 }
 
@@ -90,13 +87,16 @@ impl<'a, D: Domain> Case<'a, D> {
     pub(crate) fn computed(
         &self,
         answer: Result<D, Operands>,
-        post: Post<D>,
+        mut post: Post<D>,
     ) -> Result<PostPair<D>, Stop<D>>
         ensures { (line : Line D) → IsPostOf D.meaning self.now line post
             → Decides D.meaning self.now line (IsSingle D.meaning self.now) answer result }
     {
         match self.decided(answer) {
-            Ok(new) => Ok(single(new.put_into(post))),
+            Ok(new) => {
+                new.put_into(&mut post);
+                Ok(single(post))
+            }
             Err(stop) => Err(stop),
         }
     }
@@ -106,14 +106,17 @@ impl<'a, D: Domain> Case<'a, D> {
         &self,
         e: u16,
         answer: Result<D, Operands>,
-        post: Post<D>,
+        mut post: Post<D>,
     ) -> Result<PostPair<D>, Stop<D>>
         requires { e < 2048 }
         ensures { (line : Line D) → IsPostOf D.meaning self.now line post
             → Decides D.meaning self.now line (IsCleared D.meaning self.now e) answer result }
     {
         match self.decided(answer) {
-            Ok(new) => self.cleared(e, new.put_into(post)),
+            Ok(new) => {
+                new.put_into(&mut post);
+                self.cleared(e, post)
+            }
             Err(stop) => Err(stop),
         }
     }
