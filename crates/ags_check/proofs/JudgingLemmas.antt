@@ -1,0 +1,41 @@
+-- Cases that are judged one list behind another.
+use Rattle.std.proofs.Common.{◌≡◌, ℕ, ◌+◌, refl, sym, ap, subst, ◌∙◌, arith, List, [], ◌∷◌, ◌++◌, inl, inr}
+use Rattle.std.specs.Prelude.{Result, Ok, Err}
+use Rattle.ags_verdict.specs.InOrder.{InOrder}
+
+module _ {X F : Type 0} (judged : X → Result ℕ F → Type 0) where
+  abbrev pub Listed : ℕ → List X → Result ℕ F → Type 0
+  Listed place xs outcome = InOrder (λ place x. judged x) place xs outcome
+
+  -- the place of the first doesn't matter
+  pub moved : (place other : ℕ) (xs : List X) (outcome : Result ℕ F) → Listed place xs outcome → Listed other xs outcome
+  moved place other [] (Ok count) is = is
+  moved place other [] (Err fault) is = is
+  moved place other (x ∷ xs) (Ok count) is = (is.0, is.1, is.2, moved (place + 1) (other + 1) xs (Ok is.1) is.3, is.4)
+  moved place other (x ∷ xs) (Err fault) (inl fails) = inl fails
+  moved place other (x ∷ xs) (Err fault) (inr later) = inr (later.0, later.1, moved (place + 1) (other + 1) xs (Err fault) later.2)
+
+  -- two lists without a fault: their counts are added
+  pub both_counted : (place : ℕ) (xs ys : List X) (left right : ℕ) → Listed place xs (Ok left) → Listed place ys (Ok right)
+      → Listed place (xs ++ ys) (Ok (left + right))
+  both_counted place [] ys left right p r = subst (λ (n : ℕ). Listed place ys (Ok n)) (omega (arith, p)) r
+  both_counted place (x ∷ xs) ys left right p r =
+      (p.0, p.1 + right, p.2, both_counted (place + 1) xs ys p.1 right p.3 (moved place (place + 1) ys (Ok right) r), omega (arith, p.4))
+
+  -- a fault in the first list
+  pub first_fails : (place : ℕ) (xs ys : List X) (fault : F) → Listed place xs (Err fault) → Listed place (xs ++ ys) (Err fault)
+  first_fails place [] ys fault is = absurd is
+  first_fails place (x ∷ xs) ys fault (inl fails) = inl fails
+  first_fails place (x ∷ xs) ys fault (inr later) = inr (later.0, later.1, first_fails (place + 1) xs ys fault later.2)
+
+  -- a fault in the second list
+  pub second_fails : (place : ℕ) (xs ys : List X) (left : ℕ) (fault : F) → Listed place xs (Ok left) → Listed place ys (Err fault)
+      → Listed place (xs ++ ys) (Err fault)
+  second_fails place [] ys left fault p r = r
+  second_fails place (x ∷ xs) ys left fault p r =
+      inr (p.0, p.2, second_fails (place + 1) xs ys p.1 fault p.3 (moved place (place + 1) ys (Err fault) r))
+
+  -- one thing alone
+  pub alone : (place : ℕ) (x : X) (outcome : Result ℕ F) → judged x outcome → Listed place (x ∷ []) outcome
+  alone place x (Ok count) is = (count, 0, is, refl, omega arith)
+  alone place x (Err fault) is = inl is
