@@ -1,12 +1,12 @@
 -- What rows are judged against.
-use Rattle.std.specs.Prelude.{ℕ, List, Option, None, Result}
+use Rattle.std.specs.Prelude.{ℕ, List, Bool, [], Option, None, Result, if◌then◌else◌}
 use Rattle.ags_domain.specs.Domain.{Meaning}
 use Rattle.ags_ports.specs.declared.machines.Machine.{Machine}
 use Rattle.ags_row.specs.Limit.{Limiting}
 use Rattle.ags_row.specs.declared.rows.Row.{Row}
 use Rattle.ags_safe.specs.Certificate.{Certificate}
 use Rattle.ags_verdict.specs.InOrder.{InOrder}
-use Rattle.ags_verdict.specs.RowCase.{RowCase, case_in}
+use Rattle.ags_verdict.specs.RowCase.{RowCase, case_in, with_index, with_word, flagged, indicators}
 use Rattle.ags_verdict.specs.Fault.{IsCaseJudged}
 use Rattle.ags_verdict.specs.declared.verdicts.RowFault.{RowFault}
 
@@ -32,3 +32,12 @@ CaseIsJudged meaning table row place c = IsCaseJudged meaning (cert_of table) (c
 -- what comes of some cases of a row, in order
 abbrev pub AreJudged : {D : Type 0} → Meaning D → Judging D → Row D → List RowCase → Result ℕ (RowFault D) → Type 0
 AreJudged meaning table row cases outcome = InOrder (CaseIsJudged meaning table row) 0 cases outcome
+
+-- what comes of the cases of a row with a word and an index, where the flag says that it may stand
+abbrev pub IsIndexJudged : {D : Type 0} → Meaning D → Judging D → Row D → (word index : ℕ) → Bool → Result ℕ (RowFault D) → Type 0
+IsIndexJudged meaning table row word index flag outcome =
+    AreJudged meaning table row (if flag then with_index word index (indicators row.v) else []) outcome
+
+-- what comes of the cases of a row with a word
+abbrev pub IsWordJudged : {D : Type 0} → Meaning D → Judging D → Row D → (word : ℕ) → Result ℕ (RowFault D) → Type 0
+IsWordJudged meaning table row word outcome = AreJudged meaning table row (with_word word (flagged 0 row.x) (indicators row.v)) outcome

@@ -1,18 +1,41 @@
 //! The cases of a row, judged in order.
 
-ghost use Rattle.std.specs.Prelude.{◌≡◌, ◌<◌, ◌≤◌, ◌*◌, ◌-◌, IfOk, [], ◌∷◌, map, if◌then◌else◌, drop, length};
-ghost use Rattle.std.specs.List.{flat_map};
+ghost use Rattle.std.specs.Prelude.{◌≡◌, ◌<◌, ◌≤◌, ◌*◌, IfOk, [], ◌∷◌, if◌then◌else◌, length};
 ghost use Rattle.ags_posts.specs.Case.{case_of};
+ghost use Rattle.ags_row.specs.Flag.{has_flag, indicator_number};
 ghost use Rattle.ags_verdict.specs.RowCase.{flagged, indicators, with_index, with_word, cases_in};
-ghost use Rattle.ags_verdict.specs.Fault.{IsCaseJudged, IsRowJudged};
+ghost use Rattle.ags_verdict.specs.Fault.{IsCaseJudged};
 ghost use Rattle.ags_check.specs.Judging.{cert_of, AreJudged};
 
 use crate::tables::Table;
 use ags_domain::Domain;
 use ags_row::Row;
-use ags_transfer::{code, posts};
+use ags_transfer::posts;
 use ags_verdict::RowFault;
 use ags_word::Word;
+
+/// Whether an index may stand in a row.
+fn has_index<D: Copy>(row: &Row<D>, x: u8) -> bool
+    requires { x < 8 }
+    ensures flag { result ≡ has_flag row.now.x x }
+    ensures flags { length row.now.x ≡ 8 }
+{
+    row.x()[x as usize]
+}
+
+/// Whether the indicator may be clear in a row.
+fn may_be_clear<D: Copy>(row: &Row<D>) -> bool
+    ensures { result ≡ has_flag row.now.v 0 }
+{
+    row.v()[0]
+}
+
+/// Whether the indicator may be set in a row.
+fn may_be_set<D: Copy>(row: &Row<D>) -> bool
+    ensures { result ≡ has_flag row.now.v 1 }
+{
+    row.v()[1]
+}
 
 impl<'a, D: Domain> Table<'a, D> {
     /// A case counts once, or fails.
@@ -50,13 +73,52 @@ impl<'a, D: Domain> Table<'a, D> {
         ensures judged { AreJudged D.meaning self.now row.now (with_index word x (indicators row.now.v)) result }
         ensures few { IfOk result (λ count. count ≤ 2) }
     {
-        let v = row.v();
-        match self.indicator(row, word, x, false, v[0]) {
-            Ok(clear) => match self.indicator(row, word, x, true, v[1]) {
+        match self.indicator(row, word, x, false, may_be_clear(row)) {
+            Ok(clear) => match self.indicator(row, word, x, true, may_be_set(row)) {
                 Ok(set) => Ok(clear + set),
                 Err(fault) => Err(fault),
             },
             Err(fault) => Err(fault),
         }
+    }
+
+    /// The cases with a word and an index, where that may stand.
+    fn index_if(&self, row: &Row<D>, word: Word, x: u8, may: bool) -> Result<u64, RowFault<D>>
+        requires { x < 8 }
+        ensures judged { AreJudged D.meaning self.now row.now (if may then with_index word x (indicators row.now.v) else []) result }
+        ensures few { IfOk result (λ count. count ≤ 2) }
+    {
+        if may { self.index(row, word, x) } else { Ok(0) }
+    }
+
+    /// The cases with a word.
+    fn word(&self, row: &Row<D>, word: Word) -> Result<u64, RowFault<D>>
+        ensures judged { AreJudged D.meaning self.now row.now (with_word word (flagged 0 row.now.x) (indicators row.now.v)) result }
+        ensures few { IfOk result (λ count. count ≤ 16) }
+    {
+        let mut count: u64 = 0;
+        for x in 0..8 {
+            match self.index_if(row, word, x, has_index(row, x)) {
+                Ok(more) => count += more,
+                Err(fault) => return Err(fault),
+            }
+        }
+        Ok(count)
+    }
+
+    /// The cases of a row that has these words, at most 16.
+    pub(crate) fn words(&self, row: &Row<D>, words: &[Word]) -> Result<u64, RowFault<D>>
+        requires { length words.now ≤ 16 }
+        ensures judged { AreJudged D.meaning self.now row.now (cases_in row.now words.now) result }
+        ensures few { IfOk result (λ count. count ≤ 256) }
+    {
+        let mut count: u64 = 0;
+        for word in words {
+            match self.word(row, *word) {
+                Ok(more) => count += more,
+                Err(fault) => return Err(fault),
+            }
+        }
+        Ok(count)
     }
 }
