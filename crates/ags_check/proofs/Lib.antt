@@ -1,2 +1,4 @@
+mod CoverageLemmas
 mod JudgingLemmas
 mod OrderLemmas
+mod RowLemmas
