@@ -6,8 +6,9 @@ use Rattle.ags_row.specs.Flag.{has_flag}
 use Rattle.ags_row.specs.declared.rows.Row.{Row}
 use Rattle.ags_verdict.specs.InOrder.{InOrder}
 use Rattle.ags_verdict.specs.RowCase.{RowCase, case_in, with_index, with_word, flagged, indicators, cases_in}
-use Rattle.ags_verdict.specs.Fault.{IsCaseJudged}
+use Rattle.ags_verdict.specs.Fault.{IsCaseJudged, IsRowJudgedAt}
 use Rattle.ags_verdict.specs.declared.verdicts.RowFault.{RowFault}
+use Rattle.ags_verdict.specs.declared.verdicts.Refusal.{Refusal}
 use Rattle.ags_check.specs.Judging.{Judging, cert_of, AreJudged, IsIndexJudged, IsWordJudged}
 use Rattle.ags_check.proofs.OrderLemmas.{SoFar, further, fails_here, all_counted}
 use Rattle.ags_check.proofs.JudgingLemmas.{flattened, by_flags}
@@ -61,3 +62,24 @@ module _ {D : Type 0} (meaning : Meaning D) (table : Judging D) (row : Row D) wh
 
     pub words_counted : (i count : ℕ) → Words i count → length words ≤ i → AreJudged meaning table row (cases_in row words) (Ok count)
     words_counted i count before whole = all_words (Ok count) (all_counted JudgeWord 0 words i count before whole)
+
+-- the rows of a table
+module _ {D : Type 0} (meaning : Meaning D) (table : Judging D) (rows : List (Row D)) where
+  abbrev JudgeRow : ℕ → Row D → Result ℕ (Refusal D) → Type 0
+  JudgeRow p r o = IsRowJudgedAt meaning (cert_of table) table.machine table.image p r o
+
+  abbrev Rows : ℕ → ℕ → Type 0
+  Rows i count = SoFar (λ p r o. IsRowJudgedAt meaning (cert_of table) table.machine table.image p r o) 1 rows i count
+
+  module _ (i count : ℕ) (before : Rows i count) (r : Row D) (inside : i < length rows) (is : r ≡ get_or rows i r) (number : ℕ) (numbered : number ≡ i) where
+    at_row : (o : Result ℕ (Refusal D)) → JudgeRow (number + 1) r o → JudgeRow (i + 1) r o
+    at_row o judged = subst (λ (p : ℕ). JudgeRow (p + 1) r o) numbered judged
+
+    pub row_further : (one : ℕ) → IsRowJudgedAt meaning (cert_of table) table.machine table.image (number + 1) r (Ok one) → Rows (i + 1) (count + one)
+    row_further one passes = further JudgeRow 1 rows i count before r r inside is one (at_row (Ok one) passes)
+
+    pub row_fails : (told : Refusal D) → IsRowJudgedAt meaning (cert_of table) table.machine table.image (number + 1) r (Err told) → InOrder JudgeRow 1 rows (Err told)
+    row_fails told fails = fails_here JudgeRow 1 rows i count before r r inside is told (at_row (Err told) fails)
+
+  pub rows_counted : (i count : ℕ) → Rows i count → length rows ≤ i → InOrder JudgeRow 1 rows (Ok count)
+  rows_counted i count before whole = all_counted JudgeRow 1 rows i count before whole

@@ -4,6 +4,7 @@
 
 mod cases;
 mod coverage;
+mod rows;
 mod tables;
 
 pub use ags_verdict::RowFault;
