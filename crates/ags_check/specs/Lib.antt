@@ -1,2 +1,5 @@
 -- what the public contracts cite
 pub mod Judging
+
+-- what serves inside
+pub mod Checking

@@ -15,7 +15,7 @@ use ags_verdict::RowFault;
 use ags_word::Word;
 
 /// Whether an index may stand in a row.
-fn has_index<D: Copy>(row: &Row<D>, x: u8) -> bool
+pub(crate) fn has_index<D: Copy>(row: &Row<D>, x: u8) -> bool
     requires { x < 8 }
     ensures flag { result ≡ has_flag row.now.x x }
     ensures flags { length row.now.x ≡ 8 }
@@ -24,7 +24,7 @@ fn has_index<D: Copy>(row: &Row<D>, x: u8) -> bool
 }
 
 /// Whether the indicator may be clear in a row.
-fn may_be_clear<D: Copy>(row: &Row<D>) -> bool
+pub(crate) fn may_be_clear<D: Copy>(row: &Row<D>) -> bool
     ensures { result ≡ has_flag row.now.v 0 }
 {
     row.v()[0]
