@@ -10,7 +10,7 @@ ghost use Rattle.ags_verdict.specs.Verdict.{IsVerdict};
 ghost use Rattle.ags_verdict.specs.declared.verdicts.Verdict.TheVariants.{Certified};
 ghost use Rattle.ags_cert.specs.Cert.{certificate_of};
 
-use crate::firsts::first_outside;
+use crate::firsts::{first_outside, first_word};
 use crate::starts::some_holds_start;
 use crate::tables::Table;
 use ags_cert::Cert;
@@ -51,7 +51,7 @@ fn verdict(machine: &Machine, image: &Image, cert: &Cert) -> Verdict<Value>
     match first_outside(image, cert) {
         Some(address) => Verdict::Refused(Refusal::InitRange {
             address,
-            word: image.word_at(address),
+            word: first_word(image, address),
         }),
         None => {
             if some_holds_start(image, cert, cert.rows()) {

@@ -1,7 +1,8 @@
 //! The first words of the erasable cells.
 
-ghost use Rattle.std.specs.Prelude.{◌≡◌, ◌<◌, ◌↔◌, ℕ, IsTrue, IfSome, None};
+ghost use Rattle.std.specs.Prelude.{◌≡◌, ◌<◌, ◌↔◌, ℕ, IsTrue, IfSome, None, unwrap_or};
 ghost use Rattle.ags_domain.specs.Value.{value_meaning};
+ghost use Rattle.ags_image.specs.Image.{entry_at};
 ghost use Rattle.ags_safe.specs.Accepted.{IsFirstHeld};
 ghost use Rattle.ags_cert.specs.Cert.{certificate_of};
 ghost use Rattle.ags_check.specs.Checking.{IsFirstHeldAt, IsFirstOutside};
@@ -43,4 +44,12 @@ pub(crate) fn first_outside(image: &Image, cert: &Cert) -> Option<u16>
         }
     }
     None
+}
+
+/// The first word of the erasable cell at an address, where nothing is stated of the start: the image's word, or 0.
+pub(crate) fn first_word(image: &Image, address: u16) -> Word
+    requires { address < 2048 }
+    ensures { result ≡ unwrap_or (entry_at image.now address) 0 }
+{
+    image.get(address).unwrap_or(Word::ZERO)
 }
