@@ -1,5 +1,5 @@
 -- Lists of which one thing is sought.
-use Rattle.std.proofs.Common.{◌≡◌, ℕ, ◌+◌, ◌<◌, Bool, true, false, refl, sym, ap, subst, ◌∙◌, ⊎_elim, arith, List, length, get_or}
+use Rattle.std.proofs.Common.{◌≡◌, ℕ, ◌+◌, ◌<◌, Bool, true, false, sym, ap, subst, ◌∙◌, ⊎_elim, arith, List, length, get_or}
 use Rattle.std.specs.Prelude.{IsTrue}
 use Rattle.std.proofs.lemmas.Bool.{cases_lt}
 use Rattle.std.proofs.lemmas.List.{get_or_default}
@@ -14,6 +14,6 @@ pub none_further : {X : Type 0} (P : X → Type 0) (xs : List X) (place : ℕ) (
 none_further {X} P xs place x inside is before not_x i d near p = ⊎_elim
     (λ less. before i d less p)
     (λ more.
-        let same : i ≡ place = omega arith in
-        not_x (subst P (ap (λ (n : ℕ). get_or xs n d) same ∙ get_or_default xs place d x inside ∙ sym is) p))
+    let same : i ≡ place = omega arith in
+    not_x (subst P (ap (λ (n : ℕ). get_or xs n d) same ∙ get_or_default xs place d x inside ∙ sym is) p))
     (cases_lt i place)

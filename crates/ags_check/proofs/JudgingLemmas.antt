@@ -1,5 +1,5 @@
 -- Cases that are judged one list behind another.
-use Rattle.std.proofs.Common.{◌≡◌, ℕ, ◌+◌, refl, sym, ap, subst, ◌∙◌, arith, List, [], ◌∷◌, ◌++◌, inl, inr}
+use Rattle.std.proofs.Common.{◌≡◌, ℕ, ◌+◌, refl, sym, subst, arith, List, [], ◌∷◌, ◌++◌, inl, inr}
 use Rattle.std.specs.Prelude.{Result, Ok, Err, Bool, true, false, map, if◌then◌else◌}
 use Rattle.std.specs.List.{flat_map}
 use Rattle.ags_verdict.specs.InOrder.{InOrder}
@@ -50,7 +50,7 @@ module _ {X Y F : Type 0} (judged : X → Result ℕ F → Type 0) (f : Y → Li
   flattened place [] (Err fault) is = is
   flattened place (y ∷ ys) (Ok count) is =
       subst (λ (n : ℕ). Listed judged 0 (f y ++ flat_map f ys) (Ok n)) (sym is.4)
-          (both_counted judged 0 (f y) (flat_map f ys) is.0 is.1 is.2 (flattened (place + 1) ys (Ok is.1) is.3))
+      (both_counted judged 0 (f y) (flat_map f ys) is.0 is.1 is.2 (flattened (place + 1) ys (Ok is.1) is.3))
   flattened place (y ∷ ys) (Err fault) (inl fails) = first_fails judged 0 (f y) (flat_map f ys) fault fails
   flattened place (y ∷ ys) (Err fault) (inr later) =
       second_fails judged 0 (f y) (flat_map f ys) later.0 fault later.1 (flattened (place + 1) ys (Err fault) later.2)
@@ -64,7 +64,7 @@ module _ {X F : Type 0} (judged : X → Result ℕ F → Type 0) (f : ℕ → Li
   by_flags number [] (Err fault) is = is
   by_flags number (true ∷ flags) (Ok count) is =
       subst (λ (n : ℕ). Listed judged 0 (f number ++ flat_map f (flagged (number + 1) flags)) (Ok n)) (sym is.4)
-          (both_counted judged 0 (f number) (flat_map f (flagged (number + 1) flags)) is.0 is.1 is.2 (by_flags (number + 1) flags (Ok is.1) is.3))
+      (both_counted judged 0 (f number) (flat_map f (flagged (number + 1) flags)) is.0 is.1 is.2 (by_flags (number + 1) flags (Ok is.1) is.3))
   by_flags number (true ∷ flags) (Err fault) (inl fails) = first_fails judged 0 (f number) (flat_map f (flagged (number + 1) flags)) fault fails
   by_flags number (true ∷ flags) (Err fault) (inr later) =
       second_fails judged 0 (f number) (flat_map f (flagged (number + 1) flags)) later.0 fault later.1 (by_flags (number + 1) flags (Err fault) later.2)

@@ -1,5 +1,5 @@
 -- What comes of rows by a certificate's limits and rows comes of them by the certificate: the judgement of a row asks for no more.
-use Rattle.std.proofs.Common.{◌≡◌, ℕ, ◌+◌, sym, subst, List, [], ◌∷◌, inl, inr}
+use Rattle.std.proofs.Common.{◌≡◌, ℕ, ◌+◌, subst, List, [], ◌∷◌, inl, inr}
 use Rattle.std.specs.Prelude.{Option, Some, None, Result, Ok, Err}
 use Rattle.ags_domain.specs.Domain.{Meaning}
 use Rattle.ags_domain.specs.declared.word_sets.WordSet.{WordSet}
@@ -12,8 +12,8 @@ use Rattle.ags_posts.specs.Posts.{Outcome}
 use Rattle.ags_posts.specs.declared.answers.PostPair.{PostPair}
 use Rattle.ags_safe.specs.Certificate.{Certificate}
 use Rattle.ags_verdict.specs.InOrder.{InOrder}
-use Rattle.ags_verdict.specs.RowCase.{RowCase, cases_in, case_in}
-use Rattle.ags_verdict.specs.Fault.{IsUncovered, IsFirstUncovered, IsFaultOfAnswer, IsCaseJudged, IsJudgedWith, IsRowJudged, IsRowJudgedAt}
+use Rattle.ags_verdict.specs.RowCase.{cases_in, case_in}
+use Rattle.ags_verdict.specs.Fault.{IsUncovered, IsFirstUncovered, IsFaultOfAnswer, IsCaseJudged, IsJudgedWith, IsRowJudgedAt}
 use Rattle.ags_verdict.specs.declared.verdicts.RowFault.{RowFault}
 use Rattle.ags_verdict.specs.declared.verdicts.Refusal.{Refusal}
 use Rattle.ags_check.specs.Judging.{certificate_over}
@@ -70,5 +70,5 @@ module _ {D : Type 0} (meaning : Meaning D) (machine : Machine) (image : List (O
       (λ place row o. IsRowJudgedAt meaning Over machine image place row o)
       (λ place row o. IsRowJudgedAt meaning cert machine image place row o) row_moved 1 cert.rows outcome
       (subst (λ (l : Limiting D). InOrder (λ place row o. IsRowJudgedAt meaning (certificate_over l cert.rows) machine image place row o) 1 cert.rows outcome) same_limits
-          (subst (λ (rs : List (Row D)). InOrder (λ place row o. IsRowJudgedAt meaning (certificate_over limits rs) machine image place row o) 1 cert.rows outcome) same_rows
-              (subst (λ (rs : List (Row D)). InOrder (λ place row o. IsRowJudgedAt meaning (certificate_over limits rows) machine image place row o) 1 rs outcome) same_listed is)))
+      (subst (λ (rs : List (Row D)). InOrder (λ place row o. IsRowJudgedAt meaning (certificate_over limits rs) machine image place row o) 1 cert.rows outcome) same_rows
+      (subst (λ (rs : List (Row D)). InOrder (λ place row o. IsRowJudgedAt meaning (certificate_over limits rows) machine image place row o) 1 rs outcome) same_listed is)))

@@ -1,5 +1,5 @@
 -- Things that are judged in order, as a loop goes through them.
-use Rattle.std.proofs.Common.{◌≡◌, ℕ, ◌+◌, ◌<◌, ◌≤◌, refl, sym, ap, subst, ◌∙◌, arith, List, [], ◌∷◌, length, get_or, drop, inl, inr}
+use Rattle.std.proofs.Common.{◌≡◌, ℕ, ◌+◌, ◌<◌, ◌≤◌, refl, sym, ap, subst, ◌∙◌, arith, List, ◌∷◌, length, get_or, drop, inl, inr}
 use Rattle.std.specs.Prelude.{Result, Ok, Err}
 use Rattle.std.proofs.lemmas.List.{drop_more, drop_all}
 use Rattle.ags_verdict.specs.InOrder.{InOrder}
@@ -28,7 +28,7 @@ module _ {X F : Type 0} (judged : ℕ → X → Result ℕ F → Type 0) (first 
     all_counted whole =
         let sum : count + 0 ≡ count = omega arith in
         subst (λ (k : ℕ). InOrder judged first xs (Ok k)) sum
-            (before.counted 0 (subst (λ (ys : List X). InOrder judged (i + first) ys (Ok 0)) (sym (drop_all i xs whole)) refl))
+        (before.counted 0 (subst (λ (ys : List X). InOrder judged (i + first) ys (Ok 0)) (sym (drop_all i xs whole)) refl))
 
     module _ (x d : X) (inside : i < length xs) (is : x ≡ get_or xs i d) where
       pub further : (one : ℕ) → judged (i + first) x (Ok one) → SoFar (i + 1) (count + one)
@@ -40,7 +40,7 @@ module _ {X F : Type 0} (judged : ℕ → X → Result ℕ F → Type 0) (first 
                 let behind = subst (λ (p : ℕ). InOrder judged p (drop (i + 1) xs) (Ok n)) place rest in
                 let here : InOrder judged (i + first) (x ∷ drop (i + 1) xs) (Ok (one + n)) = (one, n, passes, behind, refl) in
                 subst (λ (k : ℕ). InOrder judged first xs (Ok k)) sum
-                    (before.counted (one + n) (subst (λ (ys : List X). InOrder judged (i + first) ys (Ok (one + n))) (sym (split_at i x d inside is)) here));
+                (before.counted (one + n) (subst (λ (ys : List X). InOrder judged (i + first) ys (Ok (one + n))) (sym (split_at i x d inside is)) here));
             failed = λ fault rest.
                 let behind = subst (λ (p : ℕ). InOrder judged p (drop (i + 1) xs) (Err fault)) place rest in
                 let here : InOrder judged (i + first) (x ∷ drop (i + 1) xs) (Err fault) = inr (one, passes, behind) in

@@ -1,5 +1,5 @@
 -- The cases of a row, as loops over indices and words go through them.
-use Rattle.std.proofs.Common.{◌≡◌, ℕ, ◌+◌, ◌<◌, ◌≤◌, Bool, false, refl, sym, ap, subst, ◌∙◌, arith, List, length, get_or}
+use Rattle.std.proofs.Common.{◌≡◌, ℕ, ◌+◌, ◌<◌, ◌≤◌, Bool, false, subst, arith, List, length, get_or}
 use Rattle.std.specs.Prelude.{Result, Ok, Err}
 use Rattle.ags_domain.specs.Domain.{Meaning}
 use Rattle.ags_row.specs.Flag.{has_flag}

@@ -55,7 +55,14 @@ impl<'a, D: Domain> Table<'a, D> {
     }
 
     /// The case with an indicator, where that may stand.
-    fn indicator(&self, row: &Row<D>, word: Word, x: u8, v: bool, may: bool) -> Result<u64, RowFault<D>>
+    fn indicator(
+        &self,
+        row: &Row<D>,
+        word: Word,
+        x: u8,
+        v: bool,
+        may: bool,
+    ) -> Result<u64, RowFault<D>>
         requires { x < 8 }
         ensures judged { AreJudged D.meaning self.now row.now (with_index word x (if may then v ∷ [] else [])) result }
         ensures few { IfOk result (λ count. count ≤ 1) }

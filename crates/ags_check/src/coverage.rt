@@ -12,7 +12,12 @@ use ags_posts::PostPair;
 use ags_row::{Limits, Post, Row, covers};
 
 /// Whether some one of the rows covers a post of a base row.
-fn some_covers<D: Domain>(rows: &[Row<D>], base: &Row<D>, post: &Post<D>, limits: &Limits<D>) -> bool
+fn some_covers<D: Domain>(
+    rows: &[Row<D>],
+    base: &Row<D>,
+    post: &Post<D>,
+    limits: &Limits<D>,
+) -> bool
     ensures { IsTrue result ↔ Any (λ target. Covers D.meaning target base.now post.now limits.now) rows.now }
 {
     for target in rows {

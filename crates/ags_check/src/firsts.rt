@@ -30,7 +30,11 @@ fn is_first_held_at(image: &Image, cert: &Cert, address: u16) -> bool
     requires { address < 2048 }
     ensures { IsTrue result ↔ IsFirstHeldAt image.now (certificate_of cert.now) address }
 {
-    is_first_held(cert.limits().cell(address), image.get(address), cert.init(address))
+    is_first_held(
+        cert.limits().cell(address),
+        image.get(address),
+        cert.init(address),
+    )
 }
 
 /// The first erasable cell whose first word isn't in its limit.

@@ -20,9 +20,23 @@ fn refusal_of_stop<D: Copy>(row: u32, word: Word, stop: Stop<D>) -> Refusal<D>
         Stop::NoOrder => Refusal::NoOrder { row, word },
         Stop::BadPort => Refusal::BadPort { row, word },
         Stop::FixedWrite { address } => Refusal::FixedWrite { row, word, address },
-        Stop::MayOverflow(operands) => Refusal::MayOverflow { row, word, operands },
-        Stop::CellRange { address, value } => Refusal::CellRange { row, word, address, value },
-        Stop::OutputRange { address, value } => Refusal::OutputRange { row, word, address, value },
+        Stop::MayOverflow(operands) => Refusal::MayOverflow {
+            row,
+            word,
+            operands,
+        },
+        Stop::CellRange { address, value } => Refusal::CellRange {
+            row,
+            word,
+            address,
+            value,
+        },
+        Stop::OutputRange { address, value } => Refusal::OutputRange {
+            row,
+            word,
+            address,
+            value,
+        },
     }
 }
 
@@ -33,7 +47,13 @@ fn refusal_of<D: Copy>(row: u32, fault: RowFault<D>) -> Refusal<D>
     match fault {
         RowFault::CodeUnknown => Refusal::CodeUnknown { row },
         RowFault::Stops { word, stop } => refusal_of_stop(row, word, stop),
-        RowFault::NotCovered { word, x, v, next } => Refusal::NotCovered { row, word, x, v, next },
+        RowFault::NotCovered { word, x, v, next } => Refusal::NotCovered {
+            row,
+            word,
+            x,
+            v,
+            next,
+        },
     }
 }
 

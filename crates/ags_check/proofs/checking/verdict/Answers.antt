@@ -19,12 +19,15 @@ returns-in-Some c = inl (record {
 })
 
 pub returns-in-Ok : goal.returns-in-Ok
-returns-in-Ok c = (record {
-  first_words = c.in-None.ensures.none refl;
-  start = subst (λ (rows : List (Row Value)). Any (HoldsStart value_meaning c.args.image.now (certificate_of c.args.cert.now)) rows) c.rows.ensures.rows
-      (c.some_holds_start.ensures.0 c.if-some_holds_start.true);
-  rows = c.in-Ok.ensures;
-}, c.number_of_rows.ensures.number)
+returns-in-Ok c = (
+  record {
+    first_words = c.in-None.ensures.none refl;
+    start = subst (λ (rows : List (Row Value)). Any (HoldsStart value_meaning c.args.image.now (certificate_of c.args.cert.now)) rows) c.rows.ensures.rows
+        (c.some_holds_start.ensures.0 c.if-some_holds_start.true);
+    rows = c.in-Ok.ensures;
+  },
+  c.number_of_rows.ensures.number,
+)
 
 pub returns-in-Err : goal.returns-in-Err
 returns-in-Err c = inr (inr (record {

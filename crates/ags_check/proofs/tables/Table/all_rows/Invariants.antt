@@ -1,4 +1,4 @@
-use Rattle.std.proofs.Common.{◌≡◌, ℕ, ◌*◌, ◌≤◌}
+use Rattle.std.proofs.Common.{◌≡◌, ◌*◌, ◌≤◌}
 use Rattle.ags_verdict.specs.Fault.{IsRowJudgedAt}
 use Rattle.ags_check.specs.Judging.{cert_of}
 use Rattle.ags_check.proofs.OrderLemmas.{SoFar}

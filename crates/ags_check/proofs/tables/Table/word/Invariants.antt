@@ -1,4 +1,4 @@
-use Rattle.std.proofs.Common.{ℕ, ◌*◌, ◌≤◌}
+use Rattle.std.proofs.Common.{◌*◌, ◌≤◌}
 use Rattle.ags_check.specs.Judging.{IsIndexJudged}
 use Rattle.ags_check.proofs.OrderLemmas.{SoFar}
 use Rattle.ags_check.proofs.tables.Table.word.Given as goal

@@ -1,4 +1,4 @@
-use Rattle.std.proofs.Common.{ℕ, ◌*◌, ◌≤◌}
+use Rattle.std.proofs.Common.{◌*◌, ◌≤◌}
 use Rattle.ags_check.specs.Judging.{IsWordJudged}
 use Rattle.ags_check.proofs.OrderLemmas.{SoFar}
 use Rattle.ags_check.proofs.tables.Table.words.Given as goal
