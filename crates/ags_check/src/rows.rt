@@ -58,7 +58,7 @@ fn refusal_of<D: Copy>(row: u32, fault: RowFault<D>) -> Refusal<D>
 }
 
 impl<'a, D: Domain> Table<'a, D> {
-    /// How many cases a row has, at most 256, or what fails first in it (docs/CHECKER.md, The verdict).
+    /// How many cases a row has, at most 256, or what fails first in it (docs/CHECKER.md, When a certificate is accepted).
     pub fn row(&self, row: &Row<D>) -> Result<u64, RowFault<D>>
         ensures judged { IsRowJudged D.meaning (cert_of self.now) self.now.machine self.now.image row.now result }
         ensures few { IfOk result (λ count. count ≤ 256) }
