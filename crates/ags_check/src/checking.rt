@@ -69,8 +69,9 @@ fn verdict(machine: &Machine, image: &Image, cert: &Cert) -> Verdict<Value>
     }
 }
 
-/// The verdict of a certificate for an image on a machine (docs/CHECKER.md, When a certificate is accepted). Where the certificate is one for the
-/// machine's registers and is certified, every run of every length is safe. It takes no memory.
+/// The verdict of a certificate for an image on a machine: how many rows and cases it has, or the first item that fails
+/// (docs/CHECKER.md, When a certificate is accepted). Where the certificate is one for the machine's registers and is certified, every
+/// run of every length is safe. It takes no memory.
 pub fn check(machine: &Machine, image: &Image, cert: &Cert) -> Verdict<Value>
     ensures verdict { IsVerdict value_meaning machine.now image.now (certificate_of cert.now) result }
     ensures safe { (rows cases : ℕ) → result ≡ Certified rows cases
