@@ -1,0 +1,19 @@
+-- Lists of which one thing is sought.
+use Rattle.std.proofs.Common.{◌≡◌, ℕ, ◌+◌, ◌<◌, Bool, true, false, sym, ap, subst, ◌∙◌, ⊎_elim, arith, List, length, get_or}
+use Rattle.std.specs.Prelude.{IsTrue}
+use Rattle.std.proofs.lemmas.Bool.{cases_lt}
+use Rattle.std.proofs.lemmas.List.{get_or_default}
+
+-- a test that fails
+pub never : {P : Type 0} (b : Bool) → (P → IsTrue b) → b ≡ false → P → ⊥
+never b says is p = let both : true ≡ false = sym (says p) ∙ is in cc
+
+-- where none of those before has it, and the next hasn't, none of those up to it has
+pub none_further : {X : Type 0} (P : X → Type 0) (xs : List X) (place : ℕ) (x : X) → place < length xs → x ≡ get_or xs place x
+    → ((i : ℕ) (d : X) → i < place → P (get_or xs i d) → ⊥) → (P x → ⊥) → (i : ℕ) (d : X) → i < place + 1 → P (get_or xs i d) → ⊥
+none_further {X} P xs place x inside is before not_x i d near p = ⊎_elim
+    (λ less. before i d less p)
+    (λ more.
+    let same : i ≡ place = omega arith in
+    not_x (subst P (ap (λ (n : ℕ). get_or xs n d) same ∙ get_or_default xs place d x inside ∙ sym is) p))
+    (cases_lt i place)

@@ -1,0 +1,6 @@
+mod CellLemmas
+mod CoverageLemmas
+mod JudgingLemmas
+mod MovedLemmas
+mod OrderLemmas
+mod RowLemmas

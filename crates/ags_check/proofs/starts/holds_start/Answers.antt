@@ -1,0 +1,5 @@
+use Rattle.ags_check.proofs.CellLemmas.{cells_below}
+use Rattle.ags_check.proofs.starts.holds_start.Goals as goal
+
+pub cells_hold_start-requires : goal.cells_hold_start-requires
+cells_hold_start-requires c = rw c.at.ensures (cells_below 0 c.args.row.now.at c.args.row.now.ascending)

@@ -1,0 +1,4 @@
+-- what the public contracts cite
+pub mod Judging
+-- what serves inside
+pub mod Checking

@@ -1,0 +1,86 @@
+//! The verdict of a certificate in hand.
+
+ghost use Rattle.std.specs.Prelude.{◌≡◌, ◌≤◌, ℕ, length};
+ghost use Rattle.ags_domain.specs.Value.{value_meaning};
+ghost use Rattle.ags_safe.specs.Certificate.{Suits};
+ghost use Rattle.ags_safe.specs.Safe.{Safe};
+ghost use Rattle.ags_verdict.specs.InOrder.{InOrder};
+ghost use Rattle.ags_verdict.specs.Fault.{IsRowJudgedAt};
+ghost use Rattle.ags_verdict.specs.Verdict.{IsVerdict};
+ghost use Rattle.ags_verdict.specs.declared.verdicts.Verdict.TheVariants.{Certified};
+ghost use Rattle.ags_cert.specs.Cert.{certificate_of};
+
+use crate::firsts::{first_outside, first_word};
+use crate::starts::some_holds_start;
+use crate::tables::Table;
+use ags_cert::Cert;
+use ags_domain::Value;
+use ags_image::Image;
+use ags_ports::Machine;
+use ags_ports::laws::machine_is_made_of_tables;
+use ags_safe::laws::accepted_certificates_are_safe;
+use ags_verdict::laws::accepted_certificates_are_certified;
+use ags_verdict::{Refusal, Verdict};
+
+/// How many rows a certificate has.
+fn number_of_rows(cert: &Cert) -> u32
+    ensures number { result ≡ length cert.now.rows }
+    ensures few { result ≤ 20000 }
+{
+    cert.rows().len() as u32
+}
+
+/// How many cases the rows of a certificate have, or what fails first in them.
+fn judged_rows(machine: &Machine, image: &Image, cert: &Cert) -> Result<u64, Refusal<Value>>
+    ensures { InOrder (IsRowJudgedAt value_meaning (certificate_of cert.now) machine.now image.now) 1 cert.now.rows result }
+{
+    let _few = number_of_rows(cert);
+    let table = Table {
+        machine,
+        image,
+        limits: cert.limits(),
+        rows: cert.rows(),
+    };
+    table.all_rows(cert.rows())
+}
+
+/// The verdict.
+fn verdict(machine: &Machine, image: &Image, cert: &Cert) -> Verdict<Value>
+    ensures { IsVerdict value_meaning machine.now image.now (certificate_of cert.now) result }
+{
+    match first_outside(image, cert) {
+        Some(address) => Verdict::Refused(Refusal::InitRange {
+            address,
+            word: first_word(image, address),
+        }),
+        None => {
+            if some_holds_start(image, cert, cert.rows()) {
+                match judged_rows(machine, image, cert) {
+                    Ok(cases) => Verdict::Certified {
+                        rows: number_of_rows(cert),
+                        cases,
+                    },
+                    Err(refusal) => Verdict::Refused(refusal),
+                }
+            } else {
+                Verdict::Refused(Refusal::StartUncovered)
+            }
+        }
+    }
+}
+
+/// The verdict of a certificate for an image on a machine: how many rows and cases it has, or the first item that fails
+/// (docs/CHECKER.md, When a certificate is accepted). Where the certificate is one for the machine's registers and is certified, every
+/// run of every length is safe. It takes no memory.
+pub fn check(machine: &Machine, image: &Image, cert: &Cert) -> Verdict<Value>
+    ensures verdict { IsVerdict value_meaning machine.now image.now (certificate_of cert.now) result }
+    ensures safe { (rows cases : ℕ) → result ≡ Certified rows cases
+        → Suits value_meaning machine.now (certificate_of cert.now)
+        → Safe value_meaning machine.now image.now (certificate_of cert.now) }
+{
+    machine_is_made_of_tables(machine);
+    accepted_certificates_are_certified::<Value>();
+    accepted_certificates_are_safe::<Value>();
+    let _start = cert.start();
+    verdict(machine, image, cert)
+}

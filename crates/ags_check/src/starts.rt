@@ -1,0 +1,91 @@
+//! Whether a row holds the start.
+
+ghost use Rattle.std.specs.Prelude.{◌≡◌, ◌<◌, ◌↔◌, ℕ, true, IsTrue, All, Any};
+ghost use Rattle.ags_domain.specs.Value.{value_meaning};
+ghost use Rattle.ags_image.specs.Image.{entry_at};
+ghost use Rattle.ags_row.specs.Flag.{has_flag};
+ghost use Rattle.ags_safe.specs.Accepted.{HoldsStart};
+ghost use Rattle.ags_cert.specs.Cert.{certificate_of};
+ghost use Rattle.ags_check.specs.Checking.{HoldsFirstWords};
+
+use crate::cases::{has_index, may_be_clear};
+use ags_cert::Cert;
+use ags_domain::{Domain, Value};
+use ags_image::Image;
+use ags_row::{At, Row};
+use ags_word::Word;
+
+/// Whether a set holds each word that may stand at the start in a cell, by the image's entry and what is stated of the start.
+fn holds_first_words(value: Value, entry: Option<Word>, stated: Option<Value>) -> bool
+    ensures { IsTrue result ↔ HoldsFirstWords value entry stated }
+{
+    match entry {
+        Some(word) => value.holds(word),
+        None => match stated {
+            Some(first) => first.within(&value),
+            None => value.holds(Word::ZERO),
+        },
+    }
+}
+
+/// Whether a cell's set holds each word that may stand in the cell at the start.
+fn cell_holds_start(image: &Image, cert: &Cert, cell: &At<Value>) -> bool
+    requires { cell.now.address < 2048 }
+    ensures { IsTrue result
+        ↔ HoldsFirstWords cell.now.value (entry_at image.now cell.now.address) ((certificate_of cert.now).init cell.now.address) }
+{
+    holds_first_words(cell.value, image.get(cell.address), cert.init(cell.address))
+}
+
+/// The same of each of some cells.
+fn cells_hold_start(image: &Image, cert: &Cert, cells: &[At<Value>]) -> bool
+    requires { All (λ at. at.address < 2048) cells.now }
+    ensures { IsTrue result
+        ↔ All (λ at. HoldsFirstWords at.value (entry_at image.now at.address) ((certificate_of cert.now).init at.address)) cells.now }
+{
+    for cell in cells {
+        if !cell_holds_start(image, cert, cell) {
+            return false;
+        }
+    }
+    true
+}
+
+/// Whether a row stands at the start, and holds A, Q, the index and the indicator at 0.
+fn registers_hold_start(cert: &Cert, row: &Row<Value>) -> bool
+    ensures location { IsTrue result → row.now.location ≡ cert.now.start }
+    ensures a { IsTrue result → value_meaning.held row.now.a 0 ≡ true }
+    ensures q { IsTrue result → value_meaning.held row.now.q 0 ≡ true }
+    ensures index { IsTrue result → has_flag row.now.x 0 ≡ true }
+    ensures indicator { IsTrue result → has_flag row.now.v 0 ≡ true }
+    ensures all { row.now.location ≡ cert.now.start → value_meaning.held row.now.a 0 ≡ true → value_meaning.held row.now.q 0 ≡ true
+        → has_flag row.now.x 0 ≡ true → has_flag row.now.v 0 ≡ true → IsTrue result }
+{
+    row.location() == cert.start()
+        && row.a().holds(Word::ZERO)
+        && row.q().holds(Word::ZERO)
+        && has_index(row, 0)
+        && may_be_clear(row)
+}
+
+/// Whether a row holds all that may stand at the start.
+fn holds_start(image: &Image, cert: &Cert, row: &Row<Value>) -> bool
+    ensures { IsTrue result ↔ HoldsStart value_meaning image.now (certificate_of cert.now) row.now }
+{
+    if !registers_hold_start(cert, row) {
+        return false;
+    }
+    cells_hold_start(image, cert, row.at())
+}
+
+/// Whether some one of the rows holds all that may stand at the start.
+pub(crate) fn some_holds_start(image: &Image, cert: &Cert, rows: &[Row<Value>]) -> bool
+    ensures { IsTrue result ↔ Any (HoldsStart value_meaning image.now (certificate_of cert.now)) rows.now }
+{
+    for row in rows {
+        if holds_start(image, cert, row) {
+            return true;
+        }
+    }
+    false
+}
