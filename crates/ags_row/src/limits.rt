@@ -1,7 +1,7 @@
 //! Limits: what each cell and each port may hold wherever the machine stands.
 
 ghost use Rattle.std.specs.Prelude.{◌≡◌, ◌<◌, IfOk, replicate};
-ghost use Rattle.ags_row.specs.Limit.{AreFullLimits, cell_limit, input_limit, output_limit, is_named, SetsCell, SetsInput, SetsOutput, NamesPlace};
+ghost use Rattle.ags_row.specs.Limit.{AreLimits, AreFullLimits, cell_limit, input_limit, output_limit, is_named, SetsCell, SetsInput, SetsOutput, NamesPlace};
 
 use ags_domain::Domain;
 use std::alloc::{AllocError, Global};
@@ -59,6 +59,14 @@ impl<D: Domain> Limits<D> {
             places: repeated(alloc, false, ADDRESSES)?,
             every,
         })
+    }
+
+    /// The set of every word, which stands where no other was set. There is a limit for each erasable cell and for each address.
+    pub fn every(&self) -> D
+        ensures every { result ≡ self.now.every }
+        ensures tables { AreLimits self.now }
+    {
+        self.every
     }
 
     /// What the erasable cell at an address may hold.
