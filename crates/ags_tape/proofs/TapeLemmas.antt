@@ -1,8 +1,8 @@
 -- The tape, a location further; and that what is written reads back.
-use Rattle.std.proofs.Common.{◌≡◌, ◌≢◌, ℕ, zero, suc, ◌+◌, ◌<◌, ◌≤◌, ◌^◌, Bool, true, false, not, ◌&&◌, ◌==◌, List, [], ◌∷◌, ◌++◌, length, take, drop, get_or, Option, Some, None, refl, sym, ap, ◌∙◌, arith, inl, inr, ◌⊎◌, append_assoc, append-nil, codes}
+use Rattle.std.proofs.Common.{◌≡◌, ◌≢◌, ℕ, zero, suc, ◌+◌, ◌<◌, ◌≤◌, ◌^◌, true, not, ◌==◌, List, [], ◌∷◌, ◌++◌, length, drop, get_or, Option, Some, None, refl, ap, ◌∙◌, arith, inl, inr, ◌⊎◌, append_assoc, codes}
 use Rattle.std.specs.Char.{digit_value}
 use Rattle.std.specs.Str.Parse.{AllDigits}
-use Rattle.std.specs.List.{All, AllPairs, Contains, list_all, filter_map}
+use Rattle.std.specs.List.{All, Contains}
 use Rattle.std.proofs.lemmas.Bool.Decides.{nat_tests}
 use Rattle.std.proofs.lemmas.List.{drop_more, drop_all}
 use Rattle.std.proofs.lemmas.List.Elements.{All-cons}
@@ -11,11 +11,10 @@ use Rattle.std.proofs.lemmas.List.Kept.{AllPairs-cons}
 use Rattle.ags_text.specs.Line.{HasNoFeed}
 use Rattle.ags_text.specs.Numeral.{numeral, octal4_text, octal6_text, Writes}
 use Rattle.ags_text.proofs.NumeralLemmas.{writes}
-use Rattle.ags_image.specs.Image.{memory_size, entry_at, word_at, IsImage, PlacedWord, EachPlaceOnce, IsImageOf}
+use Rattle.ags_image.specs.Image.{memory_size, entry_at, IsImage, PlacedWord, EachPlaceOnce, IsImageOf}
 use Rattle.ags_image.proofs.ImageLaws.{word_at-some}
 use Rattle.ags_outside.specs.Sink.{appended, Wrote, WroteFront, wrote_nothing, wrote_piece, wrote_all, wrote_front}
-use Rattle.ags_wordlines.specs.Columns.{placed_in}
-use Rattle.ags_wordlines.specs.Form.{HasForm, word_in, words_of, ReadBy}
+use Rattle.ags_wordlines.specs.Form.{HasForm, words_of}
 use Rattle.ags_wordlines.specs.Lines.{IsCutAtFeeds, feed_lines}
 use Rattle.ags_wordlines.proofs.ColumnLemmas.{printed_columns}
 use Rattle.ags_wordlines.proofs.CutLemmas.{one_cut}

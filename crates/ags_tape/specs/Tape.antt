@@ -3,7 +3,6 @@ use Rattle.std.specs.Prelude.{ℕ, ◌+◌, ◌&&◌, nat_eq, List, [], ◌∷�
 use Rattle.ags_text.specs.Numeral.{octal4_text, octal6_text}
 use Rattle.ags_image.specs.Image.{PlacedWord}
 use Rattle.ags_wordlines.specs.Columns.{placed_in}
-use Rattle.ags_wordlines.specs.Fault.{IsFaultOf}
 use Rattle.ags_wordlines.specs.Form.{Form, ReadBy}
 use Rattle.ags_wordlines.specs.Lines.{feed_lines}
 

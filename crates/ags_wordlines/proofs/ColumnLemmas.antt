@@ -1,12 +1,12 @@
 -- Columns of digits: what they write, and that what is printed reads back.
-use Rattle.std.proofs.Common.{◌≡◌, ℕ, ◌+◌, ◌*◌, ◌<◌, ◌≤◌, ◌^◌, Bool, true, false, ◌&&◌, List, [], ◌∷◌, length, Option, Some, None, refl, sym, ap, ◌∙◌, arith}
-use Rattle.std.specs.Prelude.{nat_lt, IfSome, IfNone}
+use Rattle.std.proofs.Common.{◌≡◌, ℕ, ◌<◌, ◌≤◌, ◌^◌, Bool, true, false, ◌&&◌, List, [], ◌∷◌, length, Some, None, refl, subst, arith}
+use Rattle.std.specs.Prelude.{nat_lt}
 use Rattle.std.specs.Char.{digit_value}
-use Rattle.std.specs.Str.Parse.{AllDigits, IsNumeral, digits_value}
+use Rattle.std.specs.Str.Parse.{AllDigits, digits_value}
 use Rattle.std.proofs.lemmas.Bool.Decides.{nat_tests}
-use Rattle.ags_text.specs.Numeral.{IsNumber, IsOctal, Writes, octal4_text, octal6_text}
+use Rattle.ags_text.specs.Numeral.{IsOctal, Writes, octal4_text, octal6_text}
 use Rattle.ags_text.proofs.NumeralLemmas.{writes}
-use Rattle.ags_image.specs.Image.{memory_size, PlacedWord}
+use Rattle.ags_image.specs.Image.{memory_size, PlacedWord, IsMemoryWord}
 use Rattle.ags_wordlines.specs.Columns.{are_digits, placed_in}
 
 below_test : (x y : ℕ) → x < y → nat_lt x y ≡ true
@@ -83,3 +83,27 @@ printed_columns place word within below =
 -- the place that a column of four digits writes is one of the memory's
 pub place_within : (place : List ℕ) (location : ℕ) → length place ≡ 4 → IsOctal 6 place location → location < memory_size
 place_within place location four is = rw is.value (four_digits place four is.digits.1)
+
+-- six octal digits write a word
+six_digits : (text : List ℕ) → length text ≡ 6 → AllDigits 8 text → digits_value 8 text < 2 ^ 18
+six_digits [] six digits = absurd (omega arith)
+six_digits (a ∷ []) six digits = absurd (omega arith)
+six_digits (a ∷ b ∷ []) six digits = absurd (omega arith)
+six_digits (a ∷ b ∷ c ∷ []) six digits = absurd (omega arith)
+six_digits (a ∷ b ∷ c ∷ d ∷ []) six digits = absurd (omega arith)
+six_digits (a ∷ b ∷ c ∷ d ∷ e ∷ []) six digits = absurd (omega arith)
+six_digits (a ∷ b ∷ c ∷ d ∷ e ∷ f ∷ []) six digits = omega (arith, digits.0, digits.1.0, digits.1.1.0, digits.1.1.1.0, digits.1.1.1.1.0, digits.1.1.1.1.1.0)
+six_digits (a ∷ b ∷ c ∷ d ∷ e ∷ f ∷ g ∷ text) six digits = absurd (omega arith)
+
+-- columns of four and of six digits write a word of the memory at its place
+pub columns_in_memory : (place word : List ℕ) (placed : PlacedWord) → length place ≡ 4 → length word ≡ 6 → placed_in place word ≡ Some placed → IsMemoryWord placed
+unfolding placed_in
+columns_in_memory place word placed four six is = tested (are_digits 8 place) (are_digits 8 word) refl refl is
+  where
+    tested : (one other : Bool) → are_digits 8 place ≡ one → are_digits 8 word ≡ other → placed_in place word ≡ Some placed → IsMemoryWord placed
+    tested true true digits too is =
+        let put : Some (record { place = digits_value 8 place; word = digits_value 8 word }) ≡ Some placed = rw (digits, too) at is in
+        let same : record { place = digits_value 8 place; word = digits_value 8 word } ≡ placed = cc in
+        subst IsMemoryWord same (record { place = four_digits place four (tested_digits 8 place digits); word = six_digits word six (tested_digits 8 word too) })
+    tested false other digits too is = let wrong : None ≡ Some placed = rw digits at is in absurd cc
+    tested true false digits too is = let wrong : None ≡ Some placed = rw (digits, too) at is in absurd cc

@@ -1,3 +1,4 @@
 pub mod ColumnLemmas
 pub mod CutLemmas
+pub mod MeaningLemmas
 pub mod ReadLemmas

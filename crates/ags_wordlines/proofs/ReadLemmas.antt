@@ -1,15 +1,14 @@
 -- A text's lines, as they are read from the first to the last.
-use Rattle.std.proofs.Common.{◌==◌, ◌≡◌, ◌≢◌, ℕ, ◌+◌, ◌-◌, ◌<◌, ◌≤◌, ◌^◌, Bool, true, false, List, [], ◌∷◌, ◌++◌, length, get_or, reverse, Option, Some, None, refl, sym, ap, ◌∙◌, arith, inl, inr, append_assoc, append-nil, length-append}
+use Rattle.std.proofs.Common.{◌==◌, ◌≡◌, ◌≢◌, ℕ, ◌+◌, ◌-◌, ◌<◌, ◌^◌, Bool, true, false, List, [], ◌∷◌, ◌++◌, length, get_or, reverse, Option, Some, None, refl, sym, ap, ◌∙◌, arith, append_assoc, append-nil, length-append}
 use Rattle.std.specs.Option.{is_some}
-use Rattle.std.specs.List.{All, Any, AllPairs, Contains, filter_map, list_any}
-use Rattle.std.proofs.lemmas.Bool.{cases_lt}
+use Rattle.std.specs.List.{All, Contains}
 use Rattle.std.proofs.lemmas.Bool.Decides.{nat_tests}
 use Rattle.std.proofs.lemmas.List.{reverse-append, reverse-reverse, length-reverse, get_or_append_left, get_or-append_right, get_or_default}
 use Rattle.std.proofs.lemmas.List.Elements.{All-push, filter_map-append}
 use Rattle.std.proofs.lemmas.List.Quantifiers.{all_pairs_push}
 use Rattle.std.proofs.lemmas.List.Folds.{list_any_at, list_any_none}
 use Rattle.ags_text.specs.Fault.{first_fault, first_fault-faulty, first_fault-faultless, first_fault-nil}
-use Rattle.ags_image.specs.Image.{memory_size, no_words, entry_at, word_at, with_word, IsImage, PlacedWord, IsMemoryWord, EachPlaceOnce, IsImageOf}
+use Rattle.ags_image.specs.Image.{memory_size, no_words, entry_at, with_word, IsImage, PlacedWord, EachPlaceOnce, IsImageOf}
 use Rattle.ags_image.proofs.ImageLaws.{image_of_nothing, image_of_word_more, word_at-set}
 use Rattle.ags_wordlines.specs.Form.{Form, HasForm, word_in, words_of, ReadBy}
 use Rattle.ags_wordlines.specs.Fault.{LineFault, is_taken, fault_behind, line_fault, first_line_fault}

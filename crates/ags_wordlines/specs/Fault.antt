@@ -1,5 +1,5 @@
 -- The first fault of the lines of a text.
-use Rattle.std.specs.Prelude.{◌≡◌, ℕ, Bool, List, [], ◌∷◌, Option, Some, None, reverse, ◌==◌, if◌then◌else◌}
+use Rattle.std.specs.Prelude.{◌≡◌, ℕ, Bool, List, [], Option, Some, None, reverse, ◌==◌, if◌then◌else◌}
 use Rattle.std.specs.List.{list_any}
 use Rattle.ags_text.specs.Fault.{first_fault}
 use Rattle.ags_image.specs.Image.{PlacedWord}

@@ -1,7 +1,7 @@
 -- What the lines of a text say, by the form of its lines.
-use Rattle.std.specs.Prelude.{◌≡◌, ◌≢◌, ℕ, ◌<◌, ◌^◌, List, [], ◌∷◌, Option, Some, None}
+use Rattle.std.specs.Prelude.{◌≡◌, ◌≢◌, ℕ, ◌<◌, List, Option, Some, None}
 use Rattle.std.specs.List.{All, filter_map}
-use Rattle.ags_image.specs.Image.{memory_size, PlacedWord, EachPlaceOnce, IsImageOf}
+use Rattle.ags_image.specs.Image.{memory_size, PlacedWord, IsMemoryWord, EachPlaceOnce, IsImageOf}
 
 -- what a line says: nothing where it hasn't the form, and else the word that it puts at a place, if it puts one
 abbrev pub Form : Type 0
@@ -10,6 +10,10 @@ Form = List ℕ → Option (Option PlacedWord)
 -- a line has the form
 abbrev pub HasForm : Form → List ℕ → Type 0
 HasForm form line = form line ≢ None
+
+-- lines of the form put words of the memory alone
+abbrev pub PutsInMemory : Form → Type 0
+PutsInMemory form = (line : List ℕ) (placed : PlacedWord) → form line ≡ Some (Some placed) → IsMemoryWord placed
 
 -- the word of what is said, if it has one
 abbrev pub word_in : Option (Option PlacedWord) → Option PlacedWord

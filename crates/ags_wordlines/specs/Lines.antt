@@ -1,6 +1,5 @@
 -- The lines of a text that end at line feeds alone: what it is to be cut there, and as it is cut.
-use Rattle.std.specs.Prelude.{◌≡◌, ℕ, ◌<◌, ◌⊎◌, not, List, [], ◌∷◌, ◌++◌, length, IsTrue}
-use Rattle.std.specs.List.{slice_split, list_all}
+use Rattle.std.specs.Prelude.{◌≡◌, ℕ, ◌<◌, ◌⊎◌, List, [], ◌∷◌, ◌++◌, length}
 use Rattle.ags_text.specs.Line.{HasNoFeed, parts}
 
 -- The text is these lines, each with a line feed behind it, but that the last may have none where it isn't empty.

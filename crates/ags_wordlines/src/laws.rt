@@ -1,11 +1,11 @@
 //! Laws of texts whose lines put words at places. Behind each clause is a lemma of `proofs/`.
 
-ghost use Rattle.std.specs.Prelude.{◌≡◌, ℕ, ◌<◌, ◌^◌, List, Option, Some, None};
+ghost use Rattle.std.specs.Prelude.{◌≡◌, ℕ, ◌<◌, ◌^◌, ◌⊎◌, List, Option, Some, None, length};
 ghost use Rattle.ags_text.specs.Numeral.{octal4_text, octal6_text};
-ghost use Rattle.ags_image.specs.Image.{memory_size};
+ghost use Rattle.ags_image.specs.Image.{memory_size, IsMemoryWord, PlacedWord};
 ghost use Rattle.ags_wordlines.specs.Columns.{placed_in};
-ghost use Rattle.ags_wordlines.specs.Form.{Form, ReadBy};
-ghost use Rattle.ags_wordlines.specs.Fault.{first_line_fault};
+ghost use Rattle.ags_wordlines.specs.Form.{Form, PutsInMemory, ReadBy};
+ghost use Rattle.ags_wordlines.specs.Fault.{LineFault, first_line_fault};
 ghost use Rattle.ags_wordlines.specs.Lines.{IsCutAtFeeds, feed_lines};
 
 /// A text is cut at its line feeds into its lines, and into no others.
@@ -23,4 +23,19 @@ pub fn read_text_has_no_fault()
 pub fn printed_columns_are_read()
     ensures { (place word : ℕ) → place < memory_size → word < 2 ^ 18
         → placed_in (octal4_text place) (octal6_text word) ≡ Some (record { place = place; word = word }) }
+{}
+
+/// Columns of four and of six digits write a word of the memory at its place.
+pub fn columns_put_words_of_the_memory()
+    ensures { (place word : List ℕ) (placed : PlacedWord) → length place ≡ 4 → length word ≡ 6
+        → placed_in place word ≡ Some placed → IsMemoryWord placed }
+{}
+
+/// Lines have an image or a first fault, where their form puts words of the memory alone; and they have one image.
+pub fn each_text_is_read_or_has_a_fault()
+    ensures some { (form : Form) (lines : List (List ℕ)) → PutsInMemory form
+        → ((image : List (Option ℕ)) × ReadBy form lines image)
+        ⊎ ((number : ℕ) × (fault : LineFault) × (first_line_fault form lines ≡ Some (number, fault))) }
+    ensures one { (form : Form) (lines : List (List ℕ)) (image other : List (Option ℕ)) → ReadBy form lines image
+        → ReadBy form lines other → image ≡ other }
 {}

@@ -11,5 +11,8 @@ mod reading;
 
 pub use columns::read_columns;
 pub use forms::LineForm;
-pub use laws::{printed_columns_are_read, read_text_has_no_fault, text_is_cut_at_feeds};
+pub use laws::{
+    columns_put_words_of_the_memory, each_text_is_read_or_has_a_fault, printed_columns_are_read,
+    read_text_has_no_fault, text_is_cut_at_feeds,
+};
 pub use reading::{ReadError, read_image};

@@ -1,4 +1,4 @@
-use Rattle.std.proofs.Common.{ℕ, arith}
+use Rattle.std.proofs.Common.{arith}
 use Rattle.ags_wordlines.proofs.ColumnLemmas.{placed_of_numbers, no_place, no_word, place_within}
 use Rattle.ags_wordlines.proofs.columns.read_columns.Goals as goal
 
