@@ -1,0 +1,4 @@
+pub mod NamingLemmas
+pub mod OrderLemmas
+pub mod RowLemmas
+pub mod SendingLemmas
