@@ -1,0 +1,11 @@
+-- What the crate promises: the three laws. Behind them are
+--     each_case_has_an_answer           some_posts of PostsLemmas
+--     each_row_has_a_code               some_code of CodeLemmas
+--     each_certificate_has_a_verdict    some_verdict of VerdictLemmas
+pub mod PostsLemmas
+pub mod CodeLemmas
+pub mod VerdictLemmas
+-- What stands below
+mod RangeLemmas
+mod OperationLemmas
+mod ToldLemmas

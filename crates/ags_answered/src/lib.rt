@@ -1,0 +1,8 @@
+//! That each work has an answer (docs/CHECKER.md): each case of a certificate over values has posts or a stop, each row a code or too
+//! many words, and each certificate a verdict. It stands on `ags_verdict`, `ags_posts` and `ags_domain` for what these are. `laws`
+//! says so; that an answer is one is said in the crates below. Nothing here runs.
+#![tactic(auto)]
+
+pub mod laws;
+#[cfg(test)]
+mod tests;

@@ -1,0 +1,10 @@
+//! The laws at once.
+
+use crate::laws::{each_case_has_an_answer, each_certificate_has_a_verdict, each_row_has_a_code};
+
+#[test]
+fn laws(_rt: HostRuntime) {
+    each_case_has_an_answer();
+    each_row_has_a_code();
+    each_certificate_has_a_verdict();
+}
