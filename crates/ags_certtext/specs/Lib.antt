@@ -5,3 +5,6 @@ pub mod Reading
 pub mod Statement
 pub mod Fault
 pub mod Text
+-- what stands below
+pub mod Front
+pub mod Operand

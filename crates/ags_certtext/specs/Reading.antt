@@ -2,6 +2,10 @@
 use Rattle.std.specs.Prelude.{◌≡◌, ℕ, List, [], ◌∷◌, ◌++◌, Option, Some, None}
 use Rattle.ags_text.specs.Line.{LineAt}
 use Rattle.ags_text.specs.Reading.{AreReadingsBy}
+use Rattle.ags_certtext.specs.declared.lines.FirstLine.{FirstLine}
+use Rattle.ags_certtext.specs.declared.lines.FirstLine.TheVariants as first
+use Rattle.ags_certtext.specs.declared.lines.FurtherLine.{FurtherLine}
+use Rattle.ags_certtext.specs.declared.lines.FurtherLine.TheVariants as further
 use Rattle.ags_certtext.specs.declared.statements.Statement.{Statement}
 use Rattle.ags_certtext.specs.Spelling.{Spells, IsSkipped, Opens, OpensAnother}
 
@@ -50,3 +54,21 @@ pub record AreReadings (lines : List LineAt) (readings : List Reading) : Type 0 
 abbrev pub statement_of : Reading → Option Statement
 statement_of (Stated statement) = Some statement
 statement_of _ = None
+
+-- the reading of a first line, as it is told
+abbrev pub first_reading : FirstLine → Reading
+first_reading first.Opening = Opening
+first_reading first.OtherOpening = OtherOpening
+first_reading first.Malformed = Malformed
+
+-- the reading of a further line, as it is told
+abbrev pub further_reading : FurtherLine → Reading
+further_reading (further.Stated statement) = Stated statement
+further_reading further.Skipped = Skipped
+further_reading further.Malformed = Malformed
+
+-- where a further line makes a statement, it is one of which this holds
+abbrev pub IfStated : FurtherLine → (Statement → Type 0) → Type 0
+IfStated (further.Stated statement) Is = Is statement
+IfStated further.Skipped Is = Unit {0}
+IfStated further.Malformed Is = Unit {0}

@@ -1,12 +1,33 @@
 -- What the statements of a certificate say together. Where statements stand before another they are told nearest first.
-use Rattle.std.specs.Prelude.{ℕ, suc, zero, Bool, true, not, ◌||◌, ◌&&◌, ◌==◌, List, [], ◌∷◌, Option, Some, None, if◌then◌else◌}
+use Rattle.std.specs.Prelude.{◌≡◌, ℕ, suc, zero, ◌<◌, Bool, true, not, ◌||◌, ◌&&◌, ◌==◌, List, [], ◌∷◌, length, Option, Some, None, if◌then◌else◌}
 use Rattle.std.specs.List.{list_any, filter_map}
 use Rattle.ags_domain.specs.Value.{value_held}
 use Rattle.ags_domain.specs.declared.values.Value.{Value}
+use Rattle.ags_row.specs.Flag.{some_flag}
 use Rattle.ags_certtext.specs.declared.statements.Entry.{Entry}
 use Rattle.ags_certtext.specs.declared.statements.RowLine.{RowLine}
 use Rattle.ags_certtext.specs.declared.statements.Statement.{Statement}
 use Rattle.ags_certtext.specs.declared.statements.Statement.TheVariants.{Start, Cell, Init, In, Out, May, Row, At, End}
+
+-- the line of a row names a location, one index at least, and one indicator at least
+pub record IsRowLine (row : RowLine) : Type 0 where
+  pub location : row.location < 4096
+  pub indices : length row.x ≡ 8
+  pub indicators : length row.v ≡ 2
+  pub some_index : some_flag row.x ≡ true
+  pub some_indicator : some_flag row.v ≡ true
+
+-- the addresses and the locations of a statement are those of the machine, and a row has an index and an indicator
+abbrev pub IsStatement : Statement → Type 0
+IsStatement (Start location) = location < 4096
+IsStatement (Cell entry) = entry.address < 4096
+IsStatement (Init entry) = entry.address < 4096
+IsStatement (In entry) = entry.address < 4096
+IsStatement (Out entry) = entry.address < 4096
+IsStatement (May location) = location < 4096
+IsStatement (Row row) = IsRowLine row
+IsStatement (At entry) = entry.address < 4096
+IsStatement End = Unit {0}
 
 -- the entry of a statement of one kind, where it is of that kind
 abbrev pub cell_entry : Statement → Option Entry

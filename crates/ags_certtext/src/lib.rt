@@ -1,11 +1,25 @@
 //! The text of a certificate (docs/CERTIFICATE.md): what each line states, which text is a certificate for a machine's registers, and
-//! which fault is a text's first. It stands on `ags_text` for lines, fields and digits, and on `ags_cert` for certificates.
+//! which fault is a text's first. `read_first_line` and `read_line` tell what a line is exactly as `specs/Spelling` has it: a line has
+//! one reading. It stands on `ags_text` for lines, fields and digits, on `ags_domain` for values, and on `ags_cert` for certificates.
 #![tactic(auto)]
 
 mod cert_error;
+mod ends;
+mod flags;
+mod forms;
+mod keywords;
+mod laws;
+mod lines;
 mod numbers;
+mod operands;
 mod statements;
+#[cfg(test)]
+mod tests;
+mod values;
+mod word_fields;
 
 pub use cert_error::{CertError, CertKind};
+pub use laws::{first_line_has_one_reading, line_has_one_reading, spelled_statements_are_lawful};
+pub use lines::{FirstLine, FurtherLine, read_first_line, read_line};
 pub use numbers::{read_address, read_size, read_word};
 pub use statements::{Entry, RowLine, Statement};

@@ -1,0 +1,303 @@
+-- What a line states, and what stands behind its keyword.
+--
+-- The crates above may cite stated_is, which is behind the law spelled_statements_are_lawful.
+use Rattle.std.proofs.Common.{◌≡◌, ℕ, ◌<◌, ◌≤◌, ◌^◌, ◌⊎◌, Bool, List, [], ◌∷◌, ◌++◌, length, slice_index, get_or, Option, Some, refl, sym, ap, ◌∙◌, inl, inr, arith}
+use Rattle.std.specs.Prelude.{codes}
+use Rattle.std.proofs.lemmas.Int.Digits.{digits_value-lt}
+use Rattle.ags_text.specs.Field.{AreBlanks, IsField, AreFields, HasFields, AreCut, next_field, behind_field}
+use Rattle.ags_text.specs.Numeral.{Writes}
+use Rattle.ags_text.proofs.FieldLaws.{standing_cut, number_field, writes_field, blanks_none, first_byte}
+use Rattle.ags_domain.specs.declared.values.Value.{Value}
+use Rattle.ags_certtext.specs.declared.keywords.Keyword.{Keyword}
+use Rattle.ags_certtext.specs.declared.keywords.Keyword.TheVariants as keyword
+use Rattle.ags_certtext.specs.declared.lines.FirstLine.{FirstLine}
+use Rattle.ags_certtext.specs.declared.lines.FirstLine.TheVariants as first
+use Rattle.ags_certtext.specs.declared.statements.Entry.{Entry}
+use Rattle.ags_certtext.specs.declared.statements.RowLine.{RowLine}
+use Rattle.ags_certtext.specs.declared.statements.Statement.{Statement}
+use Rattle.ags_certtext.specs.declared.statements.Statement.TheVariants.{Start, Cell, Init, In, Out, May, Row, At, End}
+use Rattle.ags_certtext.specs.Statement.{IsStatement}
+use Rattle.ags_certtext.specs.Spelling.{StatesPlace, StatesEntry, StatesRow, States, Opens, OpensAnother, flag_digits}
+use Rattle.ags_certtext.specs.Front.{IsPlace}
+use Rattle.ags_certtext.specs.Operand.{IsEntry, IsRow, keyword_name, AreOperands, IsVersionField, IsOther, IsFirstOf}
+use Rattle.ags_certtext.specs.Reading.{Reading, Opening, OtherOpening, Stated, Skipped, Malformed, Ended, IsFirstReading, first_reading}
+use Rattle.ags_certtext.proofs.FrontLemmas.{front_cut, cut_front, fields_append, cut_stands, value_fields, flags_field}
+
+-- an entry is its parts, and so is a row
+pub entry_same : (entry : Entry) (address : ℕ) (value : Option Value) → Some address ≡ Some entry.address → value ≡ entry.value
+    → Some (record { address = address; value = value }) ≡ Some entry
+entry_same entry address value place same = let at : address ≡ entry.address = cc in rw (at, same) refl
+
+pub row_same : (row : RowLine) (location : ℕ) (a q : Option Value) (x v : List Bool) → Some location ≡ Some row.location → a ≡ row.a → q ≡ row.q → x ≡ row.x → v ≡ row.v
+    → Some (record { location = location; a = a; q = q; x = x; v = v }) ≡ Some row
+row_same row location a q x v place same_a same_q same_x same_v = let at : location ≡ row.location = cc in rw (at, same_a, same_q, same_x, same_v) refl
+
+-- ---- what stands behind a keyword makes a statement
+
+keyword_field : (its : Keyword) → IsField (keyword_name its)
+keyword_field keyword.Start = record { some = omega arith; marks = refl }
+keyword_field keyword.Cell = record { some = omega arith; marks = refl }
+keyword_field keyword.Init = record { some = omega arith; marks = refl }
+keyword_field keyword.In = record { some = omega arith; marks = refl }
+keyword_field keyword.Out = record { some = omega arith; marks = refl }
+keyword_field keyword.May = record { some = omega arith; marks = refl }
+keyword_field keyword.Row = record { some = omega arith; marks = refl }
+keyword_field keyword.At = record { some = omega arith; marks = refl }
+keyword_field keyword.End = record { some = omega arith; marks = refl }
+
+place_states : (name line : List ℕ) (location : ℕ) → IsField name → next_field line ≡ name → IsPlace (behind_field line) location → StatesPlace name line location
+place_states name line location field named is = record {
+  place = next_field (behind_field line);
+  location_is = is.location_is;
+  fields = cut_stands line (name ∷ next_field (behind_field line) ∷ []) (field, (writes_field 8 4 _ location (omega arith) (omega arith) is.location_is, tt)) (named, (refl, is.ends));
+}
+
+entry_states : (name line : List ℕ) (entry : Entry) → IsField name → next_field line ≡ name → IsEntry (behind_field line) entry → StatesEntry name line entry
+entry_states name line entry field named is = record {
+  place = next_field (behind_field line);
+  value = is.value_is.taken ++ [];
+  address_is = is.address_is;
+  value_is = rw (Rattle.std.proofs.lemmas.List.append-nil is.value_is.taken) is.value_is.value_is;
+  fields = cut_stands line (name ∷ next_field (behind_field line) ∷ (is.value_is.taken ++ []))
+      (field, (writes_field 8 4 _ entry.address (omega arith) (omega arith) is.address_is, fields_append is.value_is.taken [] (value_fields is.value_is.taken entry.value is.value_is.value_is) tt))
+      (named, (refl, front_cut is.value_is.taken [] (behind_field (behind_field line)) is.rest is.value_is.front is.ends));
+}
+
+row_states : (line : List ℕ) (row : RowLine) → next_field line ≡ codes "ROW" → IsRow (behind_field line) row → StatesRow line row
+row_states line row named is =
+    let a = is.a_is.value_is in
+    let q = is.q_is.value_is in
+    let x = is.flags_are.x_is in
+    let v = is.flags_are.v_is in
+    let flags : List (List ℕ) = codes "X" ∷ flag_digits 48 row.x ∷ codes "V" ∷ flag_digits 48 row.v ∷ [] in
+    let behind_q : List (List ℕ) = codes "Q" ∷ (q.taken ++ flags) in
+    let flags_are : AreFields flags = (
+      record { some = omega arith; marks = refl },
+      (flags_field row.x x.flags_are.some, (record { some = omega arith; marks = refl }, (flags_field row.v v.flags_are.some, tt))),
+    ) in
+    let flags_cut : AreCut flags is.behind_q = (x.named, (x.flags_are.digits, (v.named, (v.flags_are.digits, is.flags_are.ends)))) in
+    let q_are : AreFields behind_q = (record { some = omega arith; marks = refl }, fields_append q.taken flags (value_fields q.taken row.q q.value_is) flags_are) in
+    let q_cut : AreCut behind_q is.behind_a = (is.q_is.named, front_cut q.taken flags (behind_field is.behind_a) is.behind_q q.front flags_cut) in
+    record {
+      place = next_field (behind_field line);
+      a = a.taken;
+      q = q.taken;
+      location_is = is.location_is;
+      a_is = a.value_is;
+      q_is = q.value_is;
+      indices = x.flags_are.count_is;
+      indicators = v.flags_are.count_is;
+      some_index = x.flags_are.some;
+      some_indicator = v.flags_are.some;
+      fields = cut_stands line (codes "ROW" ∷ next_field (behind_field line) ∷ codes "A" ∷ (a.taken ++ behind_q)) (
+        record { some = omega arith; marks = refl },
+        (
+          writes_field 8 4 _ row.location (omega arith) (omega arith) is.location_is,
+          (record { some = omega arith; marks = refl }, fields_append a.taken behind_q (value_fields a.taken row.a a.value_is) q_are),
+        ),
+      )
+          (named, (refl, (is.a_is.named, front_cut a.taken behind_q (behind_field (behind_field (behind_field line))) is.behind_a a.front q_cut)));
+    }
+
+pub operands_state : (its : Keyword) (line : List ℕ) (statement : Statement) → keyword_name its ≡ next_field line → AreOperands its (behind_field line) statement → States line statement
+operands_state keyword.Start line statement named is = rw is.2 (place_states (codes "START") line is.0 (keyword_field keyword.Start) (sym named) is.1)
+operands_state keyword.Cell line statement named is = rw is.2 (entry_states (codes "CELL") line is.0 (keyword_field keyword.Cell) (sym named) is.1)
+operands_state keyword.Init line statement named is = rw is.2 (entry_states (codes "INIT") line is.0 (keyword_field keyword.Init) (sym named) is.1)
+operands_state keyword.In line statement named is = rw is.2 (entry_states (codes "IN") line is.0 (keyword_field keyword.In) (sym named) is.1)
+operands_state keyword.Out line statement named is = rw is.2 (entry_states (codes "OUT") line is.0 (keyword_field keyword.Out) (sym named) is.1)
+operands_state keyword.May line statement named is = rw is.2 (place_states (codes "MAY") line is.0 (keyword_field keyword.May) (sym named) is.1)
+operands_state keyword.Row line statement named is = rw is.2 (row_states line is.0 (sym named) is.1)
+operands_state keyword.At line statement named is = rw is.2 (entry_states (codes "AT") line is.0 (keyword_field keyword.At) (sym named) is.1)
+operands_state keyword.End line statement named is = rw is.1 (cut_stands line (codes "END" ∷ []) (keyword_field keyword.End, tt) (sym named, is.0))
+
+-- ---- and back
+
+place_stands : (name line : List ℕ) (location : ℕ) → IsField name → StatesPlace name line location → (name ≡ next_field line) × IsPlace (behind_field line) location
+place_stands name line location field is =
+    let cut = standing_cut line (name ∷ is.place ∷ []) (field, (writes_field 8 4 is.place location (omega arith) (omega arith) is.location_is, tt)) is.fields in
+    (sym cut.0, record { location_is = rw cut.1.0 is.location_is; ends = cut.1.1 })
+
+entry_stands : (name line : List ℕ) (entry : Entry) → IsField name → StatesEntry name line entry → (name ≡ next_field line) × IsEntry (behind_field line) entry
+entry_stands name line entry field is =
+    let same : is.value ++ [] ≡ is.value = Rattle.std.proofs.lemmas.List.append-nil is.value in
+    let cut = standing_cut line (name ∷ is.place ∷ is.value)
+    (field, (writes_field 8 4 is.place entry.address (omega arith) (omega arith) is.address_is, value_fields is.value entry.value is.value_is)) is.fields in
+    let split = cut_front is.value [] (behind_field (behind_field line)) (rw same cut.1.1) in (
+      sym cut.0,
+      record {
+        address_is = rw cut.1.0 is.address_is;
+        rest = split.rest;
+        value_is = record { taken = is.value; front = split.front; value_is = is.value_is };
+        ends = split.are;
+      },
+    )
+
+row_stands : (line : List ℕ) (row : RowLine) → StatesRow line row → (codes "ROW" ≡ next_field line) × IsRow (behind_field line) row
+row_stands line row is =
+    let flags : List (List ℕ) = codes "X" ∷ flag_digits 48 row.x ∷ codes "V" ∷ flag_digits 48 row.v ∷ [] in
+    let behind_q : List (List ℕ) = codes "Q" ∷ (is.q ++ flags) in
+    let flags_are : AreFields flags = (
+      record { some = omega arith; marks = refl },
+      (flags_field row.x is.some_index, (record { some = omega arith; marks = refl }, (flags_field row.v is.some_indicator, tt))),
+    ) in
+    let q_are : AreFields behind_q = (record { some = omega arith; marks = refl }, fields_append is.q flags (value_fields is.q row.q is.q_is) flags_are) in
+    let cut = standing_cut line (codes "ROW" ∷ is.place ∷ codes "A" ∷ (is.a ++ behind_q)) (
+      record { some = omega arith; marks = refl },
+      (
+        writes_field 8 4 is.place row.location (omega arith) (omega arith) is.location_is,
+        (record { some = omega arith; marks = refl }, fields_append is.a behind_q (value_fields is.a row.a is.a_is) q_are),
+      ),
+    ) is.fields in
+    let a = cut_front is.a behind_q (behind_field (behind_field (behind_field line))) cut.1.1.1 in
+    let q = cut_front is.q flags (behind_field a.rest) a.are.1 in (
+      sym cut.0,
+      record {
+        location_is = rw cut.1.0 is.location_is;
+        behind_a = a.rest;
+        a_is = record { named = cut.1.1.0; value_is = record { taken = is.a; front = a.front; value_is = is.a_is } };
+        behind_q = q.rest;
+        q_is = record { named = a.are.0; value_is = record { taken = is.q; front = q.front; value_is = is.q_is } };
+        flags_are = record {
+          x_is = record { named = q.are.0; flags_are = record { count_is = is.indices; some = is.some_index; digits = q.are.1.0 } };
+          v_is = record { named = q.are.1.1.0; flags_are = record { count_is = is.indicators; some = is.some_indicator; digits = q.are.1.1.1.0 } };
+          ends = q.are.1.1.1.1;
+        };
+      },
+    )
+
+-- the keyword of a line that makes a statement
+pub record HasOperands (line : List ℕ) (statement : Statement) : Type 0 where
+  pub its : Keyword
+  pub named : keyword_name its ≡ next_field line
+  pub are : AreOperands its (behind_field line) statement
+
+pub state_operands : (line : List ℕ) (statement : Statement) → States line statement → HasOperands line statement
+state_operands line (Start location) is = let stands = place_stands (codes "START") line location (keyword_field keyword.Start) is in record { its = keyword.Start; named = stands.0; are = (location, stands.1, refl) }
+state_operands line (Cell entry) is = let stands = entry_stands (codes "CELL") line entry (keyword_field keyword.Cell) is in record { its = keyword.Cell; named = stands.0; are = (entry, stands.1, refl) }
+state_operands line (Init entry) is = let stands = entry_stands (codes "INIT") line entry (keyword_field keyword.Init) is in record { its = keyword.Init; named = stands.0; are = (entry, stands.1, refl) }
+state_operands line (In entry) is = let stands = entry_stands (codes "IN") line entry (keyword_field keyword.In) is in record { its = keyword.In; named = stands.0; are = (entry, stands.1, refl) }
+state_operands line (Out entry) is = let stands = entry_stands (codes "OUT") line entry (keyword_field keyword.Out) is in record { its = keyword.Out; named = stands.0; are = (entry, stands.1, refl) }
+state_operands line (May location) is = let stands = place_stands (codes "MAY") line location (keyword_field keyword.May) is in record { its = keyword.May; named = stands.0; are = (location, stands.1, refl) }
+state_operands line (Row row) is = let stands = row_stands line row is in record { its = keyword.Row; named = stands.0; are = (row, stands.1, refl) }
+state_operands line (At entry) is = let stands = entry_stands (codes "AT") line entry (keyword_field keyword.At) is in record { its = keyword.At; named = stands.0; are = (entry, stands.1, refl) }
+state_operands line End is = let cut = standing_cut line (codes "END" ∷ []) (keyword_field keyword.End, tt) is in record { its = keyword.End; named = sym cut.0; are = (cut.1, refl) }
+
+-- ---- a statement's addresses are those of the machine
+
+place_below : (place : List ℕ) (number : ℕ) → Writes 8 4 place number → number < 4096
+place_below place number is =
+    let below : number < 8 ^ length place = rw (← is.value) (digits_value-lt 8 place is.digits) in
+    let same : 8 ^ length place ≡ 4096 = ap (λ n. 8 ^ n) is.length in
+    omega (arith, below, same)
+
+pub stated_is : (line : List ℕ) (statement : Statement) → States line statement → IsStatement statement
+stated_is line (Start location) is = place_below is.place location is.location_is
+stated_is line (Cell entry) is = place_below is.place entry.address is.address_is
+stated_is line (Init entry) is = place_below is.place entry.address is.address_is
+stated_is line (In entry) is = place_below is.place entry.address is.address_is
+stated_is line (Out entry) is = place_below is.place entry.address is.address_is
+stated_is line (May location) is = place_below is.place location is.location_is
+stated_is line (Row row) is = record {
+  location = place_below is.place row.location is.location_is;
+  indices = is.indices;
+  indicators = is.indicators;
+  some_index = is.some_index;
+  some_indicator = is.some_indicator;
+}
+stated_is line (At entry) is = place_below is.place entry.address is.address_is
+stated_is line End is = tt
+
+-- what is made of parts that are one
+pub made_one : {X : Type 0} (make : X → Statement) (x other : X) (statement : Statement) → Some x ≡ Some other → statement ≡ make other → Some (make x) ≡ Some statement
+made_one make x other statement same is = let one : x ≡ other = cc in rw (one, is) refl
+
+-- ---- a line that is skipped makes no statement
+
+some_first : (its : Keyword) → (keyword_name its ≡ [] → ⊥) × (get_or (keyword_name its) 0 0 ≡ 35 → ⊥)
+some_first keyword.Start = (λ is. cc, λ is. omega (arith, is))
+some_first keyword.Cell = (λ is. cc, λ is. omega (arith, is))
+some_first keyword.Init = (λ is. cc, λ is. omega (arith, is))
+some_first keyword.In = (λ is. cc, λ is. omega (arith, is))
+some_first keyword.Out = (λ is. cc, λ is. omega (arith, is))
+some_first keyword.May = (λ is. cc, λ is. omega (arith, is))
+some_first keyword.Row = (λ is. cc, λ is. omega (arith, is))
+some_first keyword.At = (λ is. cc, λ is. omega (arith, is))
+some_first keyword.End = (λ is. cc, λ is. omega (arith, is))
+
+-- a line that begins with a number sign has it in its first field
+sign_first : (line : List ℕ) → get_or line 0 0 ≡ 35 → get_or (next_field line) 0 0 ≡ 35
+sign_first [] is = absurd (omega arith)
+sign_first (b ∷ line) is = first_byte b line (rw is refl) ∙ is
+
+pub idle_states_nothing : (line : List ℕ) (statement : Statement) → AreBlanks line ⊎ (slice_index line 0 ≡ 35) → States line statement → ⊥
+idle_states_nothing line statement (inl blank) states =
+    let has = state_operands line statement states in (some_first has.its).0 (has.named ∙ (blanks_none line blank).0)
+idle_states_nothing line statement (inr sign) states =
+    let has = state_operands line statement states in (some_first has.its).1 (ap (λ (name : List ℕ). get_or name 0 0) has.named ∙ sign_first line sign)
+
+-- ---- first lines
+
+-- a line of a version's form
+opening_field : IsField (codes "AGSCERT")
+opening_field = record { some = omega arith; marks = refl }
+
+pub version_has : (line digits : List ℕ) → IsField digits → IsVersionField line digits → HasFields line (codes "AGSCERT" ∷ digits ∷ [])
+version_has line digits field is = cut_stands line (codes "AGSCERT" ∷ digits ∷ []) (opening_field, (field, tt)) (is.named, (is.digits_are, is.ends))
+
+has_version : (line digits : List ℕ) → IsField digits → HasFields line (codes "AGSCERT" ∷ digits ∷ []) → IsVersionField line digits
+has_version line digits field has =
+    let cut = standing_cut line (codes "AGSCERT" ∷ digits ∷ []) (opening_field, (field, tt)) has in
+    record { named = cut.0; digits_are = cut.1.0; ends = cut.1.1 }
+
+one_field : IsField (codes "1")
+one_field = record { some = omega arith; marks = refl }
+
+pub opens_version : (line : List ℕ) → Opens line → IsVersionField line (codes "1")
+opens_version line is = has_version line (codes "1") one_field is.fields
+
+pub another_version : (line : List ℕ) → (is : OpensAnother line) → IsVersionField line is.digits
+another_version line is = has_version line is.digits (number_field 10 6 is.digits is.version (omega arith) is.is_decimal) is.fields
+
+-- the reading of a line of that form
+pub first_found : (line digits : List ℕ) (its : FirstLine) → length line ≤ 512 → IsVersionField line digits → IsFirstOf digits its → IsFirstReading line (first_reading its)
+first_found line digits first.Opening most form is =
+    let has = version_has line digits (rw is one_field) form in
+    let fields : HasFields line (codes "AGSCERT" ∷ codes "1" ∷ []) = rw is at has in
+    record { most = most; fields = fields }
+first_found line digits first.OtherOpening most form is = record {
+  most = most;
+  version = is.0;
+  digits = digits;
+  is_decimal = is.1;
+  other = is.2;
+  fields = version_has line digits (number_field 10 6 digits is.0 (omega arith) is.1) form;
+}
+first_found line digits first.Malformed most form is = (
+  λ opens. is.0 (sym form.digits_are ∙ (opens_version line opens).digits_are),
+  λ opens.
+      let same : digits ≡ opens.digits = sym form.digits_are ∙ (another_version line opens).digits_are in
+      is.1 (opens.version, rw same opens.is_decimal, opens.other),
+)
+
+-- the number of this version is no other
+one_not_other : (digits : List ℕ) → digits ≡ codes "1" → IsOther digits → ⊥
+one_not_other digits one other = other.2 (other.1.value ∙ rw one refl)
+
+-- a line has one reading as a first one
+pub first_only : (line : List ℕ) (its : FirstLine) (reading : Reading) → IsFirstReading line (first_reading its) → IsFirstReading line reading → reading ≡ first_reading its
+first_only line first.Opening Opening found is = refl
+first_only line first.Opening OtherOpening found is =
+    let same = sym (opens_version line found).digits_are ∙ (another_version line is).digits_are in
+    absurd (one_not_other is.digits (sym same) (is.version, is.is_decimal, is.other))
+first_only line first.Opening Malformed found is = absurd (is.0 found)
+first_only line first.OtherOpening Opening found is =
+    let same = sym (opens_version line is).digits_are ∙ (another_version line found).digits_are in
+    absurd (one_not_other found.digits (sym same) (found.version, found.is_decimal, found.other))
+first_only line first.OtherOpening OtherOpening found is = refl
+first_only line first.OtherOpening Malformed found is = absurd (is.1 found)
+first_only line first.Malformed Opening found is = absurd (found.0 is)
+first_only line first.Malformed OtherOpening found is = absurd (found.1 is)
+first_only line first.Malformed Malformed found is = refl
+first_only line its (Stated statement) found is = absurd is
+first_only line its Skipped found is = absurd is
+first_only line its Ended found is = absurd is

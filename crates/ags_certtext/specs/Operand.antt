@@ -1,0 +1,75 @@
+-- What stands behind the keyword of a line, as it is read.
+use Rattle.std.specs.Prelude.{◌≡◌, ◌≢◌, ℕ, Bool, List, codes}
+use Rattle.ags_text.specs.Field.{AreBlanks, next_field, behind_field}
+use Rattle.ags_text.specs.Numeral.{IsDecimal, Writes}
+use Rattle.ags_certtext.specs.Front.{BeginsWithValue, BeginsWithNamed, BeginsWithFlags, IsPlace}
+use Rattle.ags_certtext.specs.declared.keywords.Keyword.{Keyword}
+use Rattle.ags_certtext.specs.declared.keywords.Keyword.TheVariants as keyword
+use Rattle.ags_certtext.specs.declared.lines.FirstLine.{FirstLine}
+use Rattle.ags_certtext.specs.declared.lines.FirstLine.TheVariants as first
+use Rattle.ags_certtext.specs.declared.statements.Entry.{Entry}
+use Rattle.ags_certtext.specs.declared.statements.RowLine.{RowLine}
+use Rattle.ags_certtext.specs.declared.statements.Statement.{Statement}
+use Rattle.ags_certtext.specs.declared.statements.Statement.TheVariants.{Start, Cell, Init, In, Out, May, Row, At, End}
+
+-- an address and a value, and nothing behind them
+pub record IsEntry (text : List ℕ) (entry : Entry) : Type 0 where
+  pub address_is : Writes 8 4 (next_field text) entry.address
+  pub rest : List ℕ
+  pub value_is : BeginsWithValue (behind_field text) entry.value rest
+  pub ends : AreBlanks rest
+
+-- the index digits and the indicator digits, and nothing behind them
+pub record AreRowFlags (text : List ℕ) (x v : List Bool) : Type 0 where
+  pub x_is : BeginsWithFlags 8 88 text x
+  pub v_is : BeginsWithFlags 2 86 (behind_field (behind_field text)) v
+  pub ends : AreBlanks (behind_field (behind_field (behind_field (behind_field text))))
+
+-- a location, what A and Q may hold, the index digits and the indicator digits, and nothing behind them
+pub record IsRow (text : List ℕ) (row : RowLine) : Type 0 where
+  pub location_is : Writes 8 4 (next_field text) row.location
+  pub behind_a : List ℕ
+  pub a_is : BeginsWithNamed 65 (behind_field text) row.a behind_a
+  pub behind_q : List ℕ
+  pub q_is : BeginsWithNamed 81 behind_a row.q behind_q
+  pub flags_are : AreRowFlags behind_q row.x row.v
+
+-- the first field of a line
+abbrev pub keyword_name : Keyword → List ℕ
+keyword_name keyword.Start = codes "START"
+keyword_name keyword.Cell = codes "CELL"
+keyword_name keyword.Init = codes "INIT"
+keyword_name keyword.In = codes "IN"
+keyword_name keyword.Out = codes "OUT"
+keyword_name keyword.May = codes "MAY"
+keyword_name keyword.Row = codes "ROW"
+keyword_name keyword.At = codes "AT"
+keyword_name keyword.End = codes "END"
+
+-- what stands behind a keyword makes this statement
+abbrev pub AreOperands : Keyword → (text : List ℕ) → Statement → Type 0
+AreOperands keyword.Start text statement = (location : ℕ) × IsPlace text location × (statement ≡ Start location)
+AreOperands keyword.Cell text statement = (entry : Entry) × IsEntry text entry × (statement ≡ Cell entry)
+AreOperands keyword.Init text statement = (entry : Entry) × IsEntry text entry × (statement ≡ Init entry)
+AreOperands keyword.In text statement = (entry : Entry) × IsEntry text entry × (statement ≡ In entry)
+AreOperands keyword.Out text statement = (entry : Entry) × IsEntry text entry × (statement ≡ Out entry)
+AreOperands keyword.May text statement = (location : ℕ) × IsPlace text location × (statement ≡ May location)
+AreOperands keyword.Row text statement = (row : RowLine) × IsRow text row × (statement ≡ Row row)
+AreOperands keyword.At text statement = (entry : Entry) × IsEntry text entry × (statement ≡ At entry)
+AreOperands keyword.End text statement = AreBlanks text × (statement ≡ End)
+
+-- the keyword of a first line, the digits of its version, and nothing behind them
+pub record IsVersionField (line digits : List ℕ) : Type 0 where
+  pub named : next_field line ≡ codes "AGSCERT"
+  pub digits_are : next_field (behind_field line) ≡ digits
+  pub ends : AreBlanks (behind_field (behind_field line))
+
+-- the digits are those of another version
+abbrev pub IsOther : List ℕ → Type 0
+IsOther digits = (version : ℕ) × IsDecimal 6 digits version × (version ≢ 1)
+
+-- what a first line is whose version has these digits
+abbrev pub IsFirstOf : List ℕ → FirstLine → Type 0
+IsFirstOf digits first.Opening = digits ≡ codes "1"
+IsFirstOf digits first.OtherOpening = IsOther digits
+IsFirstOf digits first.Malformed = (digits ≡ codes "1" → ⊥) × (IsOther digits → ⊥)

@@ -1,0 +1,368 @@
+//! Rows worked out by hand from the rules of a certificate's lines: octal numbers are typed as octal.
+
+use crate::{Entry, FirstLine, FurtherLine, RowLine, Statement, laws, read_first_line, read_line};
+use ags_domain::{Domain, Range, Value, WordSet};
+use ags_word::Word;
+use std::process::Abort;
+use std::test::Fail;
+
+/// Clear alone, set alone, and both.
+const CLEAR: [bool; 2] = [true, false];
+
+const SET: [bool; 2] = [false, true];
+
+const EITHER: [bool; 2] = [true, true];
+
+/// The index 0 alone.
+const ZERO: [bool; 8] = [true, false, false, false, false, false, false, false];
+
+/// Every word.
+fn any() -> Option<Value> {
+    Some(Value::full())
+}
+
+/// The value of a range, where it isn't empty.
+fn range(least: i32, greatest: i32) -> Option<Value> {
+    Range::of(least, greatest).map(Value::Range)
+}
+
+/// The set of one word.
+fn alone(number: u32) -> Option<Value> {
+    match Word::of(number) {
+        Some(word) => WordSet::of(&[word]).map(Value::Words),
+        None => None,
+    }
+}
+
+/// The set of two words.
+fn pair(first: u32, second: u32) -> Option<Value> {
+    match (Word::of(first), Word::of(second)) {
+        (Some(one), Some(other)) => WordSet::of(&[one, other]).map(Value::Words),
+        _ => None,
+    }
+}
+
+/// The set of the words 0 to 15.
+fn sixteen() -> Option<Value> {
+    let mut words = [Word::ZERO; 16];
+    for number in 0..16 {
+        if let Some(word) = Word::of(number as u32) {
+            words[number] = word;
+        }
+    }
+    WordSet::of(&words).map(Value::Words)
+}
+
+/// Whether a line makes this statement.
+fn states(line: &[u8], wanted: &Statement) -> bool {
+    match read_line(line) {
+        FurtherLine::Stated(statement) => statement == *wanted,
+        _ => false,
+    }
+}
+
+#[test]
+fn statements_are_read(rt: HostRuntime) -> Result<(), Fail> {
+    let rows: [(&[u8], Statement); 22] = [
+        (b"START 4000", Statement::Start(0o4000)),
+        (b" \tSTART\t 0000 \t", Statement::Start(0)),
+        (b"MAY 7777", Statement::May(0o7777)),
+        (b"END", Statement::End),
+        (b"\tEND ", Statement::End),
+        (
+            b"CELL 0017 ANY",
+            Statement::Cell(Entry {
+                address: 0o17,
+                value: any(),
+            }),
+        ),
+        (
+            b"INIT 3777 RANGE 4 6",
+            Statement::Init(Entry {
+                address: 0o3777,
+                value: range(4, 6),
+            }),
+        ),
+        (
+            b"IN 2200 RANGE -131072 131071",
+            Statement::In(Entry {
+                address: 0o2200,
+                value: range(-131_072, 131_071),
+            }),
+        ),
+        (
+            b"OUT 6200 RANGE -0 000031",
+            Statement::Out(Entry {
+                address: 0o6200,
+                value: range(0, 31),
+            }),
+        ),
+        (
+            b"CELL 0017 RANGE -000005 -5",
+            Statement::Cell(Entry {
+                address: 0o17,
+                value: range(-5, -5),
+            }),
+        ),
+        (
+            b"CELL 0017 RANGE 9 5",
+            Statement::Cell(Entry {
+                address: 0o17,
+                value: None,
+            }),
+        ),
+        (
+            b"AT 0017 RANGE 5 4",
+            Statement::At(Entry {
+                address: 0o17,
+                value: None,
+            }),
+        ),
+        (
+            b"AT 0017 RANGE 0 -1",
+            Statement::At(Entry {
+                address: 0o17,
+                value: None,
+            }),
+        ),
+        (
+            b"CELL 4000 ANY",
+            Statement::Cell(Entry {
+                address: 0o4000,
+                value: any(),
+            }),
+        ),
+        (
+            b"AT 0017 WORDS 404001",
+            Statement::At(Entry {
+                address: 0o17,
+                value: alone(0o404001),
+            }),
+        ),
+        (
+            b"AT 0017 WORDS 000001 777777",
+            Statement::At(Entry {
+                address: 0o17,
+                value: pair(1, 0o777777),
+            }),
+        ),
+        (
+            b"AT 0017 WORDS 000000 000001 000002 000003 000004 000005 000006 000007 000010 000011 000012 000013 000014 000015 000016 000017",
+            Statement::At(Entry {
+                address: 0o17,
+                value: sixteen(),
+            }),
+        ),
+        (
+            b"ROW 4000 A ANY Q ANY X 0 V 0",
+            Statement::Row(RowLine {
+                location: 0o4000,
+                a: any(),
+                q: any(),
+                x: ZERO,
+                v: CLEAR,
+            }),
+        ),
+        (
+            b"ROW 4002 A ANY Q WORDS 404001 X 0 V 01",
+            Statement::Row(RowLine {
+                location: 0o4002,
+                a: any(),
+                q: alone(0o404001),
+                x: ZERO,
+                v: EITHER,
+            }),
+        ),
+        (
+            b"ROW 0017 A WORDS 000001 777777 Q RANGE -3 7 X 0127 V 1",
+            Statement::Row(RowLine {
+                location: 0o17,
+                a: pair(1, 0o777777),
+                q: range(-3, 7),
+                x: [true, true, true, false, false, false, false, true],
+                v: SET,
+            }),
+        ),
+        (
+            b"ROW 0017 A RANGE 2 1 Q ANY X 01234567 V 0",
+            Statement::Row(RowLine {
+                location: 0o17,
+                a: None,
+                q: any(),
+                x: [true; 8],
+                v: CLEAR,
+            }),
+        ),
+        (
+            b"ROW 0017 A RANGE 1 2 Q RANGE 2 1 X 0 V 0",
+            Statement::Row(RowLine {
+                location: 0o17,
+                a: range(1, 2),
+                q: None,
+                x: ZERO,
+                v: CLEAR,
+            }),
+        ),
+    ];
+    for (row, (line, wanted)) in rows.iter().enumerate() {
+        assert!(rt;
+            read_line(line) == FurtherLine::Stated(*wanted),
+            "row {row}"
+        );
+    }
+    Ok(())
+}
+
+#[test]
+fn malformed_lines_are_told(rt: HostRuntime) -> Result<(), Fail> {
+    let lines: [&[u8]; 64] = [
+        b" # blanks before the sign",
+        b"AGSCERT 1",
+        b"STOP 4000",
+        b"start 4000",
+        b"START",
+        b"START 400",
+        b"START 04000",
+        b"START 4008",
+        b"START 4000 0000",
+        b"STARTS 4000",
+        b"START4000",
+        b"MAY",
+        b"MAY 4000 ANY",
+        b"END 0",
+        b"END END",
+        b"CELL",
+        b"CELL 0017",
+        b"CELL ANY",
+        b"CELL 017 ANY",
+        b"CELL 00017 ANY",
+        b"CELL 0018 ANY",
+        b"CELL 0017 any",
+        b"CELL 0017 ANY ANY",
+        b"CELL 0017 ALL",
+        b"CELL 0017 ANYX",
+        b"CELL 0017 RANGE",
+        b"CELL 0017 RANGE 1",
+        b"CELL 0017 RANGE 1 2 3",
+        b"CELL 0017 RANGE 0 131072",
+        b"CELL 0017 RANGE 131072 1",
+        b"CELL 0017 RANGE -131073 0",
+        b"CELL 0017 RANGE +1 2",
+        b"CELL 0017 RANGE - 2",
+        b"CELL 0017 RANGE --1 2",
+        b"CELL 0017 RANGE 0000001 2",
+        b"CELL 0017 RANGE 1 2A",
+        b"CELL 0017 RANGE 1,2",
+        b"CELL 0017 WORDS",
+        b"CELL 0017 WORDS 00001",
+        b"CELL 0017 WORDS 0000001",
+        b"CELL 0017 WORDS 000008",
+        b"CELL 0017 WORDS 000001 000001",
+        b"CELL 0017 WORDS 000002 000001",
+        b"CELL 0017 WORDS 777777 000001",
+        b"CELL 0017 WORDS 000001 ANY",
+        b"AT 0017 WORDS 000000 000001 000002 000003 000004 000005 000006 000007 000010 000011 000012 000013 000014 000015 000016 000017 000020",
+        b"ROW 4000",
+        b"ROW 4000 A ANY Q ANY X 0",
+        b"ROW 4000 A ANY Q ANY X 0 V",
+        b"ROW 4000 A ANY Q ANY V 0 X 0",
+        b"ROW 4000 Q ANY A ANY X 0 V 0",
+        b"ROW 4000 A ANY X 0 V 0",
+        b"ROW 4000 ANY Q ANY X 0 V 0",
+        b"ROW 4000 A Q ANY X 0 V 0",
+        b"ROW 4000 A ANY Q ANY X 0 V 0 0",
+        b"ROW 4000 A ANY Q ANY X 10 V 0",
+        b"ROW 4000 A ANY Q ANY X 00 V 0",
+        b"ROW 4000 A ANY Q ANY X 8 V 0",
+        b"ROW 4000 A ANY Q ANY X V 0",
+        b"ROW 4000 A ANY Q ANY X 0 V 10",
+        b"ROW 4000 A ANY Q ANY X 0 V 2",
+        b"ROW 4000 A ANY Q ANY X 0 V 00",
+        b"ROW 4000 A WORDS 000001 000001 Q ANY X 0 V 0",
+        b"ROW 4000 A RANGE 131072 1 Q ANY X 0 V 0",
+    ];
+    for (row, line) in lines.iter().enumerate() {
+        assert!(rt; read_line(line) == FurtherLine::Malformed, "row {row}");
+    }
+    Ok(())
+}
+
+#[test]
+fn lines_that_do_nothing_are_skipped(rt: HostRuntime) -> Result<(), Fail> {
+    let lines: [&[u8]; 6] = [b"", b" ", b"\t", b" \t \t", b"#", b"# END \x00\xff\r"];
+    for (row, line) in lines.iter().enumerate() {
+        assert!(rt; read_line(line) == FurtherLine::Skipped, "row {row}");
+    }
+    Ok(())
+}
+
+#[test]
+fn long_lines_are_malformed(rt: HostRuntime) -> Result<(), Fail> {
+    let mut bytes = [b' '; 513];
+    assert!(rt; read_line(&bytes[..512]) == FurtherLine::Skipped);
+    assert!(rt; read_line(&bytes) == FurtherLine::Malformed);
+    bytes[0] = b'#';
+    assert!(rt; read_line(&bytes[..512]) == FurtherLine::Skipped);
+    assert!(rt; read_line(&bytes) == FurtherLine::Malformed);
+    bytes[0] = b'E';
+    bytes[1] = b'N';
+    bytes[2] = b'D';
+    assert!(rt; read_line(&bytes[..512]) == FurtherLine::Stated(Statement::End));
+    assert!(rt; read_line(&bytes) == FurtherLine::Malformed);
+    Ok(())
+}
+
+#[test]
+fn first_lines_are_read(rt: HostRuntime) -> Result<(), Fail> {
+    let rows: [(&[u8], FirstLine); 21] = [
+        (b"AGSCERT 1", FirstLine::Opening),
+        (b"\t AGSCERT \t1 ", FirstLine::Opening),
+        (b"AGSCERT 0", FirstLine::OtherOpening),
+        (b"AGSCERT 3", FirstLine::OtherOpening),
+        (b"AGSCERT 10", FirstLine::OtherOpening),
+        (b"AGSCERT 003", FirstLine::OtherOpening),
+        (b"AGSCERT 999999", FirstLine::OtherOpening),
+        (b"AGSCERT 01", FirstLine::Malformed),
+        (b"AGSCERT 000001", FirstLine::Malformed),
+        (b"AGSCERT 0000002", FirstLine::Malformed),
+        (b"AGSCERT 1000000", FirstLine::Malformed),
+        (b"AGSCERT 1 1", FirstLine::Malformed),
+        (b"AGSCERT 3 ANY", FirstLine::Malformed),
+        (b"AGSCERT", FirstLine::Malformed),
+        (b"AGSCERT -1", FirstLine::Malformed),
+        (b"AGSCERT 1A", FirstLine::Malformed),
+        (b"agscert 1", FirstLine::Malformed),
+        (b"AGSCERT1", FirstLine::Malformed),
+        (b"START 4000", FirstLine::Malformed),
+        (b"# AGSCERT 1", FirstLine::Malformed),
+        (b"", FirstLine::Malformed),
+    ];
+    for (row, (line, wanted)) in rows.iter().enumerate() {
+        assert!(rt; read_first_line(line) == *wanted, "row {row}");
+    }
+    Ok(())
+}
+
+#[test]
+fn long_first_lines_are_malformed(rt: HostRuntime) -> Result<(), Fail> {
+    let mut bytes = [b' '; 513];
+    bytes[0] = b'A';
+    bytes[1] = b'G';
+    bytes[2] = b'S';
+    bytes[3] = b'C';
+    bytes[4] = b'E';
+    bytes[5] = b'R';
+    bytes[6] = b'T';
+    bytes[8] = b'1';
+    assert!(rt; read_first_line(&bytes[..512]) == FirstLine::Opening);
+    assert!(rt; read_first_line(&bytes) == FirstLine::Malformed);
+    Ok(())
+}
+
+#[test]
+fn laws_are_called(_rt: HostRuntime) -> Result<(), Fail> {
+    laws::first_line_has_one_reading();
+    laws::line_has_one_reading();
+    laws::spelled_statements_are_lawful();
+    Ok(())
+}
