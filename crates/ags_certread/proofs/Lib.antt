@@ -1,0 +1,16 @@
+pub mod CheckLemmas
+pub mod TableLemmas
+pub mod CellLemmas
+pub mod RowLemmas
+pub mod FaultLemmas
+pub mod GatherLemmas
+pub mod SoundLemmas
+pub mod LimitLemmas
+pub mod FinishLemmas
+pub mod TakeLemmas
+pub mod ReadLemmas
+pub mod SuitLemmas
+pub mod MeaningLemmas
+pub mod UniqueLemmas
+pub mod ExistenceLemmas
+pub mod TextLaws

@@ -1,0 +1,440 @@
+-- What is kept is sound by itself: it has its sizes, the rows are few, what is stated of a cell is within its limit, and the kinds came
+-- in order. So a certificate comes of it.
+use Rattle.std.proofs.Common.{◌≡◌, ℕ, ◌+◌, ◌<◌, ◌≤◌, Bool, true, false, ◌==◌, refl, sym, ap, ◌∙◌, subst, List, [], ◌∷◌, ◌++◌, length, get_or, set, Option, Some, None, arith}
+use Rattle.std.specs.Prelude.{is_some, replicate, if◌then◌else◌}
+use Rattle.std.specs.List.{All}
+use Rattle.std.proofs.lemmas.List.{length-append, length-set, length-replicate}
+use Rattle.std.proofs.lemmas.List.Elements.{All-append, All-nil, All-cons}
+use Rattle.std.proofs.lemmas.List.Sums.{sum_by-append}
+use Rattle.ags_domain.specs.declared.values.Value.{Value}
+use Rattle.ags_ports.specs.Port.{Registers}
+use Rattle.ags_row.specs.Cell.{value_among}
+use Rattle.ags_row.specs.declared.ats.At.{At as Cell_at}
+use Rattle.ags_row.specs.declared.rows.Row.{Row as Row_of}
+use Rattle.ags_cert.specs.Cert.{rows_at}
+use Rattle.ags_certtext.specs.declared.statements.Entry.{Entry}
+use Rattle.ags_certtext.specs.declared.statements.RowLine.{RowLine}
+use Rattle.ags_certtext.specs.declared.statements.Statement.{Statement}
+use Rattle.ags_certtext.specs.declared.statements.Statement.TheVariants.{Start, Cell, Init, In, Out, May, Row, At, End}
+use Rattle.ags_certtext.specs.Statement.{IsStatement}
+use Rattle.ags_certtext.specs.Fault.{is_outside}
+use Rattle.ags_certread.specs.Gathering.{Gathering, Closes, IsClosed, IsOpenRow, IsPlaced, IsSized, has_cell, nothing_stated, part_fault, row_count, stated, with_entry, with_statement}
+use Rattle.ags_certread.proofs.TableLemmas.{each_same, set_read, same_of}
+use Rattle.ags_certread.proofs.CellLemmas.{count_more, value_more, ascend_more}
+use Rattle.ags_certread.proofs.FaultLemmas.{IsFine, clear, clear_entry, clear_row, erasable, room, some_left, no_higher}
+
+-- how many open rows stand at a location
+abbrev pub open_at : Option RowLine → ℕ → ℕ
+open_at None location = 0
+open_at (Some line) location = if line.location == location then 1 else 0
+
+-- the rows are counted, and few
+pub record AreFew (rows : List (Row_of Value)) (line : Option RowLine) (counts : List ℕ) : Type 0 where
+  pub most : length rows + (if is_some line then 1 else 0) ≤ 20000
+  pub each : (location : ℕ) → rows_at rows location + open_at line location ≡ get_or counts location 0
+  pub few : (location : ℕ) → get_or counts location 0 ≤ 512
+
+-- what the cells of a row may hold is within their limits
+abbrev pub RowInside : List (Option Value) → Row_of Value → Type 0
+RowInside cells row = (address : ℕ) → is_outside (value_among row.at address) (stated cells address) ≡ false
+
+-- what is stated of a cell, at the start or in a row, is within its limit
+pub record AreInside (cells init : List (Option Value)) (rows : List (Row_of Value)) (row_cells : List (Cell_at Value)) : Type 0 where
+  pub firsts : (address : ℕ) → is_outside (stated init address) (stated cells address) ≡ false
+  pub in_rows : All (RowInside cells) rows
+  pub in_cells : (address : ℕ) → is_outside (value_among row_cells address) (stated cells address) ≡ false
+
+-- nothing of a later kind was stated, and at the end a row was
+pub record IsEarly (last : ℕ) (init : List (Option Value)) (rows : List (Row_of Value)) (line : Option RowLine) (row_cells : List (Cell_at Value)) : Type 0 where
+  pub no_init : last ≤ 2 → (address : ℕ) → stated init address ≡ None
+  pub no_rows : last ≤ 6 → rows ≡ []
+  pub no_line : last ≤ 6 → line ≡ None
+  pub no_cells : line ≡ None → row_cells ≡ []
+  pub ended : last ≡ 8 → line ≡ None
+  pub some_row : last ≡ 8 → 1 ≤ length rows
+
+pub record IsSound (g : Gathering) : Type 0 where
+  pub sized : IsSized g
+  pub start : g.start < 4096
+  pub closable : IsOpenRow g.line g.row_cells
+  pub few : AreFew g.rows g.line g.counts
+  pub inside : AreInside g.cells g.init g.rows g.row_cells
+  pub early : IsEarly g.last g.init g.rows g.line g.row_cells
+
+no_row_open : IsOpenRow None []
+no_row_open = record { line = tt; a = tt; q = tt; few = omega arith; ascending = refl }
+
+pub IsSound-none : IsSound nothing_stated
+IsSound-none = record {
+  sized = record {
+    cells = length-replicate {A = Option Value} 2048 None;
+    init = length-replicate {A = Option Value} 2048 None;
+    inputs = length-replicate {A = Option Value} 4096 None;
+    outputs = length-replicate {A = Option Value} 4096 None;
+    places = length-replicate {A = Bool} 4096 false;
+    counts = length-replicate {A = ℕ} 4096 0;
+  };
+  start = omega arith;
+  closable = no_row_open;
+  few = record {
+    most = omega arith;
+    each = λ location. sym (each_same {E = ℕ} 4096 0 location);
+    few = λ location. rw (each_same {E = ℕ} 4096 0 location) (omega arith);
+  };
+  inside = record {
+    firsts = λ address. rw (each_same {E = Option Value} 2048 None address) refl;
+    in_rows = All-nil (RowInside (replicate 2048 None));
+    in_cells = λ address. refl;
+  };
+  early = record {
+    no_init = λ low address. each_same {E = Option Value} 2048 None address;
+    no_rows = λ low. refl;
+    no_line = λ low. refl;
+    no_cells = λ none. refl;
+    ended = λ end. refl;
+    some_row = λ end. absurd (omega (arith, end));
+  };
+}
+
+-- ---- the open row is closed
+
+added_at : (rows : List (Row_of Value)) (row : Row_of Value) (line : RowLine) (location : ℕ) → row.location ≡ line.location
+    → rows_at (rows ++ row ∷ []) location + 0 ≡ rows_at rows location + (if line.location == location then 1 else 0)
+added_at rows row line location same =
+    let parts = sum_by-append (λ (r : Row_of Value). if r.location == location then 1 else 0) rows (row ∷ []) in
+    let here : ◌≡◌ {A = ℕ} (if row.location == location then 1 else 0) (if line.location == location then 1 else 0) =
+    ap {B = ℕ} (λ (n : ℕ). if n == location then 1 else 0) same in
+    omega (arith, parts, here)
+
+module _ (g : Gathering) (line : RowLine) (row : Row_of Value) (is : g.line ≡ Some line) (closed : IsClosed line g.row_cells row) (sound : IsSound g) where
+  never_none : g.line ≡ None → ⊥
+  never_none none = let clash : ◌≡◌ {A = Option RowLine} (Some line) None = sym is ∙ none in absurd cc
+
+  few_closed : AreFew (g.rows ++ row ∷ []) None g.counts
+  few_closed =
+      let most : length g.rows + 1 ≤ 20000 = rw is at sound.few.most in
+      record {
+        most = (let longer = length-append g.rows (row ∷ []) in omega (arith, most, longer));
+        each = λ location. added_at g.rows row line location closed.location
+            ∙ ap (λ (l : Option RowLine). rows_at g.rows location + open_at l location) (sym is) ∙ sound.few.each location;
+        few = sound.few.few;
+      }
+
+  row_inside : RowInside g.cells row
+  row_inside address = rw closed.at (sound.inside.in_cells address)
+
+  pub sound_closed : IsSound (record g { rows = g.rows ++ row ∷ []; line = None; row_cells = [] })
+  sound_closed = record {
+    sized = record {
+      cells = sound.sized.cells;
+      init = sound.sized.init;
+      inputs = sound.sized.inputs;
+      outputs = sound.sized.outputs;
+      places = sound.sized.places;
+      counts = sound.sized.counts;
+    };
+    start = sound.start;
+    closable = no_row_open;
+    few = few_closed;
+    inside = record {
+      firsts = sound.inside.firsts;
+      in_rows = All-append (RowInside g.cells) g.rows (row ∷ []) sound.inside.in_rows (All-cons (RowInside g.cells) row [] row_inside (All-nil (RowInside g.cells)));
+      in_cells = λ address. refl;
+    };
+    early = record {
+      no_init = sound.early.no_init;
+      no_rows = λ low. absurd (never_none (sound.early.no_line low));
+      no_line = λ low. refl;
+      no_cells = λ none. refl;
+      ended = λ end. refl;
+      some_row = λ end. absurd (never_none (sound.early.ended end));
+    };
+  }
+
+pub sound_shut : (g m : Gathering) (line : Option RowLine) → g.line ≡ line → Closes line g m → IsSound g → IsSound m
+sound_shut g m None is closes sound = subst (λ (h : Gathering). IsSound h) (sym closes) sound
+sound_shut g m (Some line) is closes sound = subst (λ (h : Gathering). IsSound h) (sym closes.2) (sound_closed g line closes.0 is closes.1 sound)
+
+-- the line of the open row is gone
+pub line_gone : (g m : Gathering) (line : Option RowLine) → g.line ≡ line → Closes line g m → m.line ≡ None
+line_gone g m None is closes = subst (λ (h : Gathering). h.line ≡ None) (sym closes) is
+line_gone g m (Some line) is closes = subst (λ (h : Gathering). h.line ≡ None) (sym closes.2) refl
+
+-- ---- the fault of a statement stays when the row before it is closed
+
+count_kept : (g : Gathering) (line : RowLine) (row : Row_of Value) → g.line ≡ Some line → length (g.rows ++ row ∷ []) + 0 ≡ row_count g
+count_kept g line row is = let longer = length-append g.rows (row ∷ []) in rw is (omega (arith, longer))
+
+part_kept : (ports : Registers) (g : Gathering) (line : RowLine) (row : Row_of Value) → g.line ≡ Some line → (statement : Statement)
+    → ((entry : Entry) → statement ≡ At entry → ⊥)
+    → part_fault ports (record g { rows = g.rows ++ row ∷ []; line = None; row_cells = [] }) statement ≡ part_fault ports g statement
+part_kept ports g line row is (Start location) other = refl
+part_kept ports g line row is (Cell entry) other = refl
+part_kept ports g line row is (Init entry) other = refl
+part_kept ports g line row is (In entry) other = refl
+part_kept ports g line row is (Out entry) other = refl
+part_kept ports g line row is (May location) other = refl
+part_kept ports g line row is (Row next) other = rw (count_kept g line row is) refl
+part_kept ports g line row is (At entry) other = absurd (other entry refl)
+part_kept ports g line row is End other = rw (count_kept g line row is) refl
+
+pub fine_shut : (ports : Registers) (g m : Gathering) (line : Option RowLine) → g.line ≡ line → Closes line g m → (statement : Statement)
+    → ((entry : Entry) → statement ≡ At entry → ⊥) → IsFine ports g statement → IsFine ports m statement
+fine_shut ports g m None is closes statement other fine = subst (λ (h : Gathering). IsFine ports h statement) (sym closes) fine
+fine_shut ports g m (Some line) is closes statement other fine = subst (λ (h : Gathering). IsFine ports h statement) (sym closes.2) (record {
+  order = fine.order;
+  part = part_kept ports g line closes.0 is statement other ∙ fine.part;
+})
+
+pub counts_shut : (g m : Gathering) (line : Option RowLine) → Closes line g m → m.counts ≡ g.counts
+counts_shut g m None closes = ap (λ (h : Gathering). h.counts) closes
+counts_shut g m (Some line) closes = ap (λ (h : Gathering). h.counts) closes.2
+
+-- ---- a statement is added
+
+sized_more : (m : Gathering) (statement : Statement) → IsSized m → IsSized (with_statement m statement)
+sized_more m (Start location) s = record { cells = s.cells; init = s.init; inputs = s.inputs; outputs = s.outputs; places = s.places; counts = s.counts }
+sized_more m (Cell entry) s =
+    record { cells = length-set m.cells entry.address entry.value ∙ s.cells; init = s.init; inputs = s.inputs; outputs = s.outputs; places = s.places; counts = s.counts }
+sized_more m (Init entry) s =
+    record { cells = s.cells; init = length-set m.init entry.address entry.value ∙ s.init; inputs = s.inputs; outputs = s.outputs; places = s.places; counts = s.counts }
+sized_more m (In entry) s =
+    record { cells = s.cells; init = s.init; inputs = length-set m.inputs entry.address entry.value ∙ s.inputs; outputs = s.outputs; places = s.places; counts = s.counts }
+sized_more m (Out entry) s =
+    record { cells = s.cells; init = s.init; inputs = s.inputs; outputs = length-set m.outputs entry.address entry.value ∙ s.outputs; places = s.places; counts = s.counts }
+sized_more m (May location) s =
+    record { cells = s.cells; init = s.init; inputs = s.inputs; outputs = s.outputs; places = length-set m.places location true ∙ s.places; counts = s.counts }
+sized_more m (Row row) s = record {
+  cells = s.cells;
+  init = s.init;
+  inputs = s.inputs;
+  outputs = s.outputs;
+  places = s.places;
+  counts = length-set m.counts row.location (get_or m.counts row.location 0 + 1) ∙ s.counts;
+}
+sized_more m (At entry) s = record { cells = s.cells; init = s.init; inputs = s.inputs; outputs = s.outputs; places = s.places; counts = s.counts }
+sized_more m End s = record { cells = s.cells; init = s.init; inputs = s.inputs; outputs = s.outputs; places = s.places; counts = s.counts }
+
+-- the last kind was no higher than the kind of a statement that stands in order, and wasn't the end
+module _ (m : Gathering) (sound : IsSound m) (shut : m.line ≡ None) where
+  -- a kind up to the named places: no row was stated
+  early_more : (kind : ℕ) (init : List (Option Value)) → m.last ≤ kind → kind ≤ 6 → (kind ≤ 2 → (address : ℕ) → stated init address ≡ None)
+      → IsEarly kind init m.rows m.line m.row_cells
+  early_more kind init order low none = record {
+    no_init = none;
+    no_rows = λ least. sound.early.no_rows (omega (arith, order, low));
+    no_line = λ least. shut;
+    no_cells = sound.early.no_cells;
+    ended = λ end. absurd (omega (arith, end, low));
+    some_row = λ end. absurd (omega (arith, end, low));
+  }
+
+  no_cells : m.row_cells ≡ []
+  no_cells = sound.early.no_cells shut
+
+  inside_cell : (entry : Entry) → m.last ≤ 2 → AreInside (set m.cells entry.address entry.value) m.init m.rows m.row_cells
+  inside_cell entry low = record {
+    firsts = λ address. rw (sound.early.no_init low address) refl;
+    in_rows = rw (sound.early.no_rows (omega (arith, low))) (All-nil (RowInside (set m.cells entry.address entry.value)));
+    in_cells = λ address. rw no_cells refl;
+  }
+
+  first_inside : (entry : Entry) → entry.address < length m.init → is_outside entry.value (stated m.cells entry.address) ≡ false
+      → (address : ℕ) (b : Bool) → (entry.address == address) ≡ b → is_outside (stated (set m.init entry.address entry.value) address) (stated m.cells address) ≡ false
+  first_inside entry inside within address true same =
+      rw (set_read m.init entry.address address entry.value None inside true same)
+      (ap (λ (n : ℕ). is_outside entry.value (stated m.cells n)) (sym (same_of entry.address address same)) ∙ within)
+  first_inside entry inside within address false same =
+      rw (set_read m.init entry.address address entry.value None inside false same) (sound.inside.firsts address)
+
+  few_row : (row : RowLine) → row.location < length m.counts → row_count m < 20000 → get_or m.counts row.location 0 < 512
+      → AreFew m.rows (Some row) (set m.counts row.location (get_or m.counts row.location 0 + 1))
+  few_row row inside few room = record {
+    most = (let count : length m.rows + 0 < 20000 = rw shut at few in omega (arith, count));
+    each = λ location. each_row location (row.location == location) refl;
+    few = λ location. few_rows location (row.location == location) refl;
+  }
+    where
+      read : (location : ℕ) (b : Bool) → (row.location == location) ≡ b
+          → get_or (set m.counts row.location (get_or m.counts row.location 0 + 1)) location 0 ≡ (if b then get_or m.counts row.location 0 + 1 else get_or m.counts location 0)
+      read location b same = set_read m.counts row.location location (get_or m.counts row.location 0 + 1) 0 inside b same
+
+      each_row : (location : ℕ) (b : Bool) → (row.location == location) ≡ b
+          → rows_at m.rows location + (if row.location == location then 1 else 0) ≡ get_or (set m.counts row.location (get_or m.counts row.location 0 + 1)) location 0
+      each_row location true same =
+          let new = read location true same in
+          let old : rows_at m.rows location + 0 ≡ get_or m.counts location 0 =
+          ap (λ (l : Option RowLine). rows_at m.rows location + open_at l location) (sym shut) ∙ sound.few.each location in
+          let here = ap (λ (n : ℕ). get_or m.counts n 0) (same_of row.location location same) in
+          rw same (omega (arith, new, old, here))
+      each_row location false same =
+          let new = read location false same in
+          let old : rows_at m.rows location + 0 ≡ get_or m.counts location 0 =
+          ap (λ (l : Option RowLine). rows_at m.rows location + open_at l location) (sym shut) ∙ sound.few.each location in
+          rw same (omega (arith, new, old))
+
+      few_rows : (location : ℕ) (b : Bool) → (row.location == location) ≡ b → get_or (set m.counts row.location (get_or m.counts row.location 0 + 1)) location 0 ≤ 512
+      few_rows location true same = let new = read location true same in omega (arith, new, room)
+      few_rows location false same = let new = read location false same in let old = sound.few.few location in omega (arith, new, old)
+
+  pub sound_more : (ports : Registers) (statement : Statement) → IsFine ports m statement → IsStatement statement → IsPlaced m.counts statement
+      → ((entry : Entry) → statement ≡ At entry → ⊥) → IsSound (with_statement m statement)
+  sound_more ports (Start location) fine is inside other = record {
+    sized = sized_more m (Start location) sound.sized;
+    start = is;
+    closable = sound.closable;
+    few = sound.few;
+    inside = sound.inside;
+    early = (let none = same_of m.last 0 fine.order in
+        early_more 1 m.init (omega (arith, none)) (omega arith) (λ low. sound.early.no_init (omega (arith, none))));
+  }
+  sound_more ports (Cell entry) fine is inside other = record {
+    sized = sized_more m (Cell entry) sound.sized;
+    start = sound.start;
+    closable = sound.closable;
+    few = sound.few;
+    inside = inside_cell entry (no_higher m.last 2 fine.order);
+    early = (let low = no_higher m.last 2 fine.order in early_more 2 m.init low (omega arith) (λ least. sound.early.no_init low));
+  }
+  sound_more ports (Init entry) fine is inside other = record {
+    sized = sized_more m (Init entry) sound.sized;
+    start = sound.start;
+    closable = sound.closable;
+    few = sound.few;
+    inside = record {
+      firsts =
+          (let c = clear_entry _ _ entry.value _ fine.part in
+          let within = (clear _ _ _ c.later).0 in
+          λ address. first_inside entry (rw sound.sized.init inside) within address (entry.address == address) refl);
+      in_rows = sound.inside.in_rows;
+      in_cells = sound.inside.in_cells;
+    };
+    early = early_more 3 (set m.init entry.address entry.value) (no_higher m.last 3 fine.order) (omega arith) (λ least. absurd (omega (arith, least)));
+  }
+  sound_more ports (In entry) fine is inside other = record {
+    sized = sized_more m (In entry) sound.sized;
+    start = sound.start;
+    closable = sound.closable;
+    few = sound.few;
+    inside = sound.inside;
+    early = early_more 4 m.init (no_higher m.last 4 fine.order) (omega arith) (λ least. absurd (omega (arith, least)));
+  }
+  sound_more ports (Out entry) fine is inside other = record {
+    sized = sized_more m (Out entry) sound.sized;
+    start = sound.start;
+    closable = sound.closable;
+    few = sound.few;
+    inside = sound.inside;
+    early = early_more 5 m.init (no_higher m.last 5 fine.order) (omega arith) (λ least. absurd (omega (arith, least)));
+  }
+  sound_more ports (May location) fine is inside other = record {
+    sized = sized_more m (May location) sound.sized;
+    start = sound.start;
+    closable = sound.closable;
+    few = sound.few;
+    inside = sound.inside;
+    early = early_more 6 m.init (no_higher m.last 6 fine.order) (omega arith) (λ least. absurd (omega (arith, least)));
+  }
+  sound_more ports (Row row) fine is inside other = record {
+    sized = sized_more m (Row row) sound.sized;
+    start = sound.start;
+    closable =
+        (let c = clear_row ports m row fine.part in
+        record { line = is; a = c.a; q = c.q; few = sound.closable.few; ascending = sound.closable.ascending });
+    few = (let c = clear_row ports m row fine.part in few_row row (rw sound.sized.counts inside.0) c.few c.room);
+    inside = sound.inside;
+    early = record {
+      no_init = λ low. absurd (omega (arith, low));
+      no_rows = λ low. absurd (omega (arith, low));
+      no_line = λ low. absurd (omega (arith, low));
+      no_cells = λ none. no_cells;
+      ended = λ end. absurd (omega (arith, end));
+      some_row = λ end. absurd (omega (arith, end));
+    };
+  }
+  sound_more ports (At entry) fine is inside other = absurd (other entry refl)
+  sound_more ports End fine is inside other = record {
+    sized = sized_more m End sound.sized;
+    start = sound.start;
+    closable = sound.closable;
+    few = sound.few;
+    inside = sound.inside;
+    early = record {
+      no_init = λ low. absurd (omega (arith, low));
+      no_rows = λ low. absurd (omega (arith, low));
+      no_line = λ low. absurd (omega (arith, low));
+      no_cells = λ none. no_cells;
+      ended = λ end. shut;
+      some_row = λ end.
+          let some = some_left (row_count m) (clear _ _ _ fine.part).0 in
+          let count : 1 ≤ length m.rows + 0 = rw shut at some in
+          omega (arith, count);
+    };
+  }
+
+-- ---- a cell of the open row
+
+module _ (g : Gathering) (sound : IsSound g) (entry : Entry) (once : has_cell g.row_cells entry.address ≡ false) (below : entry.address < 2048)
+    (few : length g.row_cells < 64) (last : g.last ≡ 7) (within : is_outside entry.value (stated g.cells entry.address) ≡ false) where
+  cell_inside : (value : Value) → entry.value ≡ Some value → (address : ℕ) (b : Bool) → (entry.address == address) ≡ b
+      → is_outside (if entry.address == address then Some value else value_among g.row_cells address) (stated g.cells address) ≡ false
+  cell_inside value is address true same =
+      rw same (ap (λ (n : ℕ). is_outside (Some value) (stated g.cells n)) (sym (same_of entry.address address same)) ∙ rw is at within)
+  cell_inside value is address false same = rw same (sound.inside.in_cells address)
+
+  at_sound : (value : Option Value) → entry.value ≡ value → (g.line ≡ None → ⊥) → IsSound (record g { row_cells = with_entry entry value g.row_cells })
+  at_sound None is never = record {
+    sized = record {
+      cells = sound.sized.cells;
+      init = sound.sized.init;
+      inputs = sound.sized.inputs;
+      outputs = sound.sized.outputs;
+      places = sound.sized.places;
+      counts = sound.sized.counts;
+    };
+    start = sound.start;
+    closable = sound.closable;
+    few = sound.few;
+    inside = sound.inside;
+    early = sound.early;
+  }
+  at_sound (Some value) is never = record {
+    sized = record {
+      cells = sound.sized.cells;
+      init = sound.sized.init;
+      inputs = sound.sized.inputs;
+      outputs = sound.sized.outputs;
+      places = sound.sized.places;
+      counts = sound.sized.counts;
+    };
+    start = sound.start;
+    closable = record {
+      line = sound.closable.line;
+      a = sound.closable.a;
+      q = sound.closable.q;
+      few = (let more = count_more (record { address = entry.address; value = value }) g.row_cells in omega (arith, more, few));
+      ascending = ascend_more (record { address = entry.address; value = value }) 0 g.row_cells (omega arith) below once sound.closable.ascending;
+    };
+    few = sound.few;
+    inside = record {
+      firsts = sound.inside.firsts;
+      in_rows = sound.inside.in_rows;
+      in_cells = λ address. rw (value_more (record { address = entry.address; value = value }) g.row_cells address once)
+          (cell_inside value is address (entry.address == address) refl);
+    };
+    early = record {
+      no_init = sound.early.no_init;
+      no_rows = sound.early.no_rows;
+      no_line = sound.early.no_line;
+      no_cells = λ none. absurd (never none);
+      ended = sound.early.ended;
+      some_row = sound.early.some_row;
+    };
+  }
+
+pub sound_at : (ports : Registers) (g : Gathering) (entry : Entry) → IsSound g → IsFine ports g (At entry) → (g.line ≡ None → ⊥)
+    → IsSound (with_statement g (At entry))
+sound_at ports g entry sound fine never =
+    let c = clear_entry _ _ entry.value _ fine.part in
+    let later = clear _ _ _ c.later in
+    at_sound g sound entry c.once (erasable entry.address c.place) (room (length g.row_cells) 64 (clear _ _ _ later.1).0) (same_of g.last 7 fine.order) later.0 entry.value refl never

@@ -1,0 +1,4 @@
+-- what serves inside
+pub mod Gathering
+pub mod LineTaken
+pub mod OneMeaning

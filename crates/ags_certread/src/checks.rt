@@ -1,0 +1,143 @@
+//! What is asked of one statement, a question a function.
+
+ghost use Rattle.std.specs.Prelude.{◌≡◌, ◌<◌, ◌&&◌, ◌==◌, length, get_or, false, is_some, Some};
+ghost use Rattle.ags_certtext.specs.Fault.{fault_if, is_empty, is_fixed, is_outside, has_register, lacks_zero};
+ghost use Rattle.ags_certread.specs.Gathering.{entry_fault, has_cell, is_unmet, stated};
+
+use ags_certtext::{CertKind, Entry};
+use ags_domain::{Domain, Value};
+use ags_ports::Port;
+use ags_row::At;
+use ags_word::Word;
+
+/// How many erasable cells there are: the cells from this address on are fixed.
+pub(crate) const ERASABLE: u16 = 2048;
+
+/// A fault where one is found, and else what is found later.
+pub(crate) fn fault_if(found: bool, kind: CertKind, later: Option<CertKind>) -> Option<CertKind>
+    ensures { result ≡ fault_if found kind later }
+{
+    if found {
+        return Some(kind);
+    }
+    later
+}
+
+/// The fault of an entry that is misplaced, stands a second time, or has an empty range, and else what is found later.
+pub(crate) fn entry_fault(
+    misplaced: bool,
+    twice: bool,
+    value: Option<Value>,
+    later: Option<CertKind>,
+) -> Option<CertKind>
+    ensures { result ≡ entry_fault misplaced twice value later }
+{
+    let empty = fault_if(is_empty(value), CertKind::EmptyRange, later);
+    fault_if(
+        misplaced,
+        CertKind::BadLine,
+        fault_if(twice, CertKind::Twice, empty),
+    )
+}
+
+/// Whether the cell is a fixed one.
+pub(crate) fn is_fixed(address: u16) -> bool
+    ensures { result ≡ is_fixed address }
+{
+    address >= ERASABLE
+}
+
+/// Whether the range of an entry, or of a row, is empty.
+pub(crate) fn is_empty(value: Option<Value>) -> bool
+    ensures { result ≡ is_empty value }
+{
+    match value {
+        Some(_) => false,
+        None => true,
+    }
+}
+
+/// What is stated at an address.
+pub(crate) fn stated(table: &[Option<Value>], address: u16) -> Option<Value>
+    ensures { result ≡ stated table.now address }
+{
+    let place = address as usize;
+    if place >= table.len() {
+        return None;
+    }
+    table[place]
+}
+
+/// Whether something is stated at an address.
+pub(crate) fn is_stated(table: &[Option<Value>], address: u16) -> bool
+    ensures { result ≡ is_some (stated table.now address) }
+{
+    stated(table, address).is_some()
+}
+
+/// Whether what is stated of a cell isn't within what its limit is stated to be.
+pub(crate) fn is_outside(value: Option<Value>, limit: Option<Value>) -> bool
+    ensures { result ≡ is_outside value limit }
+{
+    let Some(value) = value else {
+        return false;
+    };
+    let Some(limit) = limit else {
+        return false;
+    };
+    !value.within(&limit)
+}
+
+/// Whether one of some registers stands at an address.
+pub(crate) fn has_register(ports: &[Port], address: u16) -> bool
+    ensures { result ≡ has_register ports.now address }
+{
+    ports.iter().any(|port| port.address == address)
+}
+
+/// Whether a register holds its word once, and a value doesn't hold 0.
+fn lacks_zero(port: &Port, value: Option<Value>) -> bool
+    ensures { result ≡ lacks_zero (Some port.now) value }
+{
+    let Some(value) = value else {
+        return false;
+    };
+    port.once && !value.holds(Word::ZERO)
+}
+
+/// The same of the register at an entry's address.
+fn is_unmet_by(port: &Port, entry: &Entry) -> bool
+    ensures { result ≡ (port.now.address == entry.now.address && lacks_zero (Some port.now) entry.now.value) }
+{
+    port.address == entry.address && lacks_zero(port, entry.value)
+}
+
+/// Whether the register at an entry's address holds its word once, and the entry's value doesn't hold 0.
+pub(crate) fn is_unmet(ports: &[Port], entry: &Entry) -> bool
+    ensures { result ≡ is_unmet ports.now entry.now }
+{
+    ports.iter().any(|port| is_unmet_by(port, entry))
+}
+
+/// Whether one of some cells stands at an address.
+pub(crate) fn has_cell(cells: &[At<Value>], address: u16) -> bool
+    ensures { result ≡ has_cell cells.now address }
+{
+    cells.iter().any(|cell| cell.address == address)
+}
+
+/// Whether a location is among the named places.
+pub(crate) fn is_named(places: &[bool], location: u16) -> bool
+    requires { location < length places.now }
+    ensures { result ≡ get_or places.now location false }
+{
+    places[location as usize]
+}
+
+/// How many rows stand at a location.
+pub(crate) fn count_at(counts: &[u16], location: u16) -> u16
+    requires { location < length counts.now }
+    ensures { result ≡ get_or counts.now location 0 }
+{
+    counts[location as usize]
+}

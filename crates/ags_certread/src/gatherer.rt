@@ -1,0 +1,210 @@
+//! What is gathered of the statements of a certificate, one after the other.
+
+ghost use Rattle.std.specs.Prelude.{◌≡◌, ◌<◌, false, Ok, None, IfOk, length, get_or, set, replicate};
+ghost use Rattle.ags_certtext.specs.declared.statements.Statement.TheVariants.{Row as RowOf};
+ghost use Rattle.ags_certtext.specs.Statement.{IsStatement};
+ghost use Rattle.ags_certread.specs.Gathering.{Closes, ClosesBefore, IsClosable, IsCounting, IsPlaced, IsSized, Takes, gathered_fault, gathering_of, nothing_stated, with_statement};
+
+use crate::open_rows::{add_cell, row_of};
+use crate::order::{CELL, END, IN, INIT, MAY, NO_KIND, OUT, ROW, START};
+use ags_certtext::{CertKind, Entry, RowLine, Statement};
+use ags_domain::Value;
+use ags_ports::Ports;
+use ags_row::{At, Row};
+use std::alloc::{AllocError, Global};
+use std::mem;
+
+/// How many erasable cells there are.
+const ERASABLE: usize = 2048;
+
+/// How many addresses, and how many locations, there are.
+const ADDRESSES: usize = 4096;
+
+/// Where a run starts if nothing is stated: 4000 octal.
+const FIRST_FIXED: u16 = 2048;
+
+/// What is gathered of the statements so far.
+#[derive(Drop)]
+pub(crate) struct Gatherer {
+    /// The number of the last statement's kind.
+    pub(crate) last: u8,
+    /// The location that a run starts at.
+    pub(crate) start: u16,
+    /// What is stated of each erasable cell.
+    pub(crate) cells: Vec<Option<Value>>,
+    /// What is stated of each at the start.
+    pub(crate) init: Vec<Option<Value>>,
+    /// What is stated of the input register at each address.
+    pub(crate) inputs: Vec<Option<Value>>,
+    /// What is stated of the output register at each address.
+    pub(crate) outputs: Vec<Option<Value>>,
+    /// Whether each location is a named place.
+    pub(crate) places: Vec<bool>,
+    /// The rows, without the open one.
+    pub(crate) rows: Vec<Row<Value>>,
+    /// How many rows stand at each location, the open one with them.
+    pub(crate) counts: Vec<u16>,
+    /// The line of the open row.
+    pub(crate) line: Option<RowLine>,
+    /// The cells of the open row, which ascend.
+    pub(crate) row_cells: Vec<At<Value>>,
+}
+
+/// A table of so many addresses at which nothing is stated.
+fn nothing(alloc: Global, count: usize) -> Result<Vec<Option<Value>>, AllocError>
+    ensures { IfOk result (λ table. table.items ≡ replicate count None) }
+{
+    let mut table = Vec::new(alloc);
+    for _ in 0..count {
+        table.push(None)?;
+    }
+    Ok(table)
+}
+
+/// A table of all locations of which none is a named place.
+fn no_places(alloc: Global) -> Result<Vec<bool>, AllocError>
+    ensures { IfOk result (λ places. places.items ≡ replicate 4096 false) }
+{
+    Ok(vec![in alloc; false; ADDRESSES]?)
+}
+
+/// A count of 0 for each location.
+fn zeros(alloc: Global) -> Result<Vec<u16>, AllocError>
+    ensures { IfOk result (λ counts. counts.items ≡ replicate 4096 0) }
+{
+    Ok(vec![in alloc; 0; ADDRESSES]?)
+}
+
+/// Sets what is stated at an entry's address.
+fn put(table: &mut Vec<Option<Value>>, entry: &Entry)
+    requires { entry.now.address < length table.now.items }
+    ensures { table.new.items ≡ set table.old.items entry.now.address entry.now.value }
+{
+    table[entry.address as usize] = entry.value;
+}
+
+impl Gatherer {
+    /// Nothing is stated yet.
+    pub(crate) fn new(alloc: Global) -> Result<Gatherer, AllocError>
+        ensures { IfOk result (λ gatherer. gathering_of gatherer ≡ nothing_stated) }
+    {
+        Ok(Gatherer {
+            last: NO_KIND,
+            start: FIRST_FIXED,
+            cells: nothing(alloc, ERASABLE)?,
+            init: nothing(alloc, ERASABLE)?,
+            inputs: nothing(alloc, ADDRESSES)?,
+            outputs: nothing(alloc, ADDRESSES)?,
+            places: no_places(alloc)?,
+            rows: Vec::new(alloc),
+            counts: zeros(alloc)?,
+            line: None,
+            row_cells: Vec::new(alloc),
+        })
+    }
+
+    /// Closes the open row, if there is one: it is one of the rows from now on.
+    fn close(&mut self, alloc: Global) -> Result<(), AllocError>
+        requires { IsClosable (gathering_of self.old) }
+        ensures { IfOk result (λ _. Closes self.old.line (gathering_of self.old) (gathering_of self.new)) }
+    {
+        let Some(line) = self.line else {
+            return Ok(());
+        };
+        let cells = mem::replace(&mut self.row_cells, Vec::new(alloc));
+        self.rows.push(row_of(line, cells))?;
+        self.line = None;
+        Ok(())
+    }
+
+    /// Closes the open row before a statement that isn't one of its cells.
+    fn close_before(&mut self, alloc: Global, statement: &Statement) -> Result<(), AllocError>
+        requires { IsClosable (gathering_of self.old) }
+        ensures { IfOk result (λ _. ClosesBefore statement.now (gathering_of self.old) (gathering_of self.new)) }
+    {
+        match statement {
+            Statement::Start(_) => self.close(alloc),
+            Statement::Cell(_) => self.close(alloc),
+            Statement::Init(_) => self.close(alloc),
+            Statement::In(_) => self.close(alloc),
+            Statement::Out(_) => self.close(alloc),
+            Statement::May(_) => self.close(alloc),
+            Statement::Row(_) => self.close(alloc),
+            Statement::At(_) => Ok(()),
+            Statement::End => self.close(alloc),
+        }
+    }
+
+    /// Opens a row.
+    fn open(&mut self, row: RowLine)
+        requires place { row.location < length self.old.counts.items }
+        requires room { get_or self.old.counts.items row.location 0 < 512 }
+        ensures { gathering_of self.new ≡ with_statement (gathering_of self.old) (RowOf row) }
+    {
+        let place = row.location as usize;
+        let count = self.counts[place];
+        self.counts[place] = count + 1;
+        self.line = Some(row);
+        self.last = ROW;
+    }
+
+    /// Adds a statement without a fault.
+    fn add(&mut self, statement: &Statement) -> Result<(), AllocError>
+        requires sized { IsSized (gathering_of self.old) }
+        requires placed { IsPlaced self.old.counts.items statement.now }
+        ensures { IfOk result (λ _. gathering_of self.new ≡ with_statement (gathering_of self.old) statement.now) }
+    {
+        match statement {
+            Statement::Start(location) => {
+                self.start = *location;
+                self.last = START;
+            }
+            Statement::Cell(entry) => {
+                put(&mut self.cells, entry);
+                self.last = CELL;
+            }
+            Statement::Init(entry) => {
+                put(&mut self.init, entry);
+                self.last = INIT;
+            }
+            Statement::In(entry) => {
+                put(&mut self.inputs, entry);
+                self.last = IN;
+            }
+            Statement::Out(entry) => {
+                put(&mut self.outputs, entry);
+                self.last = OUT;
+            }
+            Statement::May(location) => {
+                self.places[*location as usize] = true;
+                self.last = MAY;
+            }
+            Statement::Row(row) => self.open(*row),
+            Statement::At(entry) => add_cell(&mut self.row_cells, entry)?,
+            Statement::End => self.last = END,
+        }
+        Ok(())
+    }
+
+    /// Takes a statement, or tells its fault.
+    pub(crate) fn take(
+        &mut self,
+        alloc: Global,
+        ports: &Ports,
+        statement: &Statement,
+    ) -> Result<Option<CertKind>, AllocError>
+        requires sized { IsSized (gathering_of self.old) }
+        requires counting { IsCounting (gathering_of self.old) }
+        requires closable { IsClosable (gathering_of self.old) }
+        requires statement { IsStatement statement.now }
+        ensures fault { IfOk result (λ fault. fault ≡ gathered_fault ports.now (gathering_of self.old) statement.now) }
+        ensures taken { result ≡ Ok None → Takes (gathering_of self.old) statement.now (gathering_of self.new) }
+    {
+        if let Some(kind) = self.fault(ports, statement) {
+            return Ok(Some(kind));
+        }
+        self.close_before(alloc, statement)?;
+        self.add(statement)?;
+        Ok(None)
+    }
+}

@@ -1,0 +1,80 @@
+//! One line of a certificate after the other.
+
+ghost use Rattle.std.specs.Prelude.{◌≡◌, None, IfOk, IfErr};
+ghost use Rattle.ags_certtext.specs.Reading.{Reading, IsFirstReading};
+ghost use Rattle.ags_certtext.specs.Statement.{IsStatement};
+ghost use Rattle.ags_certread.specs.Gathering.{IsClosable, IsCounting, IsSized, Takes, gathered_fault, gathering_of};
+ghost use Rattle.ags_certread.specs.LineTaken.{TakesLine, TellsFault, TellsStatementFault, opening_fault};
+
+use crate::gatherer::Gatherer;
+use ags_certtext::{
+    CertError, CertKind, FirstLine, FurtherLine, Statement, read_first_line, read_line,
+};
+use ags_ports::Ports;
+use std::alloc::Global;
+
+/// A line that is none of the forms, or stands out of order, or is missing.
+pub(crate) fn bad_line(line: u32) -> CertError
+    ensures { result ≡ CertError.At line CertKind.BadLine }
+{
+    CertError::At {
+        line,
+        kind: CertKind::BadLine,
+    }
+}
+
+/// The fault of a certificate's first line.
+pub(crate) fn opening_fault(line: &[u8]) -> Option<CertKind>
+    ensures { (reading : Reading) × IsFirstReading line.now reading × (result ≡ opening_fault reading) }
+{
+    match read_first_line(line) {
+        FirstLine::Opening => None,
+        FirstLine::OtherOpening => Some(CertKind::Version),
+        FirstLine::Malformed => Some(CertKind::BadLine),
+    }
+}
+
+impl Gatherer {
+    /// Takes a statement that stands on a line.
+    fn take_at(
+        &mut self,
+        alloc: Global,
+        ports: &Ports,
+        line: u32,
+        statement: &Statement,
+    ) -> Result<(), CertError>
+        requires sized { IsSized (gathering_of self.old) }
+        requires counting { IsCounting (gathering_of self.old) }
+        requires closable { IsClosable (gathering_of self.old) }
+        requires statement { IsStatement statement.now }
+        ensures taken { IfOk result (λ _. (gathered_fault ports.now (gathering_of self.old) statement.now ≡ None)
+            × Takes (gathering_of self.old) statement.now (gathering_of self.new)) }
+        ensures faulty { IfErr result (TellsStatementFault (gathered_fault ports.now (gathering_of self.old) statement.now) line) }
+    {
+        match self.take(alloc, ports, statement)? {
+            Some(kind) => Err(CertError::At { line, kind }),
+            None => Ok(()),
+        }
+    }
+
+    /// Takes a further line.
+    pub(crate) fn take_line(
+        &mut self,
+        alloc: Global,
+        ports: &Ports,
+        line: u32,
+        bytes: &[u8],
+    ) -> Result<(), CertError>
+        requires sized { IsSized (gathering_of self.old) }
+        requires counting { IsCounting (gathering_of self.old) }
+        requires closable { IsClosable (gathering_of self.old) }
+        ensures fine { IfOk result (λ _. TakesLine ports.now (gathering_of self.old) bytes.now (gathering_of self.new)) }
+        ensures faulty { IfErr result (TellsFault ports.now line (gathering_of self.old) bytes.now) }
+    {
+        match read_line(bytes) {
+            FurtherLine::Stated(statement) => self.take_at(alloc, ports, line, &statement),
+            FurtherLine::Skipped => Ok(()),
+            FurtherLine::Malformed => Err(bad_line(line)),
+        }
+    }
+}
