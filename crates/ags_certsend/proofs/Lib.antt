@@ -1,0 +1,11 @@
+pub mod FlagLemmas
+pub mod GoodLemmas
+pub mod KindLemmas
+pub mod LineLemmas
+pub mod PassLemmas
+pub mod ReadLemmas
+pub mod RowLemmas
+pub mod SendLemmas
+pub mod ShownLemmas
+pub mod StatedLemmas
+pub mod ValueLemmas

@@ -1,0 +1,226 @@
+-- The rows of a certificate have no fault, each with its cells, and neither has the end; and so the whole certificate.
+use Rattle.std.proofs.Common.{◌≡◌, ℕ, ◌+◌, ◌<◌, ◌≤◌, true, false, ◌==◌, List, [], ◌∷◌, ◌++◌, length, map, Some, None, refl, ◌∙◌, inl, inr, arith}
+use Rattle.std.specs.Prelude.{nat_le, All, if◌then◌else◌}
+use Rattle.std.specs.List.{filter, filter_map, flat_map}
+use Rattle.std.proofs.lemmas.Bool.{cases_Bool, eq-eqb, ne_eqb}
+use Rattle.std.proofs.lemmas.Bool.Decides.{nat_tests}
+use Rattle.std.proofs.lemmas.List.Elements.{All-head, All-tail}
+use Rattle.std.proofs.lemmas.List.Sums.{sum_by-cons}
+use Rattle.ags_text.specs.Fault.{first_fault, first_fault-faultless}
+use Rattle.ags_domain.specs.Domain.{IsWithin}
+use Rattle.ags_domain.specs.Value.{value_meaning}
+use Rattle.ags_domain.specs.declared.values.Value.{Value}
+use Rattle.ags_ports.specs.Port.{Registers}
+use Rattle.ags_ports.specs.declared.machines.Machine.{Machine}
+use Rattle.ags_row.specs.Cell.{cells_ascend}
+use Rattle.ags_row.specs.Limit.{cell_limit}
+use Rattle.ags_row.specs.declared.ats.At.{At}
+use Rattle.ags_row.specs.declared.rows.Row.{Row}
+use Rattle.ags_safe.specs.Certificate.{Suits}
+use Rattle.ags_cert.specs.Cert.{Stated, IsCert, certificate_of, rows_at}
+use Rattle.ags_cert.specs.declared.certs.TheConstants.{MOST_ROWS, MOST_ROWS_AT_ONE}
+use Rattle.ags_certtext.specs.Fault.{fault_after, end_fault, reading_fault, is_outside, rows_at as lines_at}
+use Rattle.ags_certtext.specs.Reading.{Opening, Stated as StatedBy, Ended}
+use Rattle.ags_certtext.specs.Statement.{cell_entry, entries, has_address, value_at, row_entries, row_line, last_kind}
+use Rattle.ags_certtext.specs.declared.statements.RowLine.{RowLine}
+use Rattle.ags_certtext.specs.declared.statements.Statement.{Statement}
+use Rattle.ags_certtext.specs.declared.statements.Statement.TheVariants.{Start, Row as RowOf, At as AtOf, End}
+use Rattle.ags_certsend.specs.CertText.{entry_of, cell_statement, init_statement, input_statement, output_statement, place_statement, ascending, row_line_of, at_statement, row_statements, statements_of}
+use Rattle.ags_certsend.proofs.GoodLemmas.{cell_below}
+use Rattle.ags_certsend.proofs.PassLemmas.{onto, NoFault, no_fault-append, onto-append, readings_faultless, AreLower, lower_none, lower_more, lower_kind, lower_last, apart, AreCellsOf, cells_none, cells_other, not_outside, start_stands, no_lines, ascending_passed}
+use Rattle.ags_certsend.proofs.KindLemmas.{in_order, not_fixed, cell_keeps, init_keeps, input_keeps, output_keeps, place_keeps}
+
+-- ---- the cells of a row
+
+not_many : (most count : ℕ) → count < most → nat_le most count ≡ false
+not_many most count less = grind (arith, nat_tests)
+
+at_clear : (ports : Registers) (before : List Statement) (address : ℕ) (value : Value) → last_kind before ≡ 7 → address < 2048 → has_address (row_entries before) address ≡ false
+    → is_outside (Some value) (value_at (entries cell_entry before) address) ≡ false → length (row_entries before) < 64 → fault_after ports before (AtOf (entry_of address value)) ≡ None
+at_clear ports before address value last below none within few = rw (last, not_fixed address below, none, within, not_many 64 (length (row_entries before)) few) refl
+
+-- what stands before a cell of a row, whose address is from that one on
+record IsInRow (cert : Stated) (lines : List RowLine) (before : List Statement) (from : ℕ) : Type 0 where
+  last : last_kind before ≡ 7
+  cells : AreCellsOf cert before
+  rows : filter_map row_line before ≡ lines
+  fresh : (address : ℕ) → from ≤ address → has_address (row_entries before) address ≡ false
+
+-- the cells have no fault, and this is kept
+record ArePassed (ports : Registers) (cert : Stated) (lines : List RowLine) (before statements : List Statement) : Type 0 where
+  none : NoFault ports before statements
+  last : last_kind (onto before statements) ≡ 7
+  cells : AreCellsOf cert (onto before statements)
+  rows : filter_map row_line (onto before statements) ≡ lines
+
+AllWithin : Stated → List (At Value) → Type 0
+AllWithin cert cells = All (λ (at : At Value). IsWithin value_meaning at.value (cell_limit cert.limits at.address)) cells
+
+cells_passed : (ports : Registers) (cert : Stated) (lines : List RowLine) (from : ℕ) (cells : List (At Value)) → cells_ascend from cells ≡ true → AllWithin cert cells
+    → (before : List Statement) → IsInRow cert lines before from → length (row_entries before) + length cells ≤ 64 → ArePassed ports cert lines before (map at_statement cells)
+unfolding NoFault onto AllWithin
+cells_passed ports cert lines from [] is within before in_row few = record { none = tt; last = in_row.last; cells = in_row.cells; rows = in_row.rows }
+cells_passed ports cert lines from (cell ∷ cells) is within before in_row few =
+    let parts = cell_below from cell cells is in
+    let here = All-head (λ (at : At Value). IsWithin value_meaning at.value (cell_limit cert.limits at.address)) cell cells within in
+    let clear = at_clear ports before cell.address cell.value in_row.last parts.1 (in_row.fresh cell.address parts.0) (not_outside cert before cell.address cell.value in_row.cells here) (omega (arith, few)) in
+    let next : IsInRow cert lines (at_statement cell ∷ before) (cell.address + 1) = record {
+      last = refl;
+      cells = cells_other cert (at_statement cell) before refl in_row.cells;
+      rows = in_row.rows;
+      fresh = λ address above. rw (apart cell.address address (omega (arith, above)), in_row.fresh address (omega (arith, above, parts.0))) refl;
+    } in
+    let rest = cells_passed ports cert lines (cell.address + 1) cells parts.2 (All-tail (λ (at : At Value). IsWithin value_meaning at.value (cell_limit cert.limits at.address)) cell cells within)
+    (at_statement cell ∷ before) next (omega (arith, few)) in
+    record { none = (clear, rest.none); last = rest.last; cells = rest.cells; rows = rest.rows }
+
+-- ---- a row
+
+-- what stands before these rows
+record IsBeforeRows (cert : Stated) (before : List Statement) (rows : List (Row Value)) : Type 0 where
+  last : last_kind before ≤ 7
+  cells : AreCellsOf cert before
+  count : length (filter_map row_line before) + length rows ≡ length cert.rows
+  few : (location : ℕ) → length (lines_at before location) + rows_at rows location ≤ MOST_ROWS_AT_ONE
+
+row_clear : (ports : Registers) (before : List Statement) (row : Row Value) → last_kind before ≤ 7 → length (filter_map row_line before) < MOST_ROWS
+    → length (lines_at before row.location) < MOST_ROWS_AT_ONE → fault_after ports before (RowOf (row_line_of row)) ≡ None
+row_clear ports before row last few few_here =
+    rw (in_order (last_kind before) 7 last last, not_many MOST_ROWS (length (filter_map row_line before)) few, not_many MOST_ROWS_AT_ONE (length (lines_at before row.location)) few_here) refl
+
+-- the row's own line counts where it stands
+here_once : (row : Row Value) (rows : List (Row Value)) → rows_at (row ∷ rows) row.location ≡ 1 + rows_at rows row.location
+here_once row rows = sum_by-cons (λ (one : Row Value). if one.location == row.location then 1 else 0) row rows ∙ rw (eq-eqb row.location row.location refl) refl
+
+counted : (row : Row Value) (lines : List RowLine) (rows : List (Row Value)) (location : ℕ)
+    → length (filter (λ (line : RowLine). line.location == location) (row_line_of row ∷ lines)) + rows_at rows location
+    ≡ length (filter (λ (line : RowLine). line.location == location) lines) + rows_at (row ∷ rows) location
+counted row lines rows location =
+    elim (cases_Bool (row.location == location)) [
+      | inl same ↦
+          let more : rows_at (row ∷ rows) location ≡ 1 + rows_at rows location = sum_by-cons (λ (one : Row Value). if one.location == location then 1 else 0) row rows ∙ rw same refl in
+          rw (more, same) (omega arith)
+      | inr other ↦
+          let more : rows_at (row ∷ rows) location ≡ 0 + rows_at rows location = sum_by-cons (λ (one : Row Value). if one.location == location then 1 else 0) row rows ∙ rw other refl in
+          rw (more, other) (omega arith)
+    ]
+
+record IsRowPassed (ports : Registers) (cert : Stated) (before statements : List Statement) (rows : List (Row Value)) : Type 0 where
+  none : NoFault ports before statements
+  later : IsBeforeRows cert (onto before statements) rows
+
+row_passed : (ports : Registers) (cert : Stated) → IsCert cert → (row : Row Value) (rows : List (Row Value)) → AllWithin cert row.at → (before : List Statement)
+    → IsBeforeRows cert before (row ∷ rows) → IsRowPassed ports cert before (row_statements row) rows
+unfolding NoFault onto row_statements
+row_passed ports cert good row rows within before state =
+    let few_rows = good.few_rows in
+    let count = state.count in
+    let few_here = state.few row.location in
+    let once = here_once row rows in
+    let clear = row_clear ports before row state.last (omega (arith, few_rows, count)) (omega (arith, few_here, once)) in
+    let in_row : IsInRow cert (filter_map row_line (RowOf (row_line_of row) ∷ before)) (RowOf (row_line_of row) ∷ before) 0 = record {
+      last = refl;
+      cells = cells_other cert (RowOf (row_line_of row)) before refl state.cells;
+      rows = refl;
+      fresh = λ address above. refl;
+    } in
+    let few = row.few in
+    let passed = cells_passed ports cert (filter_map row_line (RowOf (row_line_of row) ∷ before)) 0 row.at row.ascending within (RowOf (row_line_of row) ∷ before) in_row (omega (arith, few)) in
+    let last = passed.last in
+    record {
+      none = (clear, passed.none);
+      later = record {
+        last = omega (arith, last);
+        cells = passed.cells;
+        count = rw passed.rows (omega (arith, count));
+        few = λ location. rw passed.rows (let few_there = state.few location in let more = counted row (filter_map row_line before) rows location in omega (arith, few_there, more));
+      };
+    }
+
+AllRowsWithin : Stated → List (Row Value) → Type 0
+AllRowsWithin cert rows = All (λ (row : Row Value). All (λ (at : At Value). IsWithin value_meaning at.value (cell_limit cert.limits at.address)) row.at) rows
+
+rows_passed : (ports : Registers) (cert : Stated) → IsCert cert → (rows : List (Row Value)) → AllRowsWithin cert rows → (before : List Statement) → IsBeforeRows cert before rows
+    → IsRowPassed ports cert before (flat_map row_statements rows) []
+unfolding NoFault onto AllRowsWithin AllWithin
+rows_passed ports cert good [] within before state = record { none = tt; later = state }
+rows_passed ports cert good (row ∷ rows) within before state =
+    let first = row_passed ports cert good row rows (All-head (λ (row : Row Value). All (λ (at : At Value). IsWithin value_meaning at.value (cell_limit cert.limits at.address)) row.at) row rows within) before state in
+    let rest = rows_passed ports cert good rows (All-tail (λ (row : Row Value). All (λ (at : At Value). IsWithin value_meaning at.value (cell_limit cert.limits at.address)) row.at) row rows within)
+    (onto before (row_statements row)) first.later in
+    record {
+      none = no_fault-append ports before (row_statements row) (flat_map row_statements rows) first.none rest.none;
+      later = rw (onto-append before (row_statements row) (flat_map row_statements rows)) rest.later;
+    }
+
+-- ---- the end
+
+-- no fault, and the text may end behind them
+pub record Finishes (ports : Registers) (before statements : List Statement) : Type 0 where
+  pub none : NoFault ports before statements
+  pub ended : end_fault (onto before statements) ≡ None
+
+finishes-append : (ports : Registers) (before xs ys : List Statement) → NoFault ports before xs → Finishes ports (onto before xs) ys → Finishes ports before (xs ++ ys)
+finishes-append ports before xs ys none last = record {
+  none = no_fault-append ports before xs ys none last.none;
+  ended = rw (onto-append before xs ys) last.ended;
+}
+
+end_finishes : (ports : Registers) (cert : Stated) (before : List Statement) → IsCert cert → IsBeforeRows cert before [] → Finishes ports before (End ∷ [])
+unfolding NoFault onto
+end_finishes ports cert before good state =
+    let some = good.certificate.some_row in
+    let count = state.count in
+    record {
+      none = (rw (in_order (last_kind before) 8 (let last = state.last in omega (arith, last)) state.last, ne_eqb (length (filter_map row_line before)) 0 (λ none. omega (arith, none, some, count))) refl, tt);
+      ended = refl;
+    }
+
+-- behind the kinds that stand by address there is no row yet
+before_rows : (cert : Stated) (before : List Statement) → IsCert cert → AreLower 7 0 before → AreCellsOf cert before → IsBeforeRows cert before cert.rows
+before_rows cert before good lower cells =
+    let none = no_lines before lower in
+    record {
+      last = lower_last 7 0 before lower;
+      cells = cells;
+      count = rw none (omega arith);
+      few = λ location. rw none (let few = good.few_at_one location in omega (arith, few));
+    }
+
+-- ---- the whole certificate
+
+pub statements_finish : (machine : Machine) (cert : Stated) → IsCert cert → Suits value_meaning machine (certificate_of cert)
+    → Finishes machine.ports [] (statements_of cert)
+unfolding statements_of NoFault onto AllRowsWithin
+statements_finish machine cert good suits =
+    let ports = machine.ports in
+    let b1 : List Statement = Start cert.start ∷ [] in
+    let a2 = ascending (cell_statement cert) 2048 in
+    let a3 = ascending (init_statement cert) 2048 in
+    let a4 = ascending (input_statement cert) 4096 in
+    let a5 = ascending (output_statement cert) 4096 in
+    let a6 = ascending (place_statement cert) 4096 in
+    let rows = flat_map row_statements cert.rows in
+    let p2 = ascending_passed ports cert 2 2048 (cell_statement cert) (cell_keeps ports cert) b1
+    (lower_kind 1 1 b1 (lower_more 1 0 (Start cert.start) [] refl (start_stands cert.start) (lower_none 1 0))) (cells_other cert (Start cert.start) [] refl (cells_none cert)) in
+    let b2 = onto b1 a2 in
+    let p3 = ascending_passed ports cert 3 2048 (init_statement cert) (init_keeps ports cert good) b2 (lower_kind 2 2048 b2 p2.lower) p2.cells in
+    let b3 = onto b2 a3 in
+    let p4 = ascending_passed ports cert 4 4096 (input_statement cert) (input_keeps machine cert suits) b3 (lower_kind 3 2048 b3 p3.lower) p3.cells in
+    let b4 = onto b3 a4 in
+    let p5 = ascending_passed ports cert 5 4096 (output_statement cert) (output_keeps machine cert suits) b4 (lower_kind 4 4096 b4 p4.lower) p4.cells in
+    let b5 = onto b4 a5 in
+    let p6 = ascending_passed ports cert 6 4096 (place_statement cert) (place_keeps ports cert) b5 (lower_kind 5 4096 b5 p5.lower) p5.cells in
+    let b6 = onto b5 a6 in
+    let lower = lower_kind 6 4096 b6 p6.lower in
+    let pr = rows_passed ports cert good cert.rows good.certificate.cells b6 (before_rows cert b6 good lower p6.cells) in
+    let finish = finishes-append ports b1 a2 _ p2.none (finishes-append ports b2 a3 _ p3.none (finishes-append ports b3 a4 _ p4.none (finishes-append ports b4 a5 _ p5.none
+    (finishes-append ports b5 a6 _ p6.none (finishes-append ports b6 rows (End ∷ []) pr.none (end_finishes ports cert (onto b6 rows) good pr.later)))))) in
+    record { none = (refl, finish.none); ended = finish.ended }
+
+pub text_faultless : (machine : Machine) (cert : Stated) → IsCert cert → Suits value_meaning machine (certificate_of cert)
+    → first_fault (reading_fault machine.ports) [] (Opening ∷ (map StatedBy (statements_of cert) ++ Ended ∷ [])) ≡ None
+text_faultless machine cert good suits =
+    let finish = statements_finish machine cert good suits in
+    first_fault-faultless (reading_fault machine.ports) [] Opening (map StatedBy (statements_of cert) ++ Ended ∷ []) refl
+    ∙ readings_faultless machine.ports (Opening ∷ []) [] (statements_of cert) refl finish.none finish.ended

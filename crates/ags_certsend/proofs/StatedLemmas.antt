@@ -1,0 +1,473 @@
+-- What the statements of a certificate say is the certificate.
+use Rattle.std.proofs.Common.{◌≡◌, ℕ, zero, suc, ◌+◌, ◌<◌, ◌≤◌, Bool, true, false, ◌==◌, ◌||◌, List, [], ◌∷◌, ◌++◌, map, get_or, Option, Some, None, refl, sym, ap, ◌∙◌, inl, inr, append_assoc, append-nil, arith}
+use Rattle.std.specs.Prelude.{if◌then◌else◌}
+use Rattle.std.specs.List.{list_any, filter_map, flat_map, range_with_len, cons_option}
+use Rattle.std.proofs.lemmas.Bool.{cases_Bool, cases_lt, true≢false, eq-eqb, ne_eqb}
+use Rattle.std.proofs.lemmas.List.Elements.{filter_map-append}
+use Rattle.ags_domain.specs.Domain.{IsFull}
+use Rattle.ags_domain.specs.Value.{value_meaning}
+use Rattle.ags_domain.specs.declared.values.Value.{Value}
+use Rattle.ags_domain.specs.declared.values.Value.TheVariants.{Range, Words}
+use Rattle.ags_row.specs.Cell.{value_among}
+use Rattle.ags_row.specs.Limit.{AreLimits, cell_limit, input_limit, output_limit, is_named}
+use Rattle.ags_row.specs.declared.ats.At.{At}
+use Rattle.ags_row.specs.declared.rows.Row.{Row}
+use Rattle.ags_cert.specs.Cert.{Stated, IsCert}
+use Rattle.ags_certtext.specs.Reading.{Stated as StatedBy, Ended, statement_of}
+use Rattle.ags_certtext.specs.Statement.{cell_entry, init_entry, in_entry, out_entry, may_place, entries, value_at, kind_number}
+use Rattle.ags_certtext.specs.Text.{start_of, IsLimit, leading_cells, rows_of, AreRowsOf, IsWhatIsStated}
+use Rattle.ags_certtext.specs.declared.statements.Entry.{Entry}
+use Rattle.ags_certtext.specs.declared.statements.Statement.{Statement}
+use Rattle.ags_certtext.specs.declared.statements.Statement.TheVariants.{Start, Cell, Init, In, Out, May, Row as RowOf, End}
+use Rattle.ags_certsend.specs.CertText.{is_full, entry_of, stating, start_entry, cell_statement, init_statement, input_statement, output_statement, place_statement, ascending, at_statement, row_statements, statements_of}
+use Rattle.ags_certsend.proofs.ValueLemmas.{full_holds}
+use Rattle.ags_certsend.proofs.PassLemmas.{apart}
+use Rattle.ags_certsend.proofs.KindLemmas.{limit_cases, start_cases, place_cases}
+
+-- ---- what a choice takes of other kinds: nothing
+
+-- a choice is of one kind
+OfKind : {Y : Type 0} → (Statement → Option Y) → ℕ → Type 0
+OfKind {Y} chosen kind = (statement : Statement) → ((kind_number statement ≡ kind) → ⊥) → chosen statement ≡ None
+
+-- no statement is of the kind
+Avoids : ℕ → List Statement → Type 0
+Avoids kind [] = Unit {0}
+Avoids kind (statement ∷ statements) = ((kind_number statement ≡ kind) → ⊥) × Avoids kind statements
+
+avoids-append : (kind : ℕ) (xs ys : List Statement) → Avoids kind xs → Avoids kind ys → Avoids kind (xs ++ ys)
+unfolding Avoids
+avoids-append kind [] ys first second = second
+avoids-append kind (x ∷ xs) ys first second = (first.0, avoids-append kind xs ys first.1 second)
+
+avoided : {Y : Type 0} (chosen : Statement → Option Y) (kind : ℕ) → OfKind chosen kind → (statements : List Statement) → Avoids kind statements → filter_map chosen statements ≡ []
+unfolding Avoids OfKind
+avoided chosen kind of [] avoids = refl
+avoided chosen kind of (statement ∷ statements) avoids = rw (of statement avoids.0, avoided chosen kind of statements avoids.1) refl
+
+skip : {Y : Type 0} (chosen : Statement → Option Y) (kind : ℕ) → OfKind chosen kind → (front rest : List Statement) → Avoids kind front → filter_map chosen (front ++ rest) ≡ filter_map chosen rest
+skip chosen kind of front rest avoids = filter_map-append chosen front rest ∙ ap (λ (taken : List _). taken ++ filter_map chosen rest) (avoided chosen kind of front avoids)
+
+pick : {Y : Type 0} (chosen : Statement → Option Y) (kind : ℕ) → OfKind chosen kind → (front rest : List Statement) → Avoids kind rest → filter_map chosen (front ++ rest) ≡ filter_map chosen front
+pick chosen kind of front rest avoids = filter_map-append chosen front rest ∙ ap (λ (taken : List _). filter_map chosen front ++ taken) (avoided chosen kind of rest avoids) ∙ append-nil (filter_map chosen front)
+
+-- the statements of a kind by address avoid every other kind
+Makes : (ℕ → Option Statement) → ℕ → Type 0
+Makes stated kind = (address : ℕ) (statement : Statement) → stated address ≡ Some statement → kind_number statement ≡ kind
+
+found_avoids : (kind own : ℕ) → ((own ≡ kind) → ⊥) → (found : Option Statement) → ((statement : Statement) → found ≡ Some statement → kind_number statement ≡ own)
+    → (rest : List Statement) → Avoids kind rest → Avoids kind (cons_option found rest)
+unfolding Avoids
+found_avoids kind own other None makes rest avoids = avoids
+found_avoids kind own other (Some statement) makes rest avoids = (λ same. other (sym (makes statement refl) ∙ same), avoids)
+
+range_avoids : (kind own : ℕ) (stated : ℕ → Option Statement) → Makes stated own → ((own ≡ kind) → ⊥) → (from count : ℕ) → Avoids kind (filter_map stated (range_with_len from count))
+unfolding Avoids Makes
+range_avoids kind own stated makes other from zero = tt
+range_avoids kind own stated makes other from (suc count) =
+    found_avoids kind own other (stated from) (makes from) (filter_map stated (range_with_len (from + 1) count)) (range_avoids kind own stated makes other (from + 1) count)
+
+ascending_avoids : (kind own : ℕ) (stated : ℕ → Option Statement) → Makes stated own → ((own ≡ kind) → ⊥) → (count : ℕ) → Avoids kind (ascending stated count)
+unfolding ascending
+ascending_avoids kind own stated makes other count = range_avoids kind own stated makes other 0 count
+
+cells_avoid : (kind : ℕ) (cells : List (At Value)) → ((7 ≡ kind) → ⊥) → Avoids kind (map at_statement cells)
+unfolding Avoids
+cells_avoid kind [] other = tt
+cells_avoid kind (cell ∷ cells) other = (other, cells_avoid kind cells other)
+
+rows_avoid : (kind : ℕ) (rows : List (Row Value)) → ((7 ≡ kind) → ⊥) → Avoids kind (flat_map row_statements rows)
+unfolding Avoids row_statements
+rows_avoid kind [] other = tt
+rows_avoid kind (row ∷ rows) other = avoids-append kind (row_statements row) (flat_map row_statements rows) (other, cells_avoid kind row.at other) (rows_avoid kind rows other)
+
+-- ---- the value that is stated of an address
+
+-- what is stated at each address is an entry with its value, or nothing
+IsTold : (Statement → Option Entry) → ℕ → Option Statement → Option Value → Type 0
+IsTold chosen address None None = Unit {0}
+IsTold chosen address None (Some value) = ⊥
+IsTold chosen address (Some statement) None = ⊥
+IsTold chosen address (Some statement) (Some value) = chosen statement ≡ Some (entry_of address value)
+
+Tells : (Statement → Option Entry) → (ℕ → Option Statement) → (ℕ → Option Value) → Type 0
+Tells chosen stated values = (address : ℕ) → IsTold chosen address (stated address) (values address)
+
+-- an address that is not this one
+other_found : (chosen : Statement → Option Entry) (address x : ℕ) → (address == x) ≡ false → (found : Option Statement) (value : Option Value) (rest : List Statement) → IsTold chosen address found value
+    → value_at (filter_map chosen (cons_option found rest)) x ≡ value_at (filter_map chosen rest) x
+unfolding IsTold
+other_found chosen address x other None None rest told = refl
+other_found chosen address x other None (Some value) rest told = absurd told
+other_found chosen address x other (Some statement) None rest told = absurd told
+other_found chosen address x other (Some statement) (Some value) rest told = rw (told, other) refl
+
+-- and this one, of which nothing is stated later
+own_found : (chosen : Statement → Option Entry) (address : ℕ) (found : Option Statement) (value : Option Value) (rest : List Statement) → IsTold chosen address found value
+    → value_at (filter_map chosen rest) address ≡ None → value_at (filter_map chosen (cons_option found rest)) address ≡ value
+unfolding IsTold
+own_found chosen address None None rest told none = none
+own_found chosen address None (Some value) rest told none = absurd told
+own_found chosen address (Some statement) None rest told none = absurd told
+own_found chosen address (Some statement) (Some value) rest told none = rw (told, eq-eqb address address refl) refl
+
+value_below : (chosen : Statement → Option Entry) (stated : ℕ → Option Statement) (values : ℕ → Option Value) → Tells chosen stated values → (x from count : ℕ) → x < from
+    → value_at (filter_map chosen (filter_map stated (range_with_len from count))) x ≡ None
+unfolding Tells
+value_below chosen stated values tells x from zero below = refl
+value_below chosen stated values tells x from (suc count) below =
+    other_found chosen from x (ne_eqb from x (λ same. omega (arith, same, below))) (stated from) (values from) (filter_map stated (range_with_len (from + 1) count)) (tells from)
+    ∙ value_below chosen stated values tells x (from + 1) count (omega (arith, below))
+
+value_there : (chosen : Statement → Option Entry) (stated : ℕ → Option Statement) (values : ℕ → Option Value) → Tells chosen stated values → (x from count : ℕ) → from ≤ x → x < from + count
+    → value_at (filter_map chosen (filter_map stated (range_with_len from count))) x ≡ values x
+unfolding Tells
+value_there chosen stated values tells x from zero low high = absurd (omega (arith, low, high))
+value_there chosen stated values tells x from (suc count) low high =
+    elim (cases_lt from x) [
+      | inl later ↦
+          other_found chosen from x (apart from x later) (stated from) (values from) (filter_map stated (range_with_len (from + 1) count)) (tells from)
+          ∙ value_there chosen stated values tells x (from + 1) count (omega (arith, later)) (omega (arith, high))
+      | inr here ↦
+          let same : from ≡ x = omega (arith, low, here) in
+          rw (← same) (own_found chosen from (stated from) (values from) (filter_map stated (range_with_len (from + 1) count)) (tells from)
+          (value_below chosen stated values tells from (from + 1) count (omega arith)))
+    ]
+
+value_ascending : (chosen : Statement → Option Entry) (stated : ℕ → Option Statement) (values : ℕ → Option Value) → Tells chosen stated values → (count x : ℕ) → x < count
+    → value_at (filter_map chosen (ascending stated count)) x ≡ values x
+unfolding ascending
+value_ascending chosen stated values tells count x below = value_there chosen stated values tells x 0 count (omega arith) (omega (arith, below))
+
+-- a limit, of each kind that takes an entry
+pub limited_value : Value → Option Value
+limited_value limit = if is_full limit then None else Some limit
+
+told_limit : (kind : Entry → Statement) (chosen : Statement → Option Entry) → ((entry : Entry) → chosen (kind entry) ≡ Some entry) → (address : ℕ) (limit : Value) (full : Bool)
+    → IsTold chosen address (stating kind (if full then None else Some (entry_of address limit))) (if full then None else Some limit)
+unfolding IsTold
+told_limit kind chosen takes address limit true = tt
+told_limit kind chosen takes address limit false = takes (entry_of address limit)
+
+told_start : (address : ℕ) (value : Option Value) → IsTold init_entry address (stating Init (start_entry address value)) value
+unfolding IsTold
+told_start address None = tt
+told_start address (Some value) = refl
+
+full_of : (value : Value) → is_full value ≡ true → IsFull value_meaning value
+full_of (Range range) full = full_holds range full
+full_of (Words set) full = absurd (true≢false (sym full))
+
+limit_by : (limit : Value) (full : Bool) → is_full limit ≡ full → IsLimit (if full then None else Some limit) limit
+limit_by limit true is = full_of limit is
+limit_by limit false is = refl
+
+limit_is : (limit : Value) → IsLimit (limited_value limit) limit
+unfolding limited_value
+limit_is limit = limit_by limit (is_full limit) refl
+
+-- ---- named places
+
+Names : (ℕ → Option Statement) → (ℕ → Bool) → Type 0
+Names stated named = (location : ℕ) → stated location ≡ (if named location then Some (May location) else None)
+
+place_found : (named : Bool) (location x : ℕ) (found : Option Statement) (rest : List Statement) → found ≡ (if named then Some (May location) else None)
+    → list_any (λ (place : ℕ). place == x) (filter_map may_place (cons_option found rest)) ≡ (if named then (location == x || list_any (λ (place : ℕ). place == x) (filter_map may_place rest))
+    else list_any (λ (place : ℕ). place == x) (filter_map may_place rest))
+place_found true location x found rest is = rw is refl
+place_found false location x found rest is = rw is refl
+
+place_below : (stated : ℕ → Option Statement) (named : ℕ → Bool) → Names stated named → (x from count : ℕ) → x < from
+    → list_any (λ (place : ℕ). place == x) (filter_map may_place (filter_map stated (range_with_len from count))) ≡ false
+unfolding Names
+place_below stated named names x from zero below = refl
+place_below stated named names x from (suc count) below =
+    let rest = place_below stated named names x (from + 1) count (omega (arith, below)) in
+    let first = place_found (named from) from x (stated from) (filter_map stated (range_with_len (from + 1) count)) (names from) in
+    elim (cases_Bool (named from)) [
+      | inl is ↦ first ∙ rw (is, ne_eqb from x (λ same. omega (arith, same, below)), rest) refl
+      | inr is ↦ first ∙ rw (is, rest) refl
+    ]
+
+place_there : (stated : ℕ → Option Statement) (named : ℕ → Bool) → Names stated named → (x from count : ℕ) → from ≤ x → x < from + count
+    → list_any (λ (place : ℕ). place == x) (filter_map may_place (filter_map stated (range_with_len from count))) ≡ named x
+unfolding Names
+place_there stated named names x from zero low high = absurd (omega (arith, low, high))
+place_there stated named names x from (suc count) low high =
+    let first = place_found (named from) from x (stated from) (filter_map stated (range_with_len (from + 1) count)) (names from) in
+    elim (cases_lt from x) [
+      | inl later ↦
+          let rest = place_there stated named names x (from + 1) count (omega (arith, later)) (omega (arith, high)) in
+          elim (cases_Bool (named from)) [
+            | inl is ↦ first ∙ rw (is, apart from x later, rest) refl
+            | inr is ↦ first ∙ rw (is, rest) refl
+          ]
+      | inr here ↦
+          let same : from ≡ x = omega (arith, low, here) in
+          let rest = place_below stated named names from (from + 1) count (omega arith) in
+          elim (cases_Bool (named from)) [
+            | inl is ↦ first ∙ rw (← same, is, eq-eqb from from refl) refl
+            | inr is ↦ first ∙ rw (← same, is, rest) refl
+          ]
+    ]
+
+place_ascending : (stated : ℕ → Option Statement) (named : ℕ → Bool) → Names stated named → (count x : ℕ) → x < count
+    → list_any (λ (place : ℕ). place == x) (filter_map may_place (ascending stated count)) ≡ named x
+unfolding ascending
+place_ascending stated named names count x below = place_there stated named names x 0 count (omega arith) (omega (arith, below))
+
+-- ---- rows
+
+-- a statement that is no row leaves the rows
+no_row : (statement : Statement) (rest : List Statement) → ((kind_number statement ≡ 7) → ⊥) → rows_of (statement ∷ rest) ≡ rows_of rest
+no_row (RowOf row) rest other = absurd (other refl)
+no_row _ rest other = refl
+
+rows_skip : (front rest : List Statement) → Avoids 7 front → rows_of (front ++ rest) ≡ rows_of rest
+unfolding Avoids
+rows_skip [] rest avoids = refl
+rows_skip (statement ∷ front) rest avoids = no_row statement (front ++ rest) avoids.0 ∙ rows_skip front rest avoids.1
+
+entries_of : List (At Value) → List Entry
+entries_of cells = map (λ (cell : At Value). entry_of cell.address cell.value) cells
+
+cells_lead : (cells : List (At Value)) (rest : List Statement) → leading_cells rest ≡ [] → leading_cells (map at_statement cells ++ rest) ≡ entries_of cells
+unfolding entries_of
+cells_lead [] rest none = none
+cells_lead (cell ∷ cells) rest none = ap (λ (others : List Entry). entry_of cell.address cell.value ∷ others) (cells_lead cells rest none)
+
+cells_skip : (cells : List (At Value)) (rest : List Statement) → rows_of (map at_statement cells ++ rest) ≡ rows_of rest
+cells_skip [] rest = refl
+cells_skip (cell ∷ cells) rest = cells_skip cells rest
+
+same_cells : (cells : List (At Value)) (address : ℕ) → value_among cells address ≡ value_at (entries_of cells) address
+unfolding entries_of
+same_cells [] address = refl
+same_cells (cell ∷ cells) address = rw (same_cells cells address) refl
+
+record AreStatedRows (rows : List (Row Value)) (statements : List Statement) : Type 0 where
+  are : AreRowsOf (rows_of statements) rows
+  lead : leading_cells statements ≡ []
+
+rows_stated : (rows : List (Row Value)) → AreStatedRows rows (flat_map row_statements rows ++ End ∷ [])
+unfolding row_statements
+rows_stated [] = record { are = tt; lead = refl }
+rows_stated (row ∷ rows) =
+    let behind : List Statement = flat_map row_statements rows ++ End ∷ [] in
+    let rest = rows_stated rows in
+    let cut : (map at_statement row.at ++ flat_map row_statements rows) ++ End ∷ [] ≡ map at_statement row.at ++ behind = append_assoc (map at_statement row.at) (flat_map row_statements rows) (End ∷ []) in
+    record {
+      are = rw (cut, cells_lead row.at behind rest.lead, cells_skip row.at behind) (
+        record {
+          location = refl;
+          a = refl;
+          q = refl;
+          x = refl;
+          v = refl;
+          cells = same_cells row.at;
+        },
+        rest.are,
+      );
+      lead = refl;
+    }
+
+-- ---- choices and kinds
+
+cell_of_kind : OfKind cell_entry 2
+unfolding OfKind
+cell_of_kind = chosen
+  where
+    chosen : (statement : Statement) → ((kind_number statement ≡ 2) → ⊥) → cell_entry statement ≡ None
+    chosen (Cell entry) other = absurd (other refl)
+    chosen _ other = refl
+
+init_of_kind : OfKind init_entry 3
+unfolding OfKind
+init_of_kind = chosen
+  where
+    chosen : (statement : Statement) → ((kind_number statement ≡ 3) → ⊥) → init_entry statement ≡ None
+    chosen (Init entry) other = absurd (other refl)
+    chosen _ other = refl
+
+in_of_kind : OfKind in_entry 4
+unfolding OfKind
+in_of_kind = chosen
+  where
+    chosen : (statement : Statement) → ((kind_number statement ≡ 4) → ⊥) → in_entry statement ≡ None
+    chosen (In entry) other = absurd (other refl)
+    chosen _ other = refl
+
+out_of_kind : OfKind out_entry 5
+unfolding OfKind
+out_of_kind = chosen
+  where
+    chosen : (statement : Statement) → ((kind_number statement ≡ 5) → ⊥) → out_entry statement ≡ None
+    chosen (Out entry) other = absurd (other refl)
+    chosen _ other = refl
+
+may_of_kind : OfKind may_place 6
+unfolding OfKind
+may_of_kind = chosen
+  where
+    chosen : (statement : Statement) → ((kind_number statement ≡ 6) → ⊥) → may_place statement ≡ None
+    chosen (May location) other = absurd (other refl)
+    chosen _ other = refl
+
+makes_cells : (cert : Stated) → Makes (cell_statement cert) 2
+unfolding Makes cell_statement
+makes_cells cert = λ address statement is. let limit = cell_limit cert.limits address in rw (← (limit_cases Cell address limit (is_full limit) statement is).1) refl
+
+makes_inits : (cert : Stated) → Makes (init_statement cert) 3
+unfolding Makes init_statement
+makes_inits cert = λ address statement is. rw (← (start_cases address (get_or cert.init address None) statement is).2) refl
+
+makes_inputs : (cert : Stated) → Makes (input_statement cert) 4
+unfolding Makes input_statement
+makes_inputs cert = λ address statement is. let limit = input_limit cert.limits address in rw (← (limit_cases In address limit (is_full limit) statement is).1) refl
+
+makes_outputs : (cert : Stated) → Makes (output_statement cert) 5
+unfolding Makes output_statement
+makes_outputs cert = λ address statement is. let limit = output_limit cert.limits address in rw (← (limit_cases Out address limit (is_full limit) statement is).1) refl
+
+makes_places : (cert : Stated) → Makes (place_statement cert) 6
+unfolding Makes place_statement
+makes_places cert = λ location statement is. rw (← place_cases location (is_named cert.limits location) statement is) refl
+
+-- ---- the parts of a certificate's statements
+
+module _ (cert : Stated) where
+  c2 : List Statement
+  c2 = ascending (cell_statement cert) 2048
+
+  c3 : List Statement
+  c3 = ascending (init_statement cert) 2048
+
+  c4 : List Statement
+  c4 = ascending (input_statement cert) 4096
+
+  c5 : List Statement
+  c5 = ascending (output_statement cert) 4096
+
+  c6 : List Statement
+  c6 = ascending (place_statement cert) 4096
+
+  c7 : List Statement
+  c7 = flat_map row_statements cert.rows ++ End ∷ []
+
+  c2_avoids : (kind : ℕ) → ((2 ≡ kind) → ⊥) → Avoids kind c2
+  unfolding c2
+  c2_avoids kind other = ascending_avoids kind 2 (cell_statement cert) (makes_cells cert) other 2048
+
+  c3_avoids : (kind : ℕ) → ((3 ≡ kind) → ⊥) → Avoids kind c3
+  unfolding c3
+  c3_avoids kind other = ascending_avoids kind 3 (init_statement cert) (makes_inits cert) other 2048
+
+  c4_avoids : (kind : ℕ) → ((4 ≡ kind) → ⊥) → Avoids kind c4
+  unfolding c4
+  c4_avoids kind other = ascending_avoids kind 4 (input_statement cert) (makes_inputs cert) other 4096
+
+  c5_avoids : (kind : ℕ) → ((5 ≡ kind) → ⊥) → Avoids kind c5
+  unfolding c5
+  c5_avoids kind other = ascending_avoids kind 5 (output_statement cert) (makes_outputs cert) other 4096
+
+  c6_avoids : (kind : ℕ) → ((6 ≡ kind) → ⊥) → Avoids kind c6
+  unfolding c6
+  c6_avoids kind other = ascending_avoids kind 6 (place_statement cert) (makes_places cert) other 4096
+
+  c7_avoids : (kind : ℕ) → ((7 ≡ kind) → ⊥) → ((8 ≡ kind) → ⊥) → Avoids kind c7
+  unfolding c7 Avoids
+  c7_avoids kind other last = avoids-append kind (flat_map row_statements cert.rows) (End ∷ []) (rows_avoid kind cert.rows other) (last, tt)
+
+  parts : statements_of cert ≡ Start cert.start ∷ (c2 ++ (c3 ++ (c4 ++ (c5 ++ (c6 ++ c7)))))
+  unfolding statements_of c2 c3 c4 c5 c6 c7
+  parts = refl
+
+  cells_chosen : filter_map cell_entry (statements_of cert) ≡ filter_map cell_entry c2
+  cells_chosen = rw parts (pick cell_entry 2 cell_of_kind c2 (c3 ++ (c4 ++ (c5 ++ (c6 ++ c7))))
+      (avoids-append 2 c3 _ (c3_avoids 2 (λ is. absurd cc)) (avoids-append 2 c4 _ (c4_avoids 2 (λ is. absurd cc)) (avoids-append 2 c5 _ (c5_avoids 2 (λ is. absurd cc))
+      (avoids-append 2 c6 _ (c6_avoids 2 (λ is. absurd cc)) (c7_avoids 2 (λ is. absurd cc) (λ is. absurd cc)))))))
+
+  inits_chosen : filter_map init_entry (statements_of cert) ≡ filter_map init_entry c3
+  inits_chosen = rw parts (skip init_entry 3 init_of_kind c2 (c3 ++ (c4 ++ (c5 ++ (c6 ++ c7)))) (c2_avoids 3 (λ is. absurd cc))
+      ∙ pick init_entry 3 init_of_kind c3 (c4 ++ (c5 ++ (c6 ++ c7)))
+      (avoids-append 3 c4 _ (c4_avoids 3 (λ is. absurd cc)) (avoids-append 3 c5 _ (c5_avoids 3 (λ is. absurd cc)) (avoids-append 3 c6 _ (c6_avoids 3 (λ is. absurd cc)) (c7_avoids 3 (λ is. absurd cc) (λ is. absurd cc))))))
+
+  inputs_chosen : filter_map in_entry (statements_of cert) ≡ filter_map in_entry c4
+  inputs_chosen = rw parts (skip in_entry 4 in_of_kind c2 (c3 ++ (c4 ++ (c5 ++ (c6 ++ c7)))) (c2_avoids 4 (λ is. absurd cc))
+      ∙ skip in_entry 4 in_of_kind c3 (c4 ++ (c5 ++ (c6 ++ c7))) (c3_avoids 4 (λ is. absurd cc))
+      ∙ pick in_entry 4 in_of_kind c4 (c5 ++ (c6 ++ c7))
+      (avoids-append 4 c5 _ (c5_avoids 4 (λ is. absurd cc)) (avoids-append 4 c6 _ (c6_avoids 4 (λ is. absurd cc)) (c7_avoids 4 (λ is. absurd cc) (λ is. absurd cc)))))
+
+  outputs_chosen : filter_map out_entry (statements_of cert) ≡ filter_map out_entry c5
+  outputs_chosen = rw parts (skip out_entry 5 out_of_kind c2 (c3 ++ (c4 ++ (c5 ++ (c6 ++ c7)))) (c2_avoids 5 (λ is. absurd cc))
+      ∙ skip out_entry 5 out_of_kind c3 (c4 ++ (c5 ++ (c6 ++ c7))) (c3_avoids 5 (λ is. absurd cc))
+      ∙ skip out_entry 5 out_of_kind c4 (c5 ++ (c6 ++ c7)) (c4_avoids 5 (λ is. absurd cc))
+      ∙ pick out_entry 5 out_of_kind c5 (c6 ++ c7) (avoids-append 5 c6 _ (c6_avoids 5 (λ is. absurd cc)) (c7_avoids 5 (λ is. absurd cc) (λ is. absurd cc))))
+
+  places_chosen : filter_map may_place (statements_of cert) ≡ filter_map may_place c6
+  places_chosen = rw parts (skip may_place 6 may_of_kind c2 (c3 ++ (c4 ++ (c5 ++ (c6 ++ c7)))) (c2_avoids 6 (λ is. absurd cc))
+      ∙ skip may_place 6 may_of_kind c3 (c4 ++ (c5 ++ (c6 ++ c7))) (c3_avoids 6 (λ is. absurd cc))
+      ∙ skip may_place 6 may_of_kind c4 (c5 ++ (c6 ++ c7)) (c4_avoids 6 (λ is. absurd cc))
+      ∙ skip may_place 6 may_of_kind c5 (c6 ++ c7) (c5_avoids 6 (λ is. absurd cc))
+      ∙ pick may_place 6 may_of_kind c6 c7 (c7_avoids 6 (λ is. absurd cc) (λ is. absurd cc)))
+
+  rows_chosen : rows_of (statements_of cert) ≡ rows_of c7
+  rows_chosen = rw parts (rows_skip c2 (c3 ++ (c4 ++ (c5 ++ (c6 ++ c7)))) (c2_avoids 7 (λ is. absurd cc))
+      ∙ rows_skip c3 (c4 ++ (c5 ++ (c6 ++ c7))) (c3_avoids 7 (λ is. absurd cc)) ∙ rows_skip c4 (c5 ++ (c6 ++ c7)) (c4_avoids 7 (λ is. absurd cc))
+      ∙ rows_skip c5 (c6 ++ c7) (c5_avoids 7 (λ is. absurd cc)) ∙ rows_skip c6 c7 (c6_avoids 7 (λ is. absurd cc)))
+
+  starts : start_of (statements_of cert) ≡ cert.start
+  starts = rw parts refl
+
+  cell_values : (address : ℕ) → address < 2048 → value_at (entries cell_entry (statements_of cert)) address ≡ limited_value (cell_limit cert.limits address)
+  unfolding c2 Tells cell_statement limited_value
+  cell_values address below = ap (λ (found : List Entry). value_at found address) cells_chosen
+      ∙ value_ascending cell_entry (cell_statement cert) (λ x. limited_value (cell_limit cert.limits x))
+      (λ x. told_limit Cell cell_entry (λ entry. refl) x (cell_limit cert.limits x) (is_full (cell_limit cert.limits x))) 2048 address below
+
+  init_values : (address : ℕ) → address < 2048 → value_at (entries init_entry (statements_of cert)) address ≡ get_or cert.init address None
+  unfolding c3 Tells init_statement
+  init_values address below = ap (λ (found : List Entry). value_at found address) inits_chosen
+      ∙ value_ascending init_entry (init_statement cert) (λ x. get_or cert.init x None) (λ x. told_start x (get_or cert.init x None)) 2048 address below
+
+  input_values : (address : ℕ) → address < 4096 → value_at (entries in_entry (statements_of cert)) address ≡ limited_value (input_limit cert.limits address)
+  unfolding c4 Tells input_statement limited_value
+  input_values address below = ap (λ (found : List Entry). value_at found address) inputs_chosen
+      ∙ value_ascending in_entry (input_statement cert) (λ x. limited_value (input_limit cert.limits x))
+      (λ x. told_limit In in_entry (λ entry. refl) x (input_limit cert.limits x) (is_full (input_limit cert.limits x))) 4096 address below
+
+  output_values : (address : ℕ) → address < 4096 → value_at (entries out_entry (statements_of cert)) address ≡ limited_value (output_limit cert.limits address)
+  unfolding c5 Tells output_statement limited_value
+  output_values address below = ap (λ (found : List Entry). value_at found address) outputs_chosen
+      ∙ value_ascending out_entry (output_statement cert) (λ x. limited_value (output_limit cert.limits x))
+      (λ x. told_limit Out out_entry (λ entry. refl) x (output_limit cert.limits x) (is_full (output_limit cert.limits x))) 4096 address below
+
+  place_names : (location : ℕ) → location < 4096 → list_any (λ (place : ℕ). place == location) (filter_map may_place (statements_of cert)) ≡ is_named cert.limits location
+  unfolding c6 Names place_statement
+  place_names location below = ap (λ (found : List ℕ). list_any (λ (place : ℕ). place == location) found) places_chosen
+      ∙ place_ascending (place_statement cert) (is_named cert.limits) (λ x. refl) 4096 location below
+
+  stated_rows : AreRowsOf (rows_of (statements_of cert)) cert.rows
+  unfolding c7
+  stated_rows = rw rows_chosen (rows_stated cert.rows).are
+
+  pub certificate_stated : IsCert cert → AreLimits cert.limits → IsFull value_meaning cert.limits.every → IsWhatIsStated (statements_of cert) cert
+  certificate_stated good tables every = record {
+    is_cert = good;
+    start = sym starts;
+    limits = record {
+      tables = tables;
+      cells = λ address below. rw (cell_values address below) (limit_is (cell_limit cert.limits address));
+      inputs = λ address below. rw (input_values address below) (limit_is (input_limit cert.limits address));
+      outputs = λ address below. rw (output_values address below) (limit_is (output_limit cert.limits address));
+      places = λ location below. sym (place_names location below);
+      every = every;
+    };
+    init = λ address below. sym (init_values address below);
+    rows = stated_rows;
+  }
+
+-- the statements of the readings
+pub statements_read : (statements : List Statement) → filter_map statement_of (map StatedBy statements ++ Ended ∷ []) ≡ statements
+statements_read [] = refl
+statements_read (statement ∷ statements) = ap (λ (rest : List Statement). statement ∷ rest) (statements_read statements)

@@ -1,0 +1,85 @@
+-- The text of a certificate: what its lines state, in their order, and each as it is written.
+use Rattle.std.specs.Prelude.{ℕ, Bool, false, List, [], ◌∷◌, ◌++◌, map, get_or, Option, Some, None, if◌then◌else◌, codes}
+use Rattle.std.specs.List.{filter_map, flat_map, range_with_len}
+use Rattle.ags_domain.specs.Range.{range_ends}
+use Rattle.ags_domain.specs.ValueText.{are_full}
+use Rattle.ags_domain.specs.declared.values.Value.{Value}
+use Rattle.ags_domain.specs.declared.values.Value.TheVariants.{Range, Words}
+use Rattle.ags_row.specs.Limit.{cell_limit, input_limit, output_limit, is_named}
+use Rattle.ags_row.specs.declared.ats.At.{At}
+use Rattle.ags_row.specs.declared.rows.Row.{Row}
+use Rattle.ags_cert.specs.Cert.{Stated}
+use Rattle.ags_certtext.specs.declared.statements.Entry.{Entry}
+use Rattle.ags_certtext.specs.declared.statements.RowLine.{RowLine}
+use Rattle.ags_certtext.specs.declared.statements.Statement.{Statement}
+use Rattle.ags_certtext.specs.declared.statements.Statement.TheVariants.{Start, Cell, Init, In, Out, May, Row as RowOf, At as AtOf, End}
+use Rattle.ags_certsend.specs.Spelled.{statement_line}
+
+-- the value is the range of all words
+abbrev pub is_full : Value → Bool
+is_full (Range range) = are_full (range_ends range)
+is_full (Words set) = false
+
+-- what is stated of an address
+abbrev pub entry_of : ℕ → Value → Entry
+entry_of address value = record { address = address; value = Some value }
+
+-- the entry of a limit: a full one has none
+abbrev pub limited : ℕ → Value → Option Entry
+limited address limit = if is_full limit then None else Some (entry_of address limit)
+
+-- a statement of one kind with an entry, where there is one
+abbrev pub stating : (Entry → Statement) → Option Entry → Option Statement
+stating kind None = None
+stating kind (Some entry) = Some (kind entry)
+
+-- what the certificate states at an address, kind by kind: of a cell's limit, of a cell at the start, which is stated where it is full
+-- too, of an input register and of an output register; and whether it names the location
+unfoldable pub cell_statement : Stated → ℕ → Option Statement
+cell_statement cert address = stating Cell (limited address (cell_limit cert.limits address))
+
+abbrev pub start_entry : ℕ → Option Value → Option Entry
+start_entry address None = None
+start_entry address (Some value) = Some (entry_of address value)
+
+unfoldable pub init_statement : Stated → ℕ → Option Statement
+init_statement cert address = stating Init (start_entry address (get_or cert.init address None))
+
+unfoldable pub input_statement : Stated → ℕ → Option Statement
+input_statement cert address = stating In (limited address (input_limit cert.limits address))
+
+unfoldable pub output_statement : Stated → ℕ → Option Statement
+output_statement cert address = stating Out (limited address (output_limit cert.limits address))
+
+unfoldable pub place_statement : Stated → ℕ → Option Statement
+place_statement cert location = if is_named cert.limits location then Some (May location) else None
+
+-- the statements at so many addresses, in ascending order
+unfoldable pub ascending : (ℕ → Option Statement) → (count : ℕ) → List Statement
+ascending stated count = filter_map stated (range_with_len 0 count)
+
+-- a row's line
+abbrev pub row_line_of : Row Value → RowLine
+row_line_of row = record { location = row.location; a = Some row.a; q = Some row.q; x = row.x; v = row.v }
+
+-- a cell of a row
+abbrev pub at_statement : At Value → Statement
+at_statement cell = AtOf (entry_of cell.address cell.value)
+
+-- a row, and then its cells
+unfoldable pub row_statements : Row Value → List Statement
+row_statements row = RowOf (row_line_of row) ∷ map at_statement row.at
+
+-- All that the certificate states: where it starts, the kinds by address, the rows in order, and that it ends.
+unfoldable pub statements_of : Stated → List Statement
+statements_of cert = Start cert.start
+    ∷ (ascending (cell_statement cert) 2048
+    ++ (ascending (init_statement cert) 2048
+    ++ (ascending (input_statement cert) 4096
+    ++ (ascending (output_statement cert) 4096
+    ++ (ascending (place_statement cert) 4096
+    ++ (flat_map row_statements cert.rows ++ End ∷ []))))))
+
+-- The text of a certificate: its first line, and a line for each statement. Each ends with a line feed.
+unfoldable pub cert_text : Stated → List ℕ
+cert_text cert = codes "AGSCERT 1\n" ++ flat_map statement_line (statements_of cert)
