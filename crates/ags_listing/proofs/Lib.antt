@@ -1,1 +1,3 @@
 pub mod ListingLemmas
+pub mod MeaningLemmas
+pub mod SendingLemmas

@@ -2,3 +2,5 @@
 pub mod ErrorText
 pub mod Listing
 pub mod Reads
+-- what serves inside
+pub mod PlacedListing

@@ -1,9 +1,13 @@
--- The listing of printed cards.
-use Rattle.std.specs.Prelude.{ℕ, ◌<◌, ◌^◌, List, [], ◌∷◌, ◌++◌, Option, Some, None, codes, IfSome}
+-- The listing of printed cards, and that of a source.
+use Rattle.std.specs.Prelude.{◌≡◌, ℕ, ◌+◌, ◌≤◌, ◌<◌, ◌^◌, List, [], ◌∷◌, ◌++◌, length, map, Option, Some, None, codes, IfSome}
 use Rattle.std.specs.List.{filter_map}
-use Rattle.ags_text.specs.Line.{HasNoFeed}
+use Rattle.ags_text.specs.Line.{LineAt, HasNoFeed}
 use Rattle.ags_text.specs.Numeral.{decimal7_text, octal4_text, octal6_text}
 use Rattle.ags_image.specs.Image.{PlacedWord, IsMemoryWord}
+use Rattle.ags_places.specs.declared.placed.Placed.{Placed}
+use Rattle.ags_places.specs.declared.sources.TheConstants.{SOURCE_LIMIT}
+use Rattle.ags_places.specs.Deck.{card_lines}
+use Rattle.ags_asm.specs.Source.{AreSpans, defined, placed_cards}
 
 -- a card as it is printed: its number, its word at its place, if it has one, and its text
 pub record PrintedCard : Type 0 where
@@ -38,3 +42,22 @@ pub record IsPrintable (card : PrintedCard) : Type 0 where
   pub numbered : card.number < 10 ^ 7
   pub within : IfSome card.placed IsMemoryWord
   pub unbroken : HasNoFeed card.text
+
+-- ---- of a source
+
+-- The cards of lines as they are printed, from that number on, with these places and words: of two lists of one length, since a
+-- source defines one entry for each line.
+abbrev pub printed_from : ℕ → List LineAt → List (Option PlacedWord) → List PrintedCard
+printed_from number [] defined = []
+printed_from number (line ∷ lines) [] = []
+printed_from number (line ∷ lines) (one ∷ defined) = record { number = number; placed = one; text = line.bytes } ∷ printed_from (number + 1) lines defined
+
+-- the listing of a source, whose cards have these places and words
+unfoldable pub listing : (text : List ℕ) → List (Option PlacedWord) → List ℕ
+listing text defined = listing_text (printed_from 1 (card_lines text) defined)
+
+-- The cards are those of the source's lines, which is within its limit.
+pub record AreCardsOf (bytes : List ℕ) (placed : List Placed) : Type 0 where
+  pub short : length bytes ≤ SOURCE_LIMIT
+  pub spans : AreSpans 0 (length bytes) placed
+  pub cards_are : placed ≡ placed_cards (card_lines bytes) (map defined placed)

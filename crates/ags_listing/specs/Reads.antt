@@ -41,8 +41,14 @@ listing_form line = if is_ruled line then said (take 4 (drop 8 line)) (take 6 (d
 abbrev pub Reads : List ℕ → List (Option ℕ) → Type 0
 Reads bytes image = ReadBy listing_form (feed_lines bytes) image
 
--- what an error says of a listing: that is the first fault of its lines
+-- the bytes are no listing: that is the first fault of their lines
+abbrev pub IsFaultyListing : List ℕ → ListError → Type 0
+IsFaultyListing bytes (BadLine line) = first_line_fault listing_form (feed_lines bytes) ≡ Some (line, Misshapen)
+IsFaultyListing bytes (PlaceTwice line location) = first_line_fault listing_form (feed_lines bytes) ≡ Some (line, Twice location)
+IsFaultyListing bytes NoMemory = ⊥
+
+-- what an error says of a listing: that is the first fault of its lines, unless memory ran out
 abbrev pub IsListingFault : List ℕ → ListError → Type 0
-IsListingFault bytes (BadLine line) = first_line_fault listing_form (feed_lines bytes) ≡ Some (line, Misshapen)
-IsListingFault bytes (PlaceTwice line location) = first_line_fault listing_form (feed_lines bytes) ≡ Some (line, Twice location)
+IsListingFault bytes (BadLine line) = IsFaultyListing bytes (BadLine line)
+IsListingFault bytes (PlaceTwice line location) = IsFaultyListing bytes (PlaceTwice line location)
 IsListingFault bytes NoMemory = Unit {0}

@@ -1,6 +1,7 @@
-//! Listings: what a printed one is, and its reader (docs/SOURCE.md, Listing).
-//! It stands on `ags_wordlines` for texts whose lines put words at places. The text of printed cards and what the bytes of a
-//! listing read as are defined apart in `specs/`, and a law joins them.
+//! Listings: the writer of a source's listing, and the reader of listings (docs/SOURCE.md, Listing).
+//! It stands on `ags_asm` for sources, on `ags_wordlines` for texts whose lines put words at places, and on `ags_outside` for
+//! where a listing is written to. The text of a listing and what the bytes of one read as are defined apart in `specs/`, and
+//! a law joins them: a written listing reads back as the words that its source defines.
 #![tactic(auto)]
 
 mod forms;
@@ -9,7 +10,11 @@ mod list_error;
 mod reading;
 #[cfg(test)]
 mod tests;
+mod writing;
 
-pub use laws::printed_listing_reads_back;
+pub use laws::{
+    listing_reads_or_has_a_fault, printed_listing_reads_back, written_listing_reads_back,
+};
 pub use list_error::ListError;
 pub use reading::{LISTING_LIMIT, read};
+pub use writing::send_listing;

@@ -5,7 +5,7 @@ use Rattle.ags_outside.specs.ToldFile.{Untold}
 use Rattle.ags_plan.specs.Answer.{IsAnswer}
 use Rattle.ags_plan.specs.Outcome.{Ends}
 use Rattle.ags_top.specs.declared.status.Status.{Status}
-use Rattle.ags_top.specs.declared.status.Status.TheVariants.{Done, BadSource, BadWords, AbsentFile, ReadFault, WriteFault, BadMachine, BadText, LongFile, NoMemory}
+use Rattle.ags_top.specs.declared.status.Status.TheVariants.{ReadFault, WriteFault, NoMemory}
 use Rattle.ags_top.specs.Program.{plan_of, program}
 use Rattle.ags_top.specs.Status.{number_of}
 use Rattle.ags_process.specs.Ended.{EndsFor, ExitsFor}
@@ -15,13 +15,7 @@ pub ends_for : (arguments : List (List ℕ)) (old new : Option (List ℕ)) (stat
 ends_for arguments old new ReadFault ends = inr tt
 ends_for arguments old new WriteFault ends = inr tt
 ends_for arguments old new NoMemory ends = inr tt
-ends_for arguments old new Done ends = inl (ends.text, ends.answer)
-ends_for arguments old new BadSource ends = inl (ends.text, ends.answer)
-ends_for arguments old new BadWords ends = inl (ends.text, ends.answer)
-ends_for arguments old new AbsentFile ends = inl (ends.text, ends.answer)
-ends_for arguments old new BadMachine ends = inl (ends.text, ends.answer)
-ends_for arguments old new BadText ends = inl (ends.text, ends.answer)
-ends_for arguments old new LongFile ends = inl (ends.text, ends.answer)
+ends_for arguments old new _ ends = inl (ends.text, ends.answer)
 
 -- and the same where the output behind it was written, or wasn't
 pub ended_for : (arguments : List (List ℕ)) (old new : Option (List ℕ)) (status ended : Status) (written : Bool) → Ends program (IsAnswer program (λ _. Untold) (plan_of arguments)) old new status

@@ -98,12 +98,14 @@ fn laws_can_be_called() {
 fn numbers_statuses(rt: HostRuntime) {
     let cases = [
         (Status::Done, 0),
+        (Status::No, 1),
         (Status::BadSource, 2),
         (Status::BadWords, 3),
         (Status::AbsentFile, 4),
         (Status::ReadFault, 5),
         (Status::WriteFault, 6),
         (Status::BadMachine, 7),
+        (Status::BadCert, 8),
         (Status::BadText, 9),
         (Status::LongFile, 10),
         (Status::NoMemory, 11),

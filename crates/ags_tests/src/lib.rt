@@ -5,9 +5,15 @@
 #[cfg(test)]
 mod answer_tests;
 #[cfg(test)]
+mod certify_tests;
+#[cfg(test)]
 mod command_lines;
 #[cfg(test)]
+mod decks;
+#[cfg(test)]
 mod fault_tests;
+#[cfg(test)]
+mod listing_tests;
 #[cfg(test)]
 mod machine_tests;
 #[cfg(test)]

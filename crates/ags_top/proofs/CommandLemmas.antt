@@ -5,7 +5,9 @@ use Rattle.std.proofs.Common.{◌≡◌, ℕ, Bool, true, false, List, [], ◌�
 use Rattle.std.specs.Prelude.{if◌then◌else◌}
 use Rattle.std.specs.Str.{bytes_eq}
 use Rattle.std.proofs.lemmas.Slice.Eq.{bytes_eq-Decides}
-use Rattle.ags_top.specs.Command.{Command, Assemble, Run, CommandLine, arguments_of, machine_argument, line_arguments, line_with, one_name, two_names, Form, forms, line_named, line_of}
+use Rattle.ags_top.specs.declared.source_texts.SourceText.{SourceText}
+use Rattle.ags_top.specs.declared.source_texts.SourceText.TheVariants.{Listing, Tape, CrossReference}
+use Rattle.ags_top.specs.Command.{Command, Write, Compare, Certify, Run, CommandLine, verb_of, arguments_of, machine_argument, line_arguments, line_with, one_name, two_names, Form, form_of, forms, line_named, line_of}
 
 -- what stands behind a command's names is read back
 line_with-machine_argument : (command : Command) (machine : Option (List ℕ)) → line_with command (machine_argument machine) ≡ Some (record { command = command; machine = machine })
@@ -16,7 +18,11 @@ pub line_of-line_arguments : (line : CommandLine) → line_of (line_arguments li
 line_of-line_arguments line = of_command line.command line.machine
   where
     of_command : (command : Command) (machine : Option (List ℕ)) → line_of (arguments_of command ++ machine_argument machine) ≡ Some (record { command = command; machine = machine })
-    of_command (Assemble source) machine = line_with-machine_argument (Assemble source) machine
+    of_command (Write Listing source) machine = line_with-machine_argument (Write Listing source) machine
+    of_command (Write Tape source) machine = line_with-machine_argument (Write Tape source) machine
+    of_command (Write CrossReference source) machine = line_with-machine_argument (Write CrossReference source) machine
+    of_command (Compare source listing) machine = line_with-machine_argument (Compare source listing) machine
+    of_command (Certify source certificate) machine = line_with-machine_argument (Certify source certificate) machine
     of_command (Run source script) machine = line_with-machine_argument (Run source script) machine
 
 -- and nothing else asks for it
@@ -48,9 +54,24 @@ AreForms : List Form → Type 0
 AreForms [] = Unit {0}
 AreForms (form ∷ others) = IsForm form × AreForms others
 
+of_text : (text : SourceText) → IsForm (form_of text)
+of_text text = of_one_name (verb_of text) (Write text) (λ name. refl)
+
 are_forms : AreForms forms
 unfolding AreForms
-are_forms = (of_one_name (codes "assemble") Assemble (λ name. refl), (of_two_names (codes "run") Run (λ name other. refl), tt))
+are_forms = (
+  of_text Listing,
+  (
+    of_two_names (codes "compare") Compare (λ name other. refl),
+    (
+      of_text Tape,
+      (
+        of_text CrossReference,
+        (of_two_names (codes "certify") Certify (λ name other. refl), (of_two_names (codes "run") Run (λ name other. refl), tt)),
+      ),
+    ),
+  ),
+)
 
 -- by whether it is a form's verb, and for the other forms
 by_verb : (form : Form) (others : List Form) (verb : List ℕ) (names : List (List ℕ)) (line : CommandLine) (same : Bool) → IsForm form

@@ -1,24 +1,32 @@
 -- What the loaders of files answer.
-use Rattle.std.proofs.Common.{◌≡◌, ℕ, ◌≤◌, Bool, false, List, length, map, Option, Some, Result, Ok, Err, refl, inr, subst, sym}
+use Rattle.std.proofs.Common.{◌≡◌, ℕ, ◌≤◌, Bool, false, List, length, Option, Some, Result, Ok, Err, refl, inr, subst, sym}
 use Rattle.std.specs.Prelude.{IfOk, IfErr}
 use Rattle.std.specs.Result.{result_map_both}
 use Rattle.ags_outside.specs.Count.{HasCause}
 use Rattle.ags_machfile.specs.declared.reading.TheConstants.{MACHINE_LIMIT}
+use Rattle.ags_cert.specs.Cert.{Stated}
+use Rattle.ags_certread.specs.declared.reading.TheConstants.{CERT_LIMIT}
+use Rattle.ags_certtext.specs.declared.cert_error.CertError.TheVariants.{At, NoMemory as NoRoom}
+use Rattle.ags_certtext.specs.Text.{IsCertOf}
+use Rattle.ags_listing.specs.declared.reading.TheConstants.{LISTING_LIMIT}
+use Rattle.ags_listing.specs.Reads.{Reads}
 use Rattle.ags_machfile.specs.MachineFile.{machine_of}
 use Rattle.ags_ports.specs.declared.machines.Machine.{Machine}
 use Rattle.ags_plan.specs.declared.unloaded.Unloaded.{Unloaded}
 use Rattle.ags_plan.specs.declared.unloaded.Unloaded.TheVariants.{Absent, TooLong, Refused, ReadFault, NoMemory}
 use Rattle.ags_places.specs.declared.sources.TheConstants.{SOURCE_LIMIT}
-use Rattle.ags_plan.specs.Loading.{LoadsFile, end_of}
-use Rattle.ags_plan.specs.Plan.{End}
+use Rattle.ags_plan.specs.Loading.{Loads, LoadsFile, end_of}
+use Rattle.ags_plan.specs.Plan.{Plan, End, Do, Read}
+use Rattle.ags_plan.proofs.LoadingLemmas.{loads_on, loads_stop}
 use Rattle.ags_plan.specs.Walk.{Told, Agrees}
 use Rattle.ags_top.specs.declared.files.SourceFile.{SourceFile}
 use Rattle.ags_top.specs.declared.refusal.Refusal.{Refusal}
 use Rattle.ags_top.specs.declared.refusal.Refusal.TheVariants as refusal
-use Rattle.ags_top.specs.Files.{Kind, MachineFile, Source, Value}
+use Rattle.ags_top.specs.Files.{Kind, MachineFile, Source, Listing, Certificate, Assembly, Value}
 use Rattle.ags_top.specs.Program.{program}
-use Rattle.ags_top.specs.Text.{fault_line, machine_fault_line}
-use Rattle.ags_top.specs.Views.{IsMachineUnread, IsSourceRead, IsSourceUnread, assembly_of, line_of, status_of}
+use Rattle.ags_top.specs.Text.{certificate_fault_line, fault_line, listing_fault_line, machine_fault_line}
+use Rattle.ags_top.specs.Work.{Work}
+use Rattle.ags_top.specs.Views.{IsCertificateUnread, IsListingUnread, IsMachineUnread, IsSourceRead, IsSourceUnread, assembly_of, line_of, status_of}
 
 -- what was read of a source's bytes is what its file holds
 pub source_loads : (told : Told) (machine : Machine) (name bytes : List ℕ) (result : Result SourceFile (Unloaded Refusal)) → Agrees (told name) (Some bytes) → length bytes ≤ SOURCE_LIMIT
@@ -29,6 +37,8 @@ source_loads told machine name bytes (Ok source) agrees short read same unread =
 source_loads told machine name bytes (Err (Refused (refusal.Source error))) agrees short read same unread =
     λ next. inr (bytes, agrees, inr (fault_line error, record { short = short; refuses = record { error = error; faulty = unread; line_is = refl } }, refl))
 source_loads told machine name bytes (Err (Refused (refusal.Machine error))) agrees short read same unread = absurd unread
+source_loads told machine name bytes (Err (Refused (refusal.Listing error))) agrees short read same unread = absurd unread
+source_loads told machine name bytes (Err (Refused (refusal.Certificate error))) agrees short read same unread = absurd unread
 source_loads told machine name bytes (Err (Refused (refusal.Script error))) agrees short read same unread = absurd unread
 source_loads told machine name bytes (Err (Absent absent)) agrees short read same unread = absurd unread
 source_loads told machine name bytes (Err (TooLong long limit)) agrees short read same unread = absurd unread
@@ -43,11 +53,46 @@ machine_loads told name bytes (Ok machine) agrees short read unread = (bytes, ag
 machine_loads told name bytes (Err (Refused (refusal.Machine error))) agrees short read unread =
     λ next. inr (bytes, agrees, inr (machine_fault_line error, record { short = short; refuses = record { error = error; faulty = unread; line_is = refl } }, refl))
 machine_loads told name bytes (Err (Refused (refusal.Source error))) agrees short read unread = absurd unread
+machine_loads told name bytes (Err (Refused (refusal.Listing error))) agrees short read unread = absurd unread
+machine_loads told name bytes (Err (Refused (refusal.Certificate error))) agrees short read unread = absurd unread
 machine_loads told name bytes (Err (Refused (refusal.Script error))) agrees short read unread = absurd unread
 machine_loads told name bytes (Err (Absent absent)) agrees short read unread = absurd unread
 machine_loads told name bytes (Err (TooLong long limit)) agrees short read unread = absurd unread
 machine_loads told name bytes (Err ReadFault) agrees short read unread = absurd unread
 machine_loads told name bytes (Err NoMemory) agrees short read unread = tt
+
+-- what was read of a listing's bytes is what it holds
+pub listing_loads : (told : Told) (name bytes : List ℕ) (result : Result (List (Option ℕ)) (Unloaded Refusal)) → Agrees (told name) (Some bytes) → length bytes ≤ LISTING_LIMIT
+    → IfOk result (Reads bytes) → IfErr result (IsListingUnread bytes)
+    → LoadsFile program told Listing name (result_map_both (λ image. image) (end_of program line_of status_of) result)
+listing_loads told name bytes (Ok image) agrees short read unread = (bytes, agrees, record { short = short; holds = read })
+listing_loads told name bytes (Err (Refused (refusal.Listing error))) agrees short read unread =
+    λ next. inr (bytes, agrees, inr (listing_fault_line error, record { short = short; refuses = record { error = error; faulty = unread; line_is = refl } }, refl))
+listing_loads told name bytes (Err (Refused (refusal.Machine error))) agrees short read unread = absurd unread
+listing_loads told name bytes (Err (Refused (refusal.Source error))) agrees short read unread = absurd unread
+listing_loads told name bytes (Err (Refused (refusal.Certificate error))) agrees short read unread = absurd unread
+listing_loads told name bytes (Err (Refused (refusal.Script error))) agrees short read unread = absurd unread
+listing_loads told name bytes (Err (Absent absent)) agrees short read unread = absurd unread
+listing_loads told name bytes (Err (TooLong long limit)) agrees short read unread = absurd unread
+listing_loads told name bytes (Err ReadFault) agrees short read unread = absurd unread
+listing_loads told name bytes (Err NoMemory) agrees short read unread = tt
+
+-- what was read of a certificate's bytes is what it holds
+pub certificate_loads : (told : Told) (machine : Machine) (name bytes : List ℕ) (result : Result Stated (Unloaded Refusal)) → Agrees (told name) (Some bytes) → length bytes ≤ CERT_LIMIT
+    → IfOk result (IsCertOf machine.ports bytes) → IfErr result (IsCertificateUnread machine bytes)
+    → LoadsFile program told (Certificate machine) name (result_map_both (λ cert. cert) (end_of program line_of status_of) result)
+certificate_loads told machine name bytes (Ok cert) agrees short read unread = (bytes, agrees, record { short = short; holds = read })
+certificate_loads told machine name bytes (Err (Refused (refusal.Certificate (At number kind)))) agrees short read unread =
+    λ next. inr (bytes, agrees, inr (certificate_fault_line (At number kind), record { short = short; refuses = record { number = number; kind = kind; faulty = unread.0; line_is = refl } }, refl))
+certificate_loads told machine name bytes (Err (Refused (refusal.Certificate NoRoom))) agrees short read unread = absurd unread.1
+certificate_loads told machine name bytes (Err (Refused (refusal.Machine error))) agrees short read unread = absurd unread
+certificate_loads told machine name bytes (Err (Refused (refusal.Source error))) agrees short read unread = absurd unread
+certificate_loads told machine name bytes (Err (Refused (refusal.Listing error))) agrees short read unread = absurd unread
+certificate_loads told machine name bytes (Err (Refused (refusal.Script error))) agrees short read unread = absurd unread
+certificate_loads told machine name bytes (Err (Absent absent)) agrees short read unread = absurd unread
+certificate_loads told machine name bytes (Err (TooLong long limit)) agrees short read unread = absurd unread
+certificate_loads told machine name bytes (Err ReadFault) agrees short read unread = absurd unread
+certificate_loads told machine name bytes (Err NoMemory) agrees short read unread = tt
 
 -- a count that an earlier call left as it was stays so
 pub stays_counted : (before now : ℕ) (counted : Bool) → HasCause before now false → counted ≡ false → HasCause before now counted
@@ -57,3 +102,23 @@ stays_counted before now counted counts none = subst (λ (b : Bool). HasCause be
 pub loads_as_before : (told now : Told) (kind : Kind) (name : List ℕ) (result : Result (Value kind) (Option (End program))) → now ≡ told → LoadsFile program now kind name result
     → LoadsFile program told kind name result
 loads_as_before told now kind name result same loads = subst (λ (t : Told). LoadsFile program t kind name result) same loads
+
+-- ---- a source, and then a file of another kind
+
+module _ (told now : Told) (machine : Machine) (source name : List ℕ) (kind : Kind) (done : Assembly → Value kind → Work) (assembly : Assembly)
+    (first : LoadsFile program told (Source machine) source (Ok assembly)) (same : now ≡ told) where
+  -- both, one behind the other
+  abbrev pub both : Plan program
+  both = Read (Source machine) source (λ a. Read kind name (λ value. Do (done a value)))
+
+  -- the second file is why they aren't loaded
+  pub second_stops : (why : Option (End program)) → LoadsFile program now kind name (Err why) → Loads program told both (Err why)
+  second_stops why loads =
+      loads_on program told (Source machine) source (λ a. Read kind name (λ value. Do (done a value))) assembly (Err why) first
+      (loads_stop program told kind name (λ value. Do (done assembly value)) why (loads_as_before told now kind name (Err why) same loads))
+
+  -- both are loaded
+  pub both_load : (value : Value kind) → LoadsFile program now kind name (Ok value) → Loads program told both (Ok (done assembly value))
+  both_load value loads =
+      loads_on program told (Source machine) source (λ a. Read kind name (λ v. Do (done a v))) assembly (Ok (done assembly value)) first
+      (loads_on program told kind name (λ v. Do (done assembly v)) value (Ok (done assembly value)) (loads_as_before told now kind name (Ok value) same loads) refl)

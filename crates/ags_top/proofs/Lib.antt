@@ -1,4 +1,7 @@
-pub mod ListingLemmas
-pub mod FilesLemmas
-pub mod MainLemmas
+pub mod CertifyLemmas
 pub mod CommandLemmas
+pub mod CompareLemmas
+pub mod FilesLemmas
+pub mod ListedLemmas
+pub mod MainLemmas
+pub mod WriteLemmas

@@ -1,5 +1,5 @@
 -- What `ags_main` says, from its content: command by command and status by status.
-use Rattle.std.proofs.Common.{◌≡◌, ℕ, List, ◌++◌, Option, Some, None, Ok, refl, sym, ap, subst, ◌∙◌, inl, inr}
+use Rattle.std.proofs.Common.{◌≡◌, ℕ, List, ◌++◌, length, ◌⊎◌, Option, Some, None, Ok, refl, sym, ap, subst, ◌∙◌, inl, inr}
 use Rattle.ags_outside.specs.ToldFile.{Stored}
 use Rattle.ags_outside.specs.Sink.{appended}
 use Rattle.ags_plan.specs.Plan.{Plan, End, AbsentAt, LongAt, RefusedAt, WorkAt}
@@ -7,63 +7,148 @@ use Rattle.ags_plan.specs.Walk.{Told, Agrees, Tells, RefusesWithin, EndsAt, Lead
 use Rattle.ags_plan.specs.Answer.{ComesWith, IsAnswer}
 use Rattle.ags_plan.specs.Outcome.{Answered, Ends, EndsExactly, FindsRefusal}
 use Rattle.ags_plan.proofs.WalkLemmas.{told_bytes, way_to_refused}
-use Rattle.ags_plan.proofs.WorkLemmas.{way_to_work}
+use Rattle.ags_plan.proofs.WorkLemmas.{way_to_work, work_of_way}
 use Rattle.ags_plan.proofs.StatusLemmas.{refused_exactly, work_exactly}
-use Rattle.ags_asm.specs.Source.{Defines}
-use Rattle.ags_image.specs.Image.{PlacedWord}
+use Rattle.ags_asm.specs.Source.{Defines, placed_words}
+use Rattle.ags_compare.specs.declared.comparing.Compared.{Compared}
+use Rattle.ags_compare.specs.declared.comparing.Compared.TheVariants.{Equal, Differs}
+use Rattle.ags_compare.specs.Comparison.{IsComparison}
+use Rattle.ags_compare.proofs.ComparisonLemmas.{equal_is_one}
+use Rattle.ags_image.specs.Image.{PlacedWord, IsImageOf}
+use Rattle.ags_listing.specs.Listing.{listing}
+use Rattle.ags_listing.specs.Reads.{Reads}
+use Rattle.ags_cert.specs.Cert.{certificate_of}
+use Rattle.ags_certread.proofs.SuitLemmas.{suits}
+use Rattle.ags_certtext.specs.Text.{IsCertOf}
+use Rattle.ags_certtext.specs.declared.cert_error.CertError.TheVariants as certificate
+use Rattle.ags_domain.specs.Value.{value_meaning}
+use Rattle.ags_domain.specs.MeaningLaws.{value_lawful}
+use Rattle.ags_domain.specs.declared.values.Value.{Value}
+use Rattle.ags_safe.proofs.RunLemmas.{safe}
+use Rattle.ags_ports.specs.Machine.{IsMachine}
+use Rattle.ags_ports.proofs.MachineLemmas.{IsMachine-standard}
+use Rattle.ags_machfile.proofs.FileLemmas.{machine_of-IsMachine}
+use Rattle.ags_verdict.specs.Verdict.{IsVerdict}
+use Rattle.ags_verdict.specs.declared.verdicts.Verdict.{Verdict}
+use Rattle.ags_verdict.specs.declared.verdicts.Verdict.TheVariants.{Certified, Refused}
+use Rattle.ags_verdict.proofs.VerdictLemmas.{accepted_of, certified_of, counted_of}
 use Rattle.ags_machfile.specs.MachineFile.{machine_of}
 use Rattle.ags_ports.specs.declared.machines.Machine.{Machine}
 use Rattle.ags_ports.specs.Machine.{standard_machine}
 use Rattle.ags_run.specs.declared.script_error.ScriptError.TheVariants.{At}
 use Rattle.ags_run.specs.Script.{IsScript}
 use Rattle.ags_top.specs.declared.status.Status.{Status}
-use Rattle.ags_top.specs.declared.status.Status.TheVariants.{Done, BadMachine, BadSource, BadWords, BadText}
-use Rattle.ags_top.specs.Command.{Command, Assemble, Run, CommandLine, line_arguments, line_of, AreNoForm}
-use Rattle.ags_top.specs.Files.{Kind, MachineFile, Source, Script, refused_status}
-use Rattle.ags_top.specs.Listing.{listing}
-use Rattle.ags_top.specs.Outcome.{EndsWith, IsMachineOf, ListsWhatIsDefined, IsPlayOn, PlaysWhatIsDefined, DoneAlways, BadWordsExactly, ReadsMachineFault, BadMachineExactly, ReadsFault, BadSourceExactly, ReadsScriptFault, BadTextExactly}
+use Rattle.ags_top.specs.declared.status.Status.TheVariants.{Done, No, BadMachine, BadSource, BadWords, BadCert, BadText}
+use Rattle.ags_top.specs.declared.source_texts.SourceText.{SourceText}
+use Rattle.ags_top.specs.Command.{Command, Write, Compare, Certify, Run, CommandLine, line_arguments, line_of, AreNoForm}
+use Rattle.ags_top.specs.Files.{Kind, MachineFile, Source, Listing, Certificate, Script, refused_status}
+use Rattle.ags_top.specs.Outcome.{EndsWith, IsMachineOf, WritesWhatIsDefined, IsComparedOn, ComparesWhatIsDefined, IsJudgedOn, JudgesWhatIsDefined, IsCertifiedOn, CertifiesWhatIsSafe, TellsMachine, TellsAccepted, CertifiesAccepted, ReadsCertificateFault, BadCertExactly, IsOneImage, EqualsWhatIsDefined, IsPlayOn, PlaysWhatIsDefined, DoneAlways, NoExactly, BadWordsExactly, ReadsMachineFault, BadMachineExactly, ReadsFault, BadSourceExactly, ReadsScriptFault, ReadsListingFault, BadTextExactly}
 use Rattle.ags_top.specs.Program.{program, command_plan, plan_on, asked_plan, plan_of}
-use Rattle.ags_top.specs.ProgramLaws.{comes_to_no_form, lawful_program}
-use Rattle.ags_top.specs.Text.{words_line, fault_line, machine_fault_line, script_fault_line}
-use Rattle.ags_top.specs.Work.{Work, NoForm, ListSource, PlayScript, Makes}
+use Rattle.ags_top.specs.ProgramLaws.{IsWorkStatus, comes_to_no_form, lawful_program, not_refused_work}
+use Rattle.ags_top.specs.Text.{words_line, certificate_fault_line, fault_line, listing_fault_line, machine_fault_line, script_fault_line, verdict_line}
+use Rattle.ags_top.specs.Work.{Work, NoForm, WriteText, CompareImages, JudgeCertificate, PlayScript, IsTextOf, IsJudgementOf, compared_status, verdict_status, Makes}
 use Rattle.ags_top.proofs.CommandLemmas.{line_of-line_arguments, line_arguments-line_of}
 
--- ---- a run that is done came to a work
+-- ---- a run that ends with the status of a work came to a work
 
--- a refusal has another status than a work that is done
-not_refused : (kind : Kind) → Done ≡ refused_status kind → ⊥
-not_refused MachineFile is = absurd cc
-not_refused (Source machine) is = absurd cc
-not_refused (Script machine) is = absurd cc
+not_refused : (status : Status) (kind : Kind) → IsWorkStatus status → status ≡ refused_status kind → ⊥
+not_refused status kind answers is = not_refused_work kind (subst IsWorkStatus is answers)
 
-done_work : (told : Told) (plan : Plan program) (end : End program) (text : List ℕ) → EndsAt program Agrees told plan end → ComesWith program end text Done
-    → (work : Work) × EndsAt program Agrees told plan (WorkAt work) × Makes work text Done
-done_work told plan (AbsentAt name) text ends comes = let is = comes.1 in absurd cc
-done_work told plan (LongAt name limit) text ends comes = let is = comes.1 in absurd cc
-done_work told plan (RefusedAt line status) text ends comes =
-    let (kind, name, bytes, given, refuses, is) = way_to_refused program told plan line status ends in
-    absurd (not_refused kind (comes.1 ∙ is))
-done_work told plan (WorkAt work) text ends comes = (work, ends, comes)
+answered_work : (told : Told) (plan : Plan program) (status : Status) (end : End program) (text : List ℕ) → IsWorkStatus status → EndsAt program Agrees told plan end
+    → ComesWith program end text status → (work : Work) × EndsAt program Agrees told plan (WorkAt work) × Makes work text status
+unfolding IsWorkStatus
+answered_work told plan status (AbsentAt name) text answers ends comes = absurd (subst IsWorkStatus comes.1 answers)
+answered_work told plan status (LongAt name limit) text answers ends comes = absurd (subst IsWorkStatus comes.1 answers)
+answered_work told plan status (RefusedAt line refused) text answers ends comes =
+    let (kind, name, bytes, given, refuses, is) = way_to_refused program told plan line refused ends in
+    absurd (not_refused status kind answers (comes.1 ∙ is))
+answered_work told plan status (WorkAt work) text answers ends comes = (work, ends, comes)
 
 -- the machine of a command line, and the way from there
 way_of_command : (told : Told) (machine_file : Option (List ℕ)) (command : Command) (work : Work)
     → LeadsTo program Agrees told (plan_on machine_file (λ machine. command_plan machine command)) work
-    → (machine : Machine) × IsMachineOf told machine_file machine × LeadsTo program Agrees told (command_plan machine command) work
-way_of_command told None command work leads = (standard_machine, refl, leads)
-way_of_command told (Some name) command work (machine, (bytes, agrees, holds), leads) =
-    (machine, λ stored is. subst (λ (b : List ℕ). machine_of b ≡ Ok machine) (told_bytes (told name) stored bytes is agrees) holds.holds, leads)
+    → (machine : Machine) × IsMachineOf told machine_file machine × IsMachine machine × LeadsTo program Agrees told (command_plan machine command) work
+way_of_command told None command work leads = (standard_machine, refl, IsMachine-standard, leads)
+way_of_command told (Some name) command work (machine, (bytes, agrees, holds), leads) = (
+  machine,
+  λ stored is. subst (λ (b : List ℕ). machine_of b ≡ Ok machine) (told_bytes (told name) stored bytes is agrees) holds.holds,
+  machine_of-IsMachine bytes machine holds.holds,
+  leads,
+)
 
--- the listing of a told source
-listing_told : (told : Told) (machine : Machine) (name bytes text : List ℕ) (work : Work) → told name ≡ Stored bytes
-    → LeadsTo program Agrees told (command_plan machine (Assemble name)) work → Makes work text Done
-    → (defined : List (Option PlacedWord)) × Defines machine.codes bytes defined × (text ≡ listing bytes defined)
-listing_told told machine name bytes text work is (assembly, (there, agrees, holds), same) makes =
+-- the text of a told source
+text_told : (told : Told) (machine : Machine) (what : SourceText) (name bytes text : List ℕ) (work : Work) → told name ≡ Stored bytes
+    → LeadsTo program Agrees told (command_plan machine (Write what name)) work → Makes work text Done
+    → (defined : List (Option PlacedWord)) × Defines machine.codes bytes defined × IsTextOf what (record { bytes = bytes; defined = defined }) text
+text_told told machine what name bytes text work is (assembly, (there, agrees, holds), same) makes =
     let here = told_bytes (told name) bytes there is agrees in
-    let made : Makes (ListSource assembly) text Done = subst (λ (w : Work). Makes w text Done) (sym same) makes in (
+    let made : Makes (WriteText what assembly) text Done = subst (λ (w : Work). Makes w text Done) (sym same) makes in
+    let read : assembly.bytes ≡ bytes = holds.holds.bytes_are ∙ here in (
       assembly.defined,
       subst (λ (b : List ℕ). Defines machine.codes b assembly.defined) here holds.holds.defines,
-      made.0 ∙ ap (λ (b : List ℕ). listing b assembly.defined) (holds.holds.bytes_are ∙ here),
+      subst (λ (b : List ℕ). IsTextOf what (record { bytes = b; defined = assembly.defined }) text) read made.0,
     )
+
+-- how a told source compares with a told listing
+comparison_told : (told : Told) (machine : Machine) (source listing source_bytes listing_bytes text : List ℕ) (status : Status) (work : Work) → told source ≡ Stored source_bytes
+    → told listing ≡ Stored listing_bytes → LeadsTo program Agrees told (command_plan machine (Compare source listing)) work → Makes work text status
+    → IsComparedOn machine source_bytes listing_bytes text status
+comparison_told told machine source listing source_bytes listing_bytes text status work is too (assembly, (there, agrees, holds), (listed, (read, seen, has), same)) makes = record {
+  defined = assembly.defined;
+  defines = subst (λ (b : List ℕ). Defines machine.codes b assembly.defined) (told_bytes (told source) source_bytes there is agrees) holds.holds.defines;
+  listed = listed;
+  reads = subst (λ (b : List ℕ). Reads b listed) (told_bytes (told listing) listing_bytes read too seen) has.holds;
+  comparison = subst (λ (w : Work). Makes w text status) (sym same) makes;
+}
+
+-- what compares as equal is one image
+one_image_of : (machine : Machine) (source listing text : List ℕ) → IsComparedOn machine source listing text Done → IsOneImage machine source listing
+one_image_of machine source listing text is = by_comparison is.comparison.compared is.comparison.comparison is.comparison.status_is
+  where
+    by_comparison : (compared : Compared) → IsComparison is.comparison.image is.listed compared → Done ≡ compared_status compared → IsOneImage machine source listing
+    by_comparison Equal agree status =
+        let same = equal_is_one is.comparison.image is.listed is.comparison.image_is.is_image is.reads.filled.is_image agree in
+        record { defined = is.defined; defines = is.defines; image = is.listed; image_is = subst (IsImageOf (placed_words is.defined)) same is.comparison.image_is; reads = is.reads }
+    by_comparison (Differs location left right) differ status = absurd cc
+
+-- how a told certificate is judged for a told source
+judgement_told : (told : Told) (machine : Machine) (source certificate source_bytes certificate_bytes text : List ℕ) (status : Status) (work : Work) → told source ≡ Stored source_bytes
+    → told certificate ≡ Stored certificate_bytes → LeadsTo program Agrees told (command_plan machine (Certify source certificate)) work → Makes work text status
+    → IsJudgedOn machine source_bytes certificate_bytes text status
+judgement_told told machine source certificate source_bytes certificate_bytes text status work is too (assembly, (there, agrees, holds), (stated, (read, seen, has), same)) makes =
+    let here = told_bytes (told source) source_bytes there is agrees in
+    let made : IsJudgementOf machine assembly stated text status = subst (λ (w : Work). Makes w text status) (sym same) makes in
+    record {
+      defined = assembly.defined;
+      defines = subst (λ (b : List ℕ). Defines machine.codes b assembly.defined) here holds.holds.defines;
+      cert = stated;
+      is_cert = subst (λ (b : List ℕ). IsCertOf machine.ports b stated) (told_bytes (told certificate) certificate_bytes read too seen) has.holds;
+      judgement = subst (λ (b : List ℕ). IsJudgementOf machine (record { bytes = b; defined = assembly.defined }) stated text status) (holds.holds.bytes_are ∙ here) made;
+    }
+
+-- what is judged as certified is safe
+safe_of : (machine : Machine) (source certificate text : List ℕ) → IsMachine machine → IsJudgedOn machine source certificate text Done → IsCertifiedOn machine source certificate text
+safe_of machine source certificate text is judged = by_verdict judged.judgement.verdict judged.judgement.is_verdict judged.judgement.status_is judged.judgement.text_is
+  where
+    by_verdict : (verdict : Verdict Value) → IsVerdict value_meaning machine judged.judgement.image (certificate_of judged.cert) verdict → Done ≡ verdict_status verdict
+        → text ≡ listing source judged.defined ++ verdict_line verdict → IsCertifiedOn machine source certificate text
+    by_verdict (Certified rows cases) certified status text_is =
+        let counted = counted_of value_meaning machine judged.judgement.image (certificate_of judged.cert) rows cases certified in
+        let accepted = accepted_of value_meaning machine judged.judgement.image (certificate_of judged.cert) rows cases certified in record {
+          defined = judged.defined;
+          defines = judged.defines;
+          image = judged.judgement.image;
+          image_is = judged.judgement.image_is;
+          cert = judged.cert;
+          is_cert = judged.is_cert;
+          accepted = accepted;
+          safe = safe value_meaning value_lawful machine judged.judgement.image (certificate_of judged.cert) is judged.is_cert.is_stated.is_cert.certificate
+              (suits machine certificate judged.cert judged.is_cert)
+              accepted;
+          cases = cases;
+          text_is = text_is ∙ ap (λ (n : ℕ). listing source judged.defined ++ verdict_line (Certified n cases)) counted.0;
+        }
+    by_verdict (Refused refusal) refused status text_is = absurd cc
 
 -- the play of a told script on a told source
 play_told : (told : Told) (machine : Machine) (source script source_bytes script_bytes text : List ℕ) (work : Work) → told source ≡ Stored source_bytes
@@ -79,22 +164,49 @@ play_told told machine source script source_bytes script_bytes text work is too 
       play = made.0;
     }
 
+-- the way to the work of an accepted certificate over told files
+accepted_leads : (told : Told) (machine : Machine) (source certificate : List ℕ) (tells : TellsAccepted told machine source certificate)
+    → LeadsTo program Tells told (command_plan machine (Certify source certificate))
+    (JudgeCertificate machine (record { bytes = tells.source_bytes; defined = tells.defined }) tells.cert)
+accepted_leads told machine source certificate tells = (
+  record { bytes = tells.source_bytes; defined = tells.defined },
+  (tells.source_bytes, tells.source_told, record { short = tells.source_short; holds = record { bytes_are = refl; defines = tells.defines } }),
+  (tells.cert, (tells.certificate_bytes, tells.certificate_told, record { short = tells.certificate_short; holds = tells.is_cert }), refl),
+)
+
+-- and the way of its command line
+line_leads : (told : Told) (machine_file : Option (List ℕ)) (machine : Machine) (command : Command) (work : Work) → TellsMachine told machine_file machine
+    → LeadsTo program Tells told (command_plan machine command) work → LeadsTo program Tells told (plan_on machine_file (λ m. command_plan m command)) work
+line_leads told None machine command work is leads = subst (λ (m : Machine). LeadsTo program Tells told (command_plan m command) work) is leads
+line_leads told (Some name) machine command work (bytes, known, short, is) leads = (machine, (bytes, known, record { short = short; holds = is }), leads)
+
+-- what comes of it
+accepted_makes : (told : Told) (machine : Machine) (source certificate : List ℕ) (tells : TellsAccepted told machine source certificate)
+    → (text : List ℕ) × Makes (JudgeCertificate machine (record { bytes = tells.source_bytes; defined = tells.defined }) tells.cert) text Done
+accepted_makes told machine source certificate tells =
+    let (cases, is) = certified_of value_meaning machine tells.image (certificate_of tells.cert) tells.accepted in
+    let verdict : Verdict Value = Certified (length tells.cert.rows) cases in (
+      listing tells.source_bytes tells.defined ++ verdict_line verdict,
+      record { image = tells.image; image_is = tells.image_is; verdict = verdict; is_verdict = is; text_is = refl; status_is = refl },
+    )
+
 -- ---- a command line that is no form
 
--- an end with that status is that of no form
-bad_words_end : (told : Told) (plan : Plan program) (end : End program) (text : List ℕ) → EndsAt program Agrees told plan end → ComesWith program end text BadWords → EndsAt program Agrees told plan (WorkAt NoForm)
-bad_words_end told plan (AbsentAt name) text ends comes = let is = comes.1 in absurd cc
-bad_words_end told plan (LongAt name limit) text ends comes = let is = comes.1 in absurd cc
-bad_words_end told plan (RefusedAt line status) text ends comes =
-    let (kind, name, bytes, given, refuses, is) = way_to_refused program told plan line status ends in
-    absurd (of_kind kind (comes.1 ∙ is))
+-- a work with that status is that of no form
+no_form_work : (work : Work) (text : List ℕ) → Makes work text BadWords → work ≡ NoForm
+no_form_work NoForm text makes = refl
+no_form_work (WriteText what assembly) text makes = let is = makes.1 in absurd cc
+no_form_work (CompareImages defined listed) text makes = absurd (never makes.compared makes.status_is)
   where
-    of_kind : (kind : Kind) → BadWords ≡ refused_status kind → ⊥
-    of_kind MachineFile is = absurd cc
-    of_kind (Source machine) is = absurd cc
-    of_kind (Script machine) is = absurd cc
-bad_words_end told plan (WorkAt NoForm) text ends comes = ends
-bad_words_end told plan (WorkAt _) text ends comes = let is = comes.1 in absurd cc
+    never : (compared : Compared) → BadWords ≡ compared_status compared → ⊥
+    never Equal is = absurd cc
+    never (Differs location left right) is = absurd cc
+no_form_work (JudgeCertificate machine assembly stated) text makes = absurd (never makes.verdict makes.status_is)
+  where
+    never : (verdict : Verdict Value) → BadWords ≡ verdict_status verdict → ⊥
+    never (Certified rows cases) is = absurd cc
+    never (Refused refusal) is = absurd cc
+no_form_work (PlayScript machine defined commands) text makes = let is = makes.1 in absurd cc
 
 module _ (told : Told) (arguments : List (List ℕ)) (old new : Option (List ℕ)) (result : Status) (ends : Ends program (IsAnswer program told (plan_of arguments)) old new result) where
   -- what a run with that status answered
@@ -104,29 +216,100 @@ module _ (told : Told) (arguments : List (List ℕ)) (old new : Option (List ℕ
   -- the machine of a command line that these arguments are, and the way to the work in which they end
   way_asked : (machine_file : Option (List ℕ)) (command : Command) (work : Work) → arguments ≡ line_arguments (record { command = command; machine = machine_file })
       → EndsAt program Agrees told (plan_of arguments) (WorkAt work)
-      → (machine : Machine) × IsMachineOf told machine_file machine × LeadsTo program Agrees told (command_plan machine command) work
+      → (machine : Machine) × IsMachineOf told machine_file machine × IsMachine machine × LeadsTo program Agrees told (command_plan machine command) work
   way_asked machine_file command work asked found =
       let line : CommandLine = record { command = command; machine = machine_file } in
       let ends_so : EndsAt program Agrees told (asked_plan (Some line)) (WorkAt work) =
       subst (λ (a : Option CommandLine). EndsAt program Agrees told (asked_plan a) (WorkAt work)) (ap line_of asked ∙ line_of-line_arguments line) found in
       way_of_command told machine_file command work (way_to_work program Agrees told (asked_plan (Some line)) work ends_so)
 
-  pub lists_what_is_defined : ListsWhatIsDefined told arguments old new result
-  lists_what_is_defined name bytes held machine_file is asked known holds =
-      let so : Answered (IsAnswer program told (plan_of arguments)) old new Done = answer_with Done is in
-      let (work, found, makes) = done_work told (plan_of arguments) so.answer.end so.text so.answer.ends so.answer.comes in
-      let (machine, machine_is, way) = way_asked machine_file (Assemble name) work asked found in
-      let (defined, defines, text_is) = listing_told told machine name bytes so.text work known way makes in
-      (machine, machine_is, (defined, defines, so.sent ∙ ap (λ (o : Option (List ℕ)). appended o so.text) holds ∙ ap (λ (t : List ℕ). Some (held ++ t)) text_is))
+  -- with the status of a work there was an answer
+  answered : (status : Status) → IsWorkStatus status → Ends program (IsAnswer program told (plan_of arguments)) old new status
+      → Answered (IsAnswer program told (plan_of arguments)) old new status
+  unfolding IsWorkStatus
+  answered Done answers so = so
+  answered No answers so = so
+  answered BadWords answers so = so
+  answered _ answers so = absurd answers
+
+  -- the work of a run that ended with the status of one
+  ended_with : (status : Status) → IsWorkStatus status → Answered (IsAnswer program told (plan_of arguments)) old new status
+      → (text : List ℕ) × (work : Work) × EndsAt program Agrees told (plan_of arguments) (WorkAt work) × Makes work text status × (new ≡ appended old text)
+  ended_with status answers so =
+      let (work, found, makes) = answered_work told (plan_of arguments) status so.answer.end so.text answers so.answer.ends so.answer.comes in
+      (so.text, work, found, makes, so.sent)
+
+  -- the work of a run that ends with the status of one, the machine of its command line, and the way there
+  work_with : (status : Status) (machine_file : Option (List ℕ)) (command : Command) → IsWorkStatus status → result ≡ status
+      → arguments ≡ line_arguments (record { command = command; machine = machine_file })
+      → (machine : Machine) × IsMachineOf told machine_file machine × IsMachine machine
+      × ((text : List ℕ) × (work : Work) × LeadsTo program Agrees told (command_plan machine command) work × Makes work text status × (new ≡ appended old text))
+  work_with status machine_file command answers is asked =
+      let (text, work, found, makes, sent) = ended_with status answers (answered status answers (answer_with status is)) in
+      let (machine, machine_is, valid, way) = way_asked machine_file command work asked found in
+      (machine, machine_is, valid, (text, work, way, makes, sent))
+
+  pub writes_what_is_defined : (what : SourceText) → WritesWhatIsDefined what told arguments old new result
+  unfolding IsWorkStatus
+  writes_what_is_defined what name bytes held machine_file is asked known holds =
+      let (machine, machine_is, valid, (text, work, way, makes, sent)) = work_with Done machine_file (Write what name) tt is asked in
+      let (defined, defines, text_is) = text_told told machine what name bytes text work known way makes in
+      (machine, machine_is, (defined, defines, (text, text_is, sent ∙ ap (λ (o : Option (List ℕ)). appended o text) holds)))
+
+  pub compares_what_is_defined : ComparesWhatIsDefined told arguments old new result
+  unfolding IsWorkStatus
+  compares_what_is_defined source listing source_bytes listing_bytes held machine_file is asked known too holds = elim is [
+    | inl done ↦ with_status Done tt done
+    | inr differ ↦ with_status No tt differ
+  ]
+    where
+      with_status : (status : Status) → IsWorkStatus status → result ≡ status → (machine : Machine) × IsMachineOf told machine_file machine
+          × ((text : List ℕ) × IsComparedOn machine source_bytes listing_bytes text result × (new ≡ Some (held ++ text)))
+      with_status status answers ended =
+          let (machine, machine_is, valid, (text, work, way, makes, sent)) = work_with status machine_file (Compare source listing) answers ended asked in
+          let compared = comparison_told told machine source listing source_bytes listing_bytes text status work known too way makes in (
+            machine,
+            machine_is,
+            (text, subst (IsComparedOn machine source_bytes listing_bytes text) (sym ended) compared, sent ∙ ap (λ (o : Option (List ℕ)). appended o text) holds),
+          )
+
+  pub equals_what_is_defined : EqualsWhatIsDefined told arguments result
+  unfolding IsWorkStatus
+  equals_what_is_defined source listing source_bytes listing_bytes machine_file is asked known too =
+      let (machine, machine_is, valid, (text, work, way, makes, sent)) = work_with Done machine_file (Compare source listing) tt is asked in
+      (machine, machine_is, one_image_of machine source_bytes listing_bytes text (comparison_told told machine source listing source_bytes listing_bytes text Done work known too way makes))
+
+  pub judges_what_is_defined : JudgesWhatIsDefined told arguments old new result
+  unfolding IsWorkStatus
+  judges_what_is_defined source certificate source_bytes certificate_bytes held machine_file is asked known too holds = elim is [
+    | inl done ↦ with_status Done tt done
+    | inr refused ↦ with_status No tt refused
+  ]
+    where
+      with_status : (status : Status) → IsWorkStatus status → result ≡ status → (machine : Machine) × IsMachineOf told machine_file machine
+          × ((text : List ℕ) × IsJudgedOn machine source_bytes certificate_bytes text result × (new ≡ Some (held ++ text)))
+      with_status status answers ended =
+          let (machine, machine_is, valid, (text, work, way, makes, sent)) = work_with status machine_file (Certify source certificate) answers ended asked in
+          let judged = judgement_told told machine source certificate source_bytes certificate_bytes text status work known too way makes in (
+            machine,
+            machine_is,
+            (text, subst (IsJudgedOn machine source_bytes certificate_bytes text) (sym ended) judged, sent ∙ ap (λ (o : Option (List ℕ)). appended o text) holds),
+          )
+
+  pub certifies_what_is_safe : CertifiesWhatIsSafe told arguments old new result
+  unfolding IsWorkStatus
+  certifies_what_is_safe source certificate source_bytes certificate_bytes machine_file is asked known too =
+      let (machine, machine_is, valid, (text, work, way, makes, sent)) = work_with Done machine_file (Certify source certificate) tt is asked in
+      let judged = judgement_told told machine source certificate source_bytes certificate_bytes text Done work known too way makes in
+      (machine, machine_is, (text, safe_of machine source_bytes certificate_bytes text valid judged, sent))
 
   pub plays_what_is_defined : PlaysWhatIsDefined told arguments old new result
+  unfolding IsWorkStatus
   plays_what_is_defined source script source_bytes script_bytes held machine_file is asked known too holds =
-      let so : Answered (IsAnswer program told (plan_of arguments)) old new Done = answer_with Done is in
-      let (work, found, makes) = done_work told (plan_of arguments) so.answer.end so.text so.answer.ends so.answer.comes in
-      let (machine, machine_is, way) = way_asked machine_file (Run source script) work asked found in (
+      let (machine, machine_is, valid, (text, work, way, makes, sent)) = work_with Done machine_file (Run source script) tt is asked in (
         machine,
         machine_is,
-        (so.text, play_told told machine source script source_bytes script_bytes so.text work known too way makes, so.sent ∙ ap (λ (o : Option (List ℕ)). appended o so.text) holds),
+        (text, play_told told machine source script source_bytes script_bytes text work known too way makes, sent ∙ ap (λ (o : Option (List ℕ)). appended o text) holds),
       )
 
   -- what is exact of a status is so of the run's end
@@ -137,11 +320,33 @@ module _ (told : Told) (arguments : List (List ℕ)) (old new : Option (List ℕ
   pub done_always : DoneAlways told arguments result
   done_always work text found makes = exactly_with text Done (work_exactly program plan_of lawful_program told arguments old new result ends work text Done found makes)
 
+  pub no_exactly : NoExactly told arguments old new result
+  unfolding IsWorkStatus
+  no_exactly = record {
+    only = λ is.
+        let (text, work, found, makes, sent) = ended_with No tt (answer_with No is) in
+        record { work = work; text = text; ends = found; makes = makes; sent = sent };
+    always = λ work text found makes. exactly_with text No (work_exactly program plan_of lawful_program told arguments old new result ends work text No found makes);
+  }
+
+  pub certifies_accepted : CertifiesAccepted told arguments result
+  certifies_accepted source certificate machine_file machine asked machine_told tells =
+      let line : CommandLine = record { command = Certify source certificate; machine = machine_file } in
+      let work : Work = JudgeCertificate machine (record { bytes = tells.source_bytes; defined = tells.defined }) tells.cert in
+      let leads = line_leads told machine_file machine (Certify source certificate) work machine_told (accepted_leads told machine source certificate tells) in
+      let found : EndsAt program Tells told (plan_of arguments) (WorkAt work) =
+      subst (λ (a : Option CommandLine). EndsAt program Tells told (asked_plan a) (WorkAt work)) (sym (ap line_of asked ∙ line_of-line_arguments line))
+      (work_of_way program Tells told (asked_plan (Some line)) work leads) in
+      let (text, makes) = accepted_makes told machine source certificate tells in
+      exactly_with text Done (work_exactly program plan_of lawful_program told arguments old new result ends work text Done found makes)
+
   pub bad_words_exactly : BadWordsExactly arguments result
+  unfolding IsWorkStatus
   bad_words_exactly = record {
     only = λ is.
-        let so : Answered (IsAnswer program told (plan_of arguments)) old new BadWords = answer_with BadWords is in
-        let none = bad_words_end told (plan_of arguments) so.answer.end so.text so.answer.ends so.answer.comes in
+        let (text, work, found, makes, sent) = ended_with BadWords tt (answer_with BadWords is) in
+        let none : EndsAt program Agrees told (plan_of arguments) (WorkAt NoForm) =
+        subst (λ (w : Work). EndsAt program Agrees told (plan_of arguments) (WorkAt w)) (no_form_work work text makes) found in
         λ line asked. comes_to_no_form told line
         (subst (λ (a : Option CommandLine). EndsAt program Agrees told (asked_plan a) (WorkAt NoForm)) (ap line_of asked ∙ line_of-line_arguments line) none);
     always = λ none. exactly_with words_line BadWords
@@ -175,6 +380,8 @@ module _ (told : Told) (arguments : List (List ℕ)) (old new : Option (List ℕ
             sent = sent ∙ ap (appended old) refuses.refuses.line_is;
           }
           of_kind (Source machine) is given refuses sent = absurd cc
+          of_kind Listing is given refuses sent = absurd cc
+          of_kind (Certificate machine) is given refuses sent = absurd cc
           of_kind (Script machine) is given refuses sent = absurd cc
 
   pub bad_source_exactly : BadSourceExactly told arguments old new result
@@ -201,24 +408,28 @@ module _ (told : Told) (arguments : List (List ℕ)) (old new : Option (List ℕ
             faulty = refuses.refuses.faulty;
             sent = sent ∙ ap (appended old) refuses.refuses.line_is;
           }
+          of_kind Listing is given refuses sent = absurd cc
+          of_kind (Certificate machine) is given refuses sent = absurd cc
           of_kind (Script machine) is given refuses sent = absurd cc
 
-  pub bad_text_exactly : BadTextExactly told arguments old new result
-  bad_text_exactly = record {
-    only = λ is. of_refusal ((refused_exactly program plan_of lawful_program told arguments old new result ends (Script standard_machine)).only is);
+  pub bad_cert_exactly : BadCertExactly told arguments old new result
+  bad_cert_exactly = record {
+    only = λ is. of_refusal ((refused_exactly program plan_of lawful_program told arguments old new result ends (Certificate standard_machine)).only is);
     always = λ machine name bytes line kind given short faulty.
-        (refused_exactly program plan_of lawful_program told arguments old new result ends (Script machine)).always name bytes (script_fault_line (At line kind)) given
+        (refused_exactly program plan_of lawful_program told arguments old new result ends (Certificate machine)).always name bytes (certificate_fault_line (certificate.At line kind)) given
         (record { short = short; refuses = record { number = line; kind = kind; faulty = faulty; line_is = refl } });
   }
     where
-      of_refusal : FindsRefusal program told (plan_of arguments) old new result BadText → ReadsScriptFault told arguments old new
+      of_refusal : FindsRefusal program told (plan_of arguments) old new result BadCert → ReadsCertificateFault told arguments old new
       of_refusal found = of_kind found.kind found.status_is found.given found.refuses found.sent
         where
-          of_kind : (kind : Kind) → refused_status kind ≡ BadText → IsGiven program Agrees told (plan_of arguments) kind found.name found.bytes
-              → RefusesWithin program kind found.bytes found.line → new ≡ appended old found.line → ReadsScriptFault told arguments old new
+          of_kind : (kind : Kind) → refused_status kind ≡ BadCert → IsGiven program Agrees told (plan_of arguments) kind found.name found.bytes
+              → RefusesWithin program kind found.bytes found.line → new ≡ appended old found.line → ReadsCertificateFault told arguments old new
           of_kind MachineFile is given refuses sent = absurd cc
           of_kind (Source machine) is given refuses sent = absurd cc
-          of_kind (Script machine) is given refuses sent = record {
+          of_kind Listing is given refuses sent = absurd cc
+          of_kind (Script machine) is given refuses sent = absurd cc
+          of_kind (Certificate machine) is given refuses sent = record {
             machine = machine;
             name = found.name;
             bytes = found.bytes;
@@ -229,3 +440,43 @@ module _ (told : Told) (arguments : List (List ℕ)) (old new : Option (List ℕ
             faulty = refuses.refuses.faulty;
             sent = sent ∙ ap (appended old) refuses.refuses.line_is;
           }
+
+  pub bad_text_exactly : BadTextExactly told arguments old new result
+  bad_text_exactly = record {
+    only = λ is. of_refusal ((refused_exactly program plan_of lawful_program told arguments old new result ends Listing).only is);
+    always = λ machine name bytes line kind given short faulty.
+        (refused_exactly program plan_of lawful_program told arguments old new result ends (Script machine)).always name bytes (script_fault_line (At line kind)) given
+        (record { short = short; refuses = record { number = line; kind = kind; faulty = faulty; line_is = refl } });
+    always_listing = λ name bytes error given short faulty.
+        (refused_exactly program plan_of lawful_program told arguments old new result ends Listing).always name bytes (listing_fault_line error) given
+        (record { short = short; refuses = record { error = error; faulty = faulty; line_is = refl } });
+  }
+    where
+      of_refusal : FindsRefusal program told (plan_of arguments) old new result BadText → ReadsScriptFault told arguments old new ⊎ ReadsListingFault told arguments old new
+      of_refusal found = of_kind found.kind found.status_is found.given found.refuses found.sent
+        where
+          of_kind : (kind : Kind) → refused_status kind ≡ BadText → IsGiven program Agrees told (plan_of arguments) kind found.name found.bytes
+              → RefusesWithin program kind found.bytes found.line → new ≡ appended old found.line → ReadsScriptFault told arguments old new ⊎ ReadsListingFault told arguments old new
+          of_kind MachineFile is given refuses sent = absurd cc
+          of_kind (Source machine) is given refuses sent = absurd cc
+          of_kind Listing is given refuses sent = inr (record {
+            name = found.name;
+            bytes = found.bytes;
+            given = given;
+            short = refuses.short;
+            error = refuses.refuses.error;
+            faulty = refuses.refuses.faulty;
+            sent = sent ∙ ap (appended old) refuses.refuses.line_is;
+          })
+          of_kind (Certificate machine) is given refuses sent = absurd cc
+          of_kind (Script machine) is given refuses sent = inl (record {
+            machine = machine;
+            name = found.name;
+            bytes = found.bytes;
+            given = given;
+            short = refuses.short;
+            line = refuses.refuses.number;
+            kind = refuses.refuses.kind;
+            faulty = refuses.refuses.faulty;
+            sent = sent ∙ ap (appended old) refuses.refuses.line_is;
+          })

@@ -2,11 +2,17 @@
 -- where one is given.
 use Rattle.std.specs.Prelude.{◌≡◌, ℕ, List, [], ◌∷◌, ◌++◌, Option, Some, None, codes, if◌then◌else◌}
 use Rattle.std.specs.Str.{bytes_eq}
+use Rattle.ags_top.specs.declared.source_texts.SourceText.{SourceText}
+use Rattle.ags_top.specs.declared.source_texts.SourceText.TheVariants.{Listing, Tape, CrossReference}
 
 -- what is done
 pub data Command : Type 0 where
-  -- the listing of the source of this name
-  Assemble : (source : List ℕ) → Command
+  -- this text of the source of this name
+  Write : (text : SourceText) (source : List ℕ) → Command
+  -- whether the words of the source of this name are those of that listing
+  Compare : (source listing : List ℕ) → Command
+  -- whether the certificate of this name is accepted for the words of that source
+  Certify : (source certificate : List ℕ) → Command
   -- what the script of this name shows of the machine that begins with the words of that source
   Run : (source script : List ℕ) → Command
 
@@ -16,9 +22,17 @@ pub record CommandLine : Type 0 where
   pub command : Command
   pub machine : Option (List ℕ)
 
+-- the verb that asks for a text of a source
+abbrev pub verb_of : SourceText → List ℕ
+verb_of Listing = codes "assemble"
+verb_of Tape = codes "tape"
+verb_of CrossReference = codes "xref"
+
 -- the arguments that ask for a command on the standard machine
 abbrev pub arguments_of : Command → List (List ℕ)
-arguments_of (Assemble source) = codes "assemble" ∷ source ∷ []
+arguments_of (Write text source) = verb_of text ∷ source ∷ []
+arguments_of (Compare source listing) = codes "compare" ∷ source ∷ listing ∷ []
+arguments_of (Certify source certificate) = codes "certify" ∷ source ∷ certificate ∷ []
 arguments_of (Run source script) = codes "run" ∷ source ∷ script ∷ []
 
 -- the argument that names a machine file, where one is named
@@ -51,10 +65,18 @@ pub record Form : Type 0 where
   pub verb : List ℕ
   pub line_of : List (List ℕ) → Option CommandLine
 
+-- the form of a text of a source
+abbrev pub form_of : SourceText → Form
+form_of text = record { verb = verb_of text; line_of = one_name (Write text) }
+
 -- the forms, one for each command
 abbrev pub forms : List Form
 forms =
-    record { verb = codes "assemble"; line_of = one_name Assemble }
+    form_of Listing
+    ∷ record { verb = codes "compare"; line_of = two_names Compare }
+    ∷ form_of Tape
+    ∷ form_of CrossReference
+    ∷ record { verb = codes "certify"; line_of = two_names Certify }
     ∷ record { verb = codes "run"; line_of = two_names Run }
     ∷ []
 

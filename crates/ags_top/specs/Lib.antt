@@ -1,13 +1,12 @@
 -- what the public contracts cite
 pub mod Command
 pub mod Files
-pub mod Listing
+pub mod Listed
 pub mod Outcome
 pub mod Program
 pub mod Status
 pub mod Text
 pub mod Work
 -- what serves inside
-pub mod PlacedListing
 pub mod ProgramLaws
 pub mod Views

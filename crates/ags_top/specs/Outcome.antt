@@ -1,5 +1,5 @@
 -- What `ags_main` comes to, command by command and status by status, in the program's own words.
-use Rattle.std.specs.Prelude.{◌≡◌, ℕ, ◌≤◌, List, ◌++◌, length, Option, Some, None, Ok, Err}
+use Rattle.std.specs.Prelude.{◌≡◌, ℕ, ◌≤◌, ◌⊎◌, List, ◌++◌, length, Option, Some, None, Ok, Err}
 use Rattle.ags_outside.specs.ToldFile.{Stored}
 use Rattle.ags_outside.specs.Sink.{appended}
 use Rattle.ags_plan.specs.Plan.{WorkAt}
@@ -7,27 +7,40 @@ use Rattle.ags_plan.specs.Walk.{Told, Agrees, Tells, EndsAt, IsGiven}
 use Rattle.ags_plan.specs.Outcome as plan
 use Rattle.ags_places.specs.declared.source_error.SourceError.{SourceError}
 use Rattle.ags_places.specs.declared.sources.TheConstants.{SOURCE_LIMIT}
-use Rattle.ags_asm.specs.Source.{Defines, IsFaulty}
-use Rattle.ags_image.specs.Image.{PlacedWord}
+use Rattle.ags_asm.specs.Source.{Defines, IsFaulty, placed_words}
+use Rattle.ags_cert.specs.Cert.{Stated, certificate_of}
+use Rattle.ags_certread.specs.declared.reading.TheConstants.{CERT_LIMIT}
+use Rattle.ags_certtext.specs.declared.cert_error.CertKind.{CertKind}
+use Rattle.ags_certtext.specs.declared.cert_error.CertError.TheVariants as certificate
+use Rattle.ags_certtext.specs.Text.{IsCertOf, IsFaultyCert}
+use Rattle.ags_domain.specs.Value.{value_meaning}
+use Rattle.ags_image.specs.Image.{PlacedWord, IsImageOf}
+use Rattle.ags_listing.specs.declared.list_error.ListError.{ListError}
+use Rattle.ags_listing.specs.declared.reading.TheConstants.{LISTING_LIMIT}
+use Rattle.ags_listing.specs.Reads.{IsFaultyListing, Reads}
 use Rattle.ags_machfile.specs.declared.mach_error.MachError.{MachError}
 use Rattle.ags_machfile.specs.declared.reading.TheConstants.{MACHINE_LIMIT}
 use Rattle.ags_machfile.specs.MachineFile.{machine_of}
 use Rattle.ags_ports.specs.declared.machines.Machine.{Machine}
 use Rattle.ags_ports.specs.Machine.{standard_machine}
+use Rattle.ags_safe.specs.Accepted.{Accepted}
+use Rattle.ags_safe.specs.Safe.{Safe}
+use Rattle.ags_verdict.specs.declared.verdicts.Verdict.TheVariants.{Certified}
 use Rattle.ags_run.specs.declared.plain.Plain.{Plain}
 use Rattle.ags_run.specs.declared.script_error.ScriptKind.{ScriptKind}
 use Rattle.ags_run.specs.declared.script_error.ScriptError.TheVariants.{At}
 use Rattle.ags_run.specs.declared.script.TheConstants.{SCRIPT_LIMIT}
 use Rattle.ags_run.specs.Script.{IsScript, IsFaultyScript}
 use Rattle.ags_top.specs.declared.status.Status.{Status}
-use Rattle.ags_top.specs.declared.status.Status.TheVariants.{Done, BadMachine, BadSource, BadWords, BadText}
+use Rattle.ags_top.specs.declared.status.Status.TheVariants.{Done, No, BadMachine, BadSource, BadWords, BadCert, BadText}
+use Rattle.ags_top.specs.declared.source_texts.SourceText.{SourceText}
 use Rattle.ags_top.specs.Command as command
 use Rattle.ags_top.specs.Command.{line_arguments, AreNoForm}
 use Rattle.ags_top.specs.Files as file
-use Rattle.ags_top.specs.Listing.{listing}
 use Rattle.ags_top.specs.Program.{program, plan_of}
-use Rattle.ags_top.specs.Text.{fault_line, machine_fault_line, script_fault_line}
-use Rattle.ags_top.specs.Work.{Work, IsPlayOf, Makes}
+use Rattle.ags_top.specs.Text.{certificate_fault_line, fault_line, listing_fault_line, machine_fault_line, script_fault_line, verdict_line}
+use Rattle.ags_top.specs.Work.{Work, IsTextOf, IsComparisonOf, IsJudgementOf, IsPlayOf, Makes}
+use Rattle.ags_listing.specs.Listing.{listing}
 
 -- the run ends with that status, unless it stops
 abbrev pub EndsWith : (result status : Status) → Type 0
@@ -41,13 +54,116 @@ abbrev pub IsMachineOf : (told : Told) → Option (List ℕ) → Machine → Typ
 IsMachineOf told None machine = machine ≡ standard_machine
 IsMachineOf told (Some name) machine = (bytes : List ℕ) → told name ≡ Stored bytes → machine_of bytes ≡ Ok machine
 
--- Where the run of `assemble` is done, and the shelf and the sink tell, the sink took exactly the listing of the words that the
--- source defines, by the codes of the machine that the command line is for.
-abbrev pub ListsWhatIsDefined : (told : Told) (arguments : List (List ℕ)) (old new : Option (List ℕ)) → Status → Type 0
-ListsWhatIsDefined told arguments old new result = (name bytes held : List ℕ) (machine_file : Option (List ℕ)) → result ≡ Done
-    → arguments ≡ line_arguments (record { command = command.Assemble name; machine = machine_file }) → told name ≡ Stored bytes → old ≡ Some held
+-- Where a run that writes a text of a source is done, and the shelf and the sink tell, the sink took exactly that text of the words
+-- that the source defines, by the codes of the machine that the command line is for.
+abbrev pub WritesWhatIsDefined : (what : SourceText) (told : Told) (arguments : List (List ℕ)) (old new : Option (List ℕ)) → Status → Type 0
+WritesWhatIsDefined what told arguments old new result = (name bytes held : List ℕ) (machine_file : Option (List ℕ)) → result ≡ Done
+    → arguments ≡ line_arguments (record { command = command.Write what name; machine = machine_file }) → told name ≡ Stored bytes → old ≡ Some held
     → (machine : Machine) × IsMachineOf told machine_file machine
-    × ((defined : List (Option PlacedWord)) × Defines machine.codes bytes defined × (new ≡ Some (held ++ listing bytes defined)))
+    × ((defined : List (Option PlacedWord)) × Defines machine.codes bytes defined
+    × ((text : List ℕ) × IsTextOf what (record { bytes = bytes; defined = defined }) text × (new ≡ Some (held ++ text))))
+
+-- The source defines words, the listing has an image, and this is the text and the status of how they compare.
+pub record IsComparedOn (machine : Machine) (source listing text : List ℕ) (status : Status) : Type 0 where
+  pub defined : List (Option PlacedWord)
+  pub defines : Defines machine.codes source defined
+  pub listed : List (Option ℕ)
+  pub reads : Reads listing listed
+  pub comparison : IsComparisonOf defined listed text status
+
+-- Where the run of `compare` ends with Done or with No, and the shelf and the sink tell, it says how the words that the source
+-- defines compare with those of the listing: they are the same, or there is a least place where they differ.
+abbrev pub ComparesWhatIsDefined : (told : Told) (arguments : List (List ℕ)) (old new : Option (List ℕ)) → Status → Type 0
+ComparesWhatIsDefined told arguments old new result = (source listing source_bytes listing_bytes held : List ℕ) (machine_file : Option (List ℕ))
+    → (result ≡ Done) ⊎ (result ≡ No)
+    → arguments ≡ line_arguments (record { command = command.Compare source listing; machine = machine_file }) → told source ≡ Stored source_bytes → told listing ≡ Stored listing_bytes → old ≡ Some held
+    → (machine : Machine) × IsMachineOf told machine_file machine
+    × ((text : List ℕ) × IsComparedOn machine source_bytes listing_bytes text result × (new ≡ Some (held ++ text)))
+
+-- One image has exactly the words that the source defines, and is what the listing reads as.
+pub record IsOneImage (machine : Machine) (source listing : List ℕ) : Type 0 where
+  pub defined : List (Option PlacedWord)
+  pub defines : Defines machine.codes source defined
+  pub image : List (Option ℕ)
+  pub image_is : IsImageOf (placed_words defined) image
+  pub reads : Reads listing image
+
+-- The headline of `compare`: where its run is done, and the shelf tells, the words that the source defines are those of the listing.
+abbrev pub EqualsWhatIsDefined : (told : Told) (arguments : List (List ℕ)) → Status → Type 0
+EqualsWhatIsDefined told arguments result = (source listing source_bytes listing_bytes : List ℕ) (machine_file : Option (List ℕ)) → result ≡ Done
+    → arguments ≡ line_arguments (record { command = command.Compare source listing; machine = machine_file }) → told source ≡ Stored source_bytes → told listing ≡ Stored listing_bytes
+    → (machine : Machine) × IsMachineOf told machine_file machine × IsOneImage machine source_bytes listing_bytes
+
+-- The source defines words, the text is a certificate for the machine's registers, and this is the text and the status of what comes
+-- of judging it.
+pub record IsJudgedOn (machine : Machine) (source certificate text : List ℕ) (status : Status) : Type 0 where
+  pub defined : List (Option PlacedWord)
+  pub defines : Defines machine.codes source defined
+  pub cert : Stated
+  pub is_cert : IsCertOf machine.ports certificate cert
+  pub judgement : IsJudgementOf machine (record { bytes = source; defined = defined }) cert text status
+
+-- Where the run of `certify` ends with Done or with No, and the shelf and the sink tell, the sink took the listing of the words that
+-- the source defines and the verdict of the certificate for them: certified, or the first item that fails.
+abbrev pub JudgesWhatIsDefined : (told : Told) (arguments : List (List ℕ)) (old new : Option (List ℕ)) → Status → Type 0
+JudgesWhatIsDefined told arguments old new result = (source certificate source_bytes certificate_bytes held : List ℕ) (machine_file : Option (List ℕ))
+    → (result ≡ Done) ⊎ (result ≡ No)
+    → arguments ≡ line_arguments (record { command = command.Certify source certificate; machine = machine_file }) → told source ≡ Stored source_bytes
+    → told certificate ≡ Stored certificate_bytes → old ≡ Some held
+    → (machine : Machine) × IsMachineOf told machine_file machine
+    × ((text : List ℕ) × IsJudgedOn machine source_bytes certificate_bytes text result × (new ≡ Some (held ++ text)))
+
+-- The text is the listing of exactly the words that the source defines, and says that the certificate is certified with the number of
+-- its rows; and of the image of these words every run is safe, over every list of events that the certificate declares.
+pub record IsCertifiedOn (machine : Machine) (source certificate text : List ℕ) : Type 0 where
+  pub defined : List (Option PlacedWord)
+  pub defines : Defines machine.codes source defined
+  pub image : List (Option ℕ)
+  pub image_is : IsImageOf (placed_words defined) image
+  pub cert : Stated
+  pub is_cert : IsCertOf machine.ports certificate cert
+  pub accepted : Accepted value_meaning machine image (certificate_of cert)
+  pub safe : Safe value_meaning machine image (certificate_of cert)
+  pub cases : ℕ
+  pub text_is : text ≡ listing source defined ++ verdict_line (Certified (length cert.rows) cases)
+
+-- The headline: where the run of `certify` is done, and the shelf tells, the words that the source defines are safe in every run; and
+-- where the sink tells, it took their listing and that they are certified.
+abbrev pub CertifiesWhatIsSafe : (told : Told) (arguments : List (List ℕ)) (old new : Option (List ℕ)) → Status → Type 0
+CertifiesWhatIsSafe told arguments old new result = (source certificate source_bytes certificate_bytes : List ℕ) (machine_file : Option (List ℕ)) → result ≡ Done
+    → arguments ≡ line_arguments (record { command = command.Certify source certificate; machine = machine_file }) → told source ≡ Stored source_bytes
+    → told certificate ≡ Stored certificate_bytes
+    → (machine : Machine) × IsMachineOf told machine_file machine
+    × ((text : List ℕ) × IsCertifiedOn machine source_bytes certificate_bytes text × (new ≡ appended old text))
+
+-- The machine that a command line is for is told: the standard one where no file is named, and else that of the file, which is within
+-- its limit.
+abbrev pub TellsMachine : (told : Told) → Option (List ℕ) → Machine → Type 0
+TellsMachine told None machine = machine ≡ standard_machine
+TellsMachine told (Some name) machine = (bytes : List ℕ) × (told name ≡ Stored bytes) × (length bytes ≤ MACHINE_LIMIT) × (machine_of bytes ≡ Ok machine)
+
+-- A source and a certificate are told, within their limits and without a fault, and the certificate is accepted for the words that the
+-- source defines.
+pub record TellsAccepted (told : Told) (machine : Machine) (source certificate : List ℕ) : Type 0 where
+  pub source_bytes : List ℕ
+  pub source_told : told source ≡ Stored source_bytes
+  pub source_short : length source_bytes ≤ SOURCE_LIMIT
+  pub defined : List (Option PlacedWord)
+  pub defines : Defines machine.codes source_bytes defined
+  pub image : List (Option ℕ)
+  pub image_is : IsImageOf (placed_words defined) image
+  pub certificate_bytes : List ℕ
+  pub certificate_told : told certificate ≡ Stored certificate_bytes
+  pub certificate_short : length certificate_bytes ≤ CERT_LIMIT
+  pub cert : Stated
+  pub is_cert : IsCertOf machine.ports certificate_bytes cert
+  pub accepted : Accepted value_meaning machine image (certificate_of cert)
+
+-- Completeness: an accepted certificate over told files is certified, unless the run stops.
+abbrev pub CertifiesAccepted : (told : Told) (arguments : List (List ℕ)) → Status → Type 0
+CertifiesAccepted told arguments result = (source certificate : List ℕ) (machine_file : Option (List ℕ)) (machine : Machine)
+    → arguments ≡ line_arguments (record { command = command.Certify source certificate; machine = machine_file })
+    → TellsMachine told machine_file machine → TellsAccepted told machine source certificate → EndsWith result Done
 
 -- The source defines words, the script has commands for the machine, and the text is their play on these words.
 pub record IsPlayOn (machine : Machine) (source script text : List ℕ) : Type 0 where
@@ -70,6 +186,20 @@ abbrev pub DoneAlways : (told : Told) (arguments : List (List ℕ)) (result : St
 DoneAlways told arguments result = (work : Work) (text : List ℕ) → EndsAt program Tells told (plan_of arguments) (WorkAt work) → Makes work text Done → EndsWith result Done
 
 -- ---- status by status
+
+-- Over files that agree with what the shelf tells, the walk comes to a work whose answer is no, and the sink took its text.
+pub record AnswersNo (told : Told) (arguments : List (List ℕ)) (old new : Option (List ℕ)) : Type 0 where
+  pub work : Work
+  pub text : List ℕ
+  pub ends : EndsAt program Agrees told (plan_of arguments) (WorkAt work)
+  pub makes : Makes work text No
+  pub sent : new ≡ appended old text
+
+-- No comes exactly where the walk comes to a work whose answer is no: a listing has other words than its source, or a certificate is
+-- refused by its verdict
+pub record NoExactly (told : Told) (arguments : List (List ℕ)) (old new : Option (List ℕ)) (result : Status) : Type 0 where
+  pub only : result ≡ No → AnswersNo told arguments old new
+  pub always : (work : Work) (text : List ℕ) → EndsAt program Tells told (plan_of arguments) (WorkAt work) → Makes work text No → EndsWith result No
 
 -- BadWords comes exactly where the arguments are none of the forms
 pub record BadWordsExactly (arguments : List (List ℕ)) (result : Status) : Type 0 where
@@ -123,8 +253,39 @@ pub record ReadsScriptFault (told : Told) (arguments : List (List ℕ)) (old new
   pub faulty : IsFaultyScript machine bytes line kind
   pub sent : new ≡ appended old (script_fault_line (At line kind))
 
--- BadText comes exactly where the walk comes to a script that has a faulty line, whose number and fault are printed
+-- Over files that agree with what the shelf tells, the walk comes to a certificate with that fault for its machine, and the sink took
+-- the fault's line.
+pub record ReadsCertificateFault (told : Told) (arguments : List (List ℕ)) (old new : Option (List ℕ)) : Type 0 where
+  pub machine : Machine
+  pub name : List ℕ
+  pub bytes : List ℕ
+  pub given : IsGiven program Agrees told (plan_of arguments) (file.Certificate machine) name bytes
+  pub short : length bytes ≤ CERT_LIMIT
+  pub line : ℕ
+  pub kind : CertKind
+  pub faulty : IsFaultyCert machine.ports bytes line kind
+  pub sent : new ≡ appended old (certificate_fault_line (certificate.At line kind))
+
+-- BadCert comes exactly where the walk comes to a certificate that has a faulty line, whose number and fault are printed
+pub record BadCertExactly (told : Told) (arguments : List (List ℕ)) (old new : Option (List ℕ)) (result : Status) : Type 0 where
+  pub only : result ≡ BadCert → ReadsCertificateFault told arguments old new
+  pub always : (machine : Machine) (name bytes : List ℕ) (line : ℕ) (kind : CertKind) → IsGiven program Tells told (plan_of arguments) (file.Certificate machine) name bytes
+      → length bytes ≤ CERT_LIMIT → IsFaultyCert machine.ports bytes line kind → EndsWith result BadCert
+
+-- Over files that agree with what the shelf tells, the walk comes to a listing with that fault, and the sink took the fault's line.
+pub record ReadsListingFault (told : Told) (arguments : List (List ℕ)) (old new : Option (List ℕ)) : Type 0 where
+  pub name : List ℕ
+  pub bytes : List ℕ
+  pub given : IsGiven program Agrees told (plan_of arguments) file.Listing name bytes
+  pub short : length bytes ≤ LISTING_LIMIT
+  pub error : ListError
+  pub faulty : IsFaultyListing bytes error
+  pub sent : new ≡ appended old (listing_fault_line error)
+
+-- BadText comes exactly where the walk comes to a listing or a script that has a faulty line, whose number and fault are printed
 pub record BadTextExactly (told : Told) (arguments : List (List ℕ)) (old new : Option (List ℕ)) (result : Status) : Type 0 where
-  pub only : result ≡ BadText → ReadsScriptFault told arguments old new
+  pub only : result ≡ BadText → ReadsScriptFault told arguments old new ⊎ ReadsListingFault told arguments old new
   pub always : (machine : Machine) (name bytes : List ℕ) (line : ℕ) (kind : ScriptKind) → IsGiven program Tells told (plan_of arguments) (file.Script machine) name bytes
       → length bytes ≤ SCRIPT_LIMIT → IsFaultyScript machine bytes line kind → EndsWith result BadText
+  pub always_listing : (name bytes : List ℕ) (error : ListError) → IsGiven program Tells told (plan_of arguments) file.Listing name bytes
+      → length bytes ≤ LISTING_LIMIT → IsFaultyListing bytes error → EndsWith result BadText

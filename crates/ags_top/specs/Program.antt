@@ -4,10 +4,10 @@ use Rattle.ags_plan.specs.Plan.{Definition, Plan, Do, Read}
 use Rattle.ags_ports.specs.declared.machines.Machine.{Machine}
 use Rattle.ags_ports.specs.Machine.{standard_machine}
 use Rattle.ags_top.specs.declared.status.Status.{Status}
-use Rattle.ags_top.specs.Command.{Command, Assemble, Run, CommandLine, line_of}
-use Rattle.ags_top.specs.Files.{Kind, MachineFile, Source, Script, Value, limit_of, Holds, Refuses, refused_status}
+use Rattle.ags_top.specs.Command.{Command, Write, Compare, Certify, Run, CommandLine, line_of}
+use Rattle.ags_top.specs.Files.{Kind, MachineFile, Source, Listing, Certificate, Script, Value, limit_of, Holds, Refuses, refused_status}
 use Rattle.ags_top.specs.Status.{cause_of, stop_status}
-use Rattle.ags_top.specs.Work.{Work, NoForm, ListSource, PlayScript, Makes}
+use Rattle.ags_top.specs.Work.{Work, NoForm, WriteText, CompareImages, JudgeCertificate, PlayScript, Makes}
 
 -- the program's kinds of files, its works and its statuses
 abbrev pub program : Definition Status
@@ -26,7 +26,11 @@ program = record {
 
 -- what a command reads, in this order, and does, on a machine
 abbrev pub command_plan : Machine → Command → Plan program
-command_plan machine (Assemble source) = Read (Source machine) source (λ assembly. Do (ListSource assembly))
+command_plan machine (Write text source) = Read (Source machine) source (λ assembly. Do (WriteText text assembly))
+command_plan machine (Compare source listing) =
+    Read (Source machine) source (λ assembly. Read Listing listing (λ listed. Do (CompareImages assembly.defined listed)))
+command_plan machine (Certify source certificate) =
+    Read (Source machine) source (λ assembly. Read (Certificate machine) certificate (λ cert. Do (JudgeCertificate machine assembly cert)))
 command_plan machine (Run source script) =
     Read (Source machine) source (λ assembly. Read (Script machine) script (λ commands. Do (PlayScript machine assembly.defined commands)))
 

@@ -1,5 +1,5 @@
 -- That the program's definition is lawful: its files mean one thing each, and its works make one text each.
-use Rattle.std.specs.Prelude.{◌≡◌, ◌≢◌, ◌⊎◌, ℕ, List, Option, Some, None, Result, Ok, Err}
+use Rattle.std.specs.Prelude.{◌≡◌, ◌≢◌, ◌⊎◌, ℕ, ◌++◌, List, Option, Some, None, Result, Ok, Err}
 use Rattle.std.proofs.Common.{refl, sym, ap, subst, ◌∙◌, inl, inr}
 use Rattle.ags_plan.specs.declared.causes.Cause.TheVariants as cause
 use Rattle.ags_plan.specs.Plan.{WorkAt}
@@ -7,6 +7,31 @@ use Rattle.ags_plan.specs.Walk.{Told, Agrees, EndsAt, LeadsTo}
 use Rattle.ags_plan.proofs.WorkLemmas.{way_to_work}
 use Rattle.ags_plan.specs.Lawful.{AreReadable, AreDoable, AreApart, IsLawful}
 use Rattle.ags_places.specs.declared.source_error.SourceError.{SourceError}
+use Rattle.ags_places.specs.Deck.{cards}
+use Rattle.ags_places.proofs.RunningLemmas.{some_fits, fits_one}
+use Rattle.ags_cert.specs.Cert.{Stated, certificate_of}
+use Rattle.ags_certread.proofs.TextLaws as cert
+use Rattle.ags_certtext.specs.Text.{IsCertOf}
+use Rattle.ags_certtext.specs.declared.cert_error.CertKind.{CertKind}
+use Rattle.ags_certtext.specs.declared.cert_error.CertError.TheVariants as certificate
+use Rattle.ags_domain.specs.Value.{value_meaning}
+use Rattle.ags_domain.specs.MeaningLaws.{value_lawful}
+use Rattle.ags_domain.specs.declared.values.Value.{Value as Words}
+use Rattle.ags_verdict.specs.Verdict.{IsVerdict}
+use Rattle.ags_verdict.specs.declared.verdicts.Verdict.{Verdict}
+use Rattle.ags_verdict.specs.declared.verdicts.Verdict.TheVariants.{Certified, Refused}
+use Rattle.ags_verdict.proofs.VerdictLemmas.{verdict_one}
+use Rattle.ags_answered.proofs.VerdictLemmas.{some_verdict}
+use Rattle.ags_compare.specs.declared.comparing.Compared.{Compared}
+use Rattle.ags_compare.specs.declared.comparing.Compared.TheVariants.{Equal, Differs}
+use Rattle.ags_compare.specs.Comparison.{IsComparison}
+use Rattle.ags_compare.proofs.ComparisonLemmas.{one_comparison, some_comparison}
+use Rattle.ags_listing.specs.declared.list_error.ListError.{ListError}
+use Rattle.ags_listing.specs.Listing.{listing}
+use Rattle.ags_listing.specs.Reads.{Reads}
+use Rattle.ags_listing.proofs.MeaningLemmas as listed
+use Rattle.ags_tape.specs.Tape.{tape_text}
+use Rattle.ags_xref.specs.Xref.{xref_text}
 use Rattle.ags_asm.specs.Source.{Defines, placed_words}
 use Rattle.ags_asm.proofs.ApartLemmas.{each_place_once}
 use Rattle.ags_asm.proofs.MeaningLemmas as source
@@ -28,14 +53,15 @@ use Rattle.ags_run.specs.Played.{Plays}
 use Rattle.ags_run.proofs.PlayLemmas.{one_play, play_runs, some_play}
 use Rattle.ags_run.proofs.ScriptLemmas as script
 use Rattle.ags_top.specs.declared.status.Status.{Status}
-use Rattle.ags_top.specs.declared.status.Status.TheVariants.{Done, BadWords, LongFile}
-use Rattle.ags_top.specs.Command.{Command, Assemble, Run, CommandLine, line_of}
-use Rattle.ags_top.specs.Files.{Kind, MachineFile, Source, Script, Assembly, Value, HoldsSource, Holds, Refuses, refused_status}
-use Rattle.ags_top.specs.Listing.{listing}
+use Rattle.ags_top.specs.declared.status.Status.TheVariants.{Done, No, BadWords, LongFile}
+use Rattle.ags_top.specs.declared.source_texts.SourceText.{SourceText}
+use Rattle.ags_top.specs.declared.source_texts.SourceText.TheVariants as what
+use Rattle.ags_top.specs.Command.{Command, Write, Compare, Certify, Run, CommandLine, line_of}
+use Rattle.ags_top.specs.Files.{Kind, MachineFile, Source, Listing, Certificate, Script, Assembly, Value, HoldsSource, Holds, Refuses, refused_status}
 use Rattle.ags_top.specs.Program.{program, command_plan, plan_on, asked_plan, plan_of}
 use Rattle.ags_top.specs.Status.{cause_of}
-use Rattle.ags_top.specs.Text.{words_line, fault_line, machine_fault_line, script_fault_line}
-use Rattle.ags_top.specs.Work.{Work, NoForm, ListSource, PlayScript, IsPlayOf, Makes}
+use Rattle.ags_top.specs.Text.{words_line, certificate_fault_line, fault_line, listing_fault_line, machine_fault_line, script_fault_line, compared_line, verdict_line}
+use Rattle.ags_top.specs.Work.{Work, NoForm, WriteText, CompareImages, JudgeCertificate, PlayScript, IsTextOf, IsComparisonOf, IsJudgementOf, IsPlayOf, compared_status, verdict_status, Makes}
 
 -- ---- files
 
@@ -54,6 +80,14 @@ some_reading (Source machine) bytes = elim (source.each_means machine.codes byte
   | inl (defined, defines) ↦ inl (record { bytes = bytes; defined = defined }, record { bytes_are = refl; defines = defines })
   | inr (error, faulty) ↦ inr (fault_line error, record { error = error; faulty = faulty; line_is = refl })
 ]
+some_reading Listing bytes = elim (listed.each_listing_means bytes) [
+  | inl (image, reads) ↦ inl (image, reads)
+  | inr (error, faulty) ↦ inr (listing_fault_line error, record { error = error; faulty = faulty; line_is = refl })
+]
+some_reading (Certificate machine) bytes = elim (cert.each_text_means machine.ports bytes) [
+  | inl (stated, is) ↦ inl (stated, is)
+  | inr (number, kind, faulty) ↦ inr (certificate_fault_line (certificate.At number kind), record { number = number; kind = kind; faulty = faulty; line_is = refl })
+]
 some_reading (Script machine) bytes = elim (script.script_or_faulty machine bytes) [
   | inl (commands, is) ↦ inl (commands, is)
   | inr (number, kind, faulty) ↦ inr (script_fault_line (At number kind), record { number = number; kind = kind; faulty = faulty; line_is = refl })
@@ -68,11 +102,19 @@ one_assembly order_codes bytes one other first second =
 one_reading : (kind : Kind) (bytes : List ℕ) (one other : Value kind) → Holds kind bytes one → Holds kind bytes other → one ≡ other
 one_reading MachineFile bytes one other first second = cc
 one_reading (Source machine) bytes one other first second = one_assembly machine.codes bytes one other first second
+one_reading Listing bytes one other first second = listed.one_listing bytes one other first second
+one_reading (Certificate machine) bytes one other first second = cert.one_cert_of machine.ports bytes one other first second
 one_reading (Script machine) bytes one other first second = script.one_script machine bytes one other first second
 
 -- the lines of two faults that are one
 same_line : (line other : ℕ) (kind another : ScriptKind) → line ≡ other → kind ≡ another → script_fault_line (At line kind) ≡ script_fault_line (At other another)
 same_line line other kind another lines kinds = ap (λ (n : ℕ). script_fault_line (At n kind)) lines ∙ ap (λ (k : ScriptKind). script_fault_line (At other k)) kinds
+
+-- the lines of two faults of certificates that are one
+same_certificate_line : (line other : ℕ) (kind another : CertKind) → line ≡ other → kind ≡ another
+    → certificate_fault_line (certificate.At line kind) ≡ certificate_fault_line (certificate.At other another)
+same_certificate_line line other kind another lines kinds =
+    ap (λ (n : ℕ). certificate_fault_line (certificate.At n kind)) lines ∙ ap (λ (k : CertKind). certificate_fault_line (certificate.At other k)) kinds
 
 one_refusal : (kind : Kind) (bytes line other : List ℕ) → Refuses kind bytes line → Refuses kind bytes other → line ≡ other
 one_refusal MachineFile bytes line other first second =
@@ -80,6 +122,11 @@ one_refusal MachineFile bytes line other first second =
     first.line_is ∙ ap (λ (e : MachError). machine_fault_line e) same ∙ sym second.line_is
 one_refusal (Source machine) bytes line other first second =
     first.line_is ∙ ap (λ (e : SourceError). fault_line e) (source.one_fault bytes first.error second.error first.faulty second.faulty) ∙ sym second.line_is
+one_refusal Listing bytes line other first second =
+    first.line_is ∙ ap (λ (e : ListError). listing_fault_line e) (listed.one_fault bytes first.error second.error first.faulty second.faulty) ∙ sym second.line_is
+one_refusal (Certificate machine) bytes line other first second =
+    let same = cert.one_fault_of machine.ports bytes first.number second.number first.kind second.kind first.faulty second.faulty in
+    first.line_is ∙ same_certificate_line first.number second.number first.kind second.kind same.0 same.1 ∙ sym second.line_is
 one_refusal (Script machine) bytes line other first second =
     let same = script.one_fault machine bytes first.number second.number first.kind second.kind first.faulty second.faulty in
     first.line_is ∙ same_line first.number second.number first.kind second.kind same.0 same.1 ∙ sym second.line_is
@@ -87,6 +134,8 @@ one_refusal (Script machine) bytes line other first second =
 not_both : (kind : Kind) (bytes line : List ℕ) (value : Value kind) → Holds kind bytes value → Refuses kind bytes line → ⊥
 not_both MachineFile bytes line machine holds refuses = let faulty = refuses.faulty in absurd cc
 not_both (Source machine) bytes line assembly holds refuses = source.not_both machine.codes bytes assembly.defined refuses.error holds.defines refuses.faulty
+not_both Listing bytes line image reads refuses = listed.not_both bytes image refuses.error reads refuses.faulty
+not_both (Certificate machine) bytes line stated is refuses = cert.never_both machine.ports bytes stated refuses.number refuses.kind is refuses.faulty
 not_both (Script machine) bytes line commands is refuses = script.not_faulty machine bytes commands refuses.number refuses.kind is refuses.faulty
 
 are_readable : AreReadable program
@@ -99,19 +148,30 @@ are_readable = record {
 
 -- ---- works
 
--- what is so of a work in which a walk ends: its machine is one, and its words are a source's
+-- the words are a source's, by some table of codes
+AreWordsOfSource : List (Option PlacedWord) → Type 0
+AreWordsOfSource defined = (order_codes : List ℕ) × AreCodes order_codes × ((bytes : List ℕ) × Defines order_codes bytes defined)
+
+-- what is so of a work in which a walk ends: its machine is one, its words are a source's, and a listing's image is read of its bytes
 IsAskedFor : Work → Type 0
 IsAskedFor NoForm = Unit {0}
-IsAskedFor (ListSource assembly) = Unit {0}
-IsAskedFor (PlayScript machine defined commands) = IsMachine machine × ((bytes : List ℕ) × Defines machine.codes bytes defined)
+IsAskedFor (WriteText text assembly) = AreWordsOfSource assembly.defined
+IsAskedFor (CompareImages defined listed) = AreWordsOfSource defined × ((bytes : List ℕ) × Reads bytes listed)
+IsAskedFor (JudgeCertificate machine assembly stated) = IsMachine machine × AreWordsOfSource assembly.defined × ((bytes : List ℕ) × IsCertOf machine.ports bytes stated)
+IsAskedFor (PlayScript machine defined commands) = IsMachine machine × AreWordsOfSource defined
 
 -- of the work that a command leads to, and it isn't the one that says that the arguments are no form
 asked_on_way : (told : Told) (machine : Machine) (command : Command) (work : Work) → IsMachine machine
     → LeadsTo program Agrees told (command_plan machine command) work → IsAskedFor work × (work ≢ NoForm)
-unfolding IsAskedFor
-asked_on_way told machine (Assemble name) work is (assembly, sees, same) = (subst IsAskedFor same tt, λ none. absurd cc)
+unfolding IsAskedFor AreWordsOfSource
+asked_on_way told machine (Write text name) work is (assembly, (bytes, agrees, holds), same) =
+    (subst IsAskedFor same (machine.codes, is.codes, (bytes, holds.holds.defines)), λ none. absurd cc)
+asked_on_way told machine (Compare name listing) work is (assembly, (bytes, agrees, holds), (listed, (there, seen, has), same)) =
+    (subst IsAskedFor same ((machine.codes, is.codes, (bytes, holds.holds.defines)), (there, has.holds)), λ none. absurd cc)
+asked_on_way told machine (Certify name certificate) work is (assembly, (bytes, agrees, holds), (stated, (there, seen, has), same)) =
+    (subst IsAskedFor same (is, (machine.codes, is.codes, (bytes, holds.holds.defines)), (there, has.holds)), λ none. absurd cc)
 asked_on_way told machine (Run name script) work is (assembly, (bytes, agrees, holds), (commands, seen, same)) =
-    (subst IsAskedFor same (is, (bytes, holds.holds.defines)), λ none. absurd cc)
+    (subst IsAskedFor same (is, (machine.codes, is.codes, (bytes, holds.holds.defines))), λ none. absurd cc)
 
 -- the same, of the work that a command line leads to
 asked_by_line : (told : Told) (machine : Option (List ℕ)) (command : Command) (work : Work)
@@ -131,16 +191,64 @@ asked_by told None work end = let same : work ≡ NoForm = cc in subst IsAskedFo
 asked_by told (Some line) work ends = (asked_by_line told line.machine line.command work (way_to_work program Agrees told (asked_plan (Some line)) work ends)).0
 
 -- words of a source have an image
-some_image_of : (order_codes bytes : List ℕ) (defined : List (Option PlacedWord)) → AreCodes order_codes → Defines order_codes bytes defined → (image : List (Option ℕ)) × IsImageOf (placed_words defined) image
-some_image_of order_codes bytes defined are defines =
+some_image_of : (defined : List (Option PlacedWord)) → AreWordsOfSource defined → (image : List (Option ℕ)) × IsImageOf (placed_words defined) image
+unfolding AreWordsOfSource
+some_image_of defined (order_codes, are, (bytes, defines)) =
     some_image (placed_words defined) (words_of_memory order_codes bytes defined are defines) (one_word_a_place (placed_words defined) (each_place_once order_codes bytes defined defines))
+
+-- a source has each text
+some_text : (text : SourceText) (assembly : Assembly) → AreWordsOfSource assembly.defined → (written : List ℕ) × IsTextOf text assembly written
+some_text what.Listing assembly are = (listing assembly.bytes assembly.defined, refl)
+some_text what.Tape assembly are = let (image, image_is) = some_image_of assembly.defined are in (tape_text image, (image, image_is, refl))
+some_text what.CrossReference assembly are =
+    let (symbols, fits) = some_fits (cards assembly.bytes) in (xref_text assembly.bytes symbols, (symbols, fits, refl))
+
+-- and one of each
+one_text : (text : SourceText) (assembly : Assembly) (written other : List ℕ) → IsTextOf text assembly written → IsTextOf text assembly other → written ≡ other
+one_text what.Listing assembly written other first second = first ∙ sym second
+one_text what.Tape assembly written other (image, image_is, is) (another, too, also) =
+    is ∙ ap tape_text (one_image (placed_words assembly.defined) image another image_is too) ∙ sym also
+one_text what.CrossReference assembly written other (symbols, fits, is) (others, fit, also) =
+    is ∙ ap (xref_text assembly.bytes) (fits_one symbols others (cards assembly.bytes) fits fit) ∙ sym also
+
+-- words of a source and a listing compare in one way
+one_comparison_of : (defined : List (Option PlacedWord)) (listed : List (Option ℕ)) (text other : List ℕ) (status ended : Status)
+    → IsComparisonOf defined listed text status → IsComparisonOf defined listed other ended → (text ≡ other) × (status ≡ ended)
+one_comparison_of defined listed text other status ended first second =
+    let same = one_image (placed_words defined) first.image second.image first.image_is second.image_is in
+    let compares : IsComparison first.image listed second.compared = subst (λ (i : List (Option ℕ)). IsComparison i listed second.compared) (sym same) second.comparison in
+    let one = one_comparison first.image listed first.compared second.compared first.comparison compares in
+    (first.text_is ∙ ap compared_line one ∙ sym second.text_is, first.status_is ∙ ap compared_status one ∙ sym second.status_is)
+
+-- words of a source and a certificate are judged in one way
+one_judgement_of : (machine : Machine) (assembly : Assembly) (stated : Stated) (text other : List ℕ) (status ended : Status) → IsMachine machine
+    → IsJudgementOf machine assembly stated text status → IsJudgementOf machine assembly stated other ended → (text ≡ other) × (status ≡ ended)
+one_judgement_of machine assembly stated text other status ended is first second =
+    let same = one_image (placed_words assembly.defined) first.image second.image first.image_is second.image_is in
+    let judged : IsVerdict value_meaning machine first.image (certificate_of stated) second.verdict =
+    subst (λ (i : List (Option ℕ)). IsVerdict value_meaning machine i (certificate_of stated) second.verdict) (sym same) second.is_verdict in
+    let one = verdict_one value_meaning machine first.image (certificate_of stated) value_lawful is first.verdict second.verdict first.is_verdict judged in (
+      first.text_is ∙ ap (λ (v : Verdict Words). listing assembly.bytes assembly.defined ++ verdict_line v) one ∙ sym second.text_is,
+      first.status_is ∙ ap verdict_status one ∙ sym second.status_is,
+    )
 
 some_making : (work : Work) → IsAskedFor work → (text : List ℕ) × (status : Status) × Makes work text status
 unfolding IsAskedFor
 some_making NoForm asked = (words_line, BadWords, (refl, refl))
-some_making (ListSource assembly) asked = (listing assembly.bytes assembly.defined, Done, (refl, refl))
-some_making (PlayScript machine defined commands) (is, (bytes, defines)) =
-    let (image, image_is) = some_image_of machine.codes bytes defined is.codes defines in
+some_making (WriteText what assembly) asked = let (text, is) = some_text what assembly asked in (text, Done, (is, refl))
+some_making (CompareImages defined listed) (are, (bytes, reads)) =
+    let (image, image_is) = some_image_of defined are in
+    let (compared, is) = some_comparison image listed in
+    (compared_line compared, compared_status compared, record { image = image; image_is = image_is; compared = compared; comparison = is; text_is = refl; status_is = refl })
+some_making (JudgeCertificate machine assembly stated) (is, are, (bytes, of)) =
+    let (image, image_is) = some_image_of assembly.defined are in
+    let (verdict, is_verdict) = some_verdict machine image (certificate_of stated) is image_is.is_image in (
+      listing assembly.bytes assembly.defined ++ verdict_line verdict,
+      verdict_status verdict,
+      record { image = image; image_is = image_is; verdict = verdict; is_verdict = is_verdict; text_is = refl; status_is = refl },
+    )
+some_making (PlayScript machine defined commands) (is, are) =
+    let (image, image_is) = some_image_of defined are in
     let (events, text, plays) = some_play machine (start_state machine image 0o4000) commands in
     let (moments, run) = play_runs machine (start_state machine image 0o4000) commands events text plays in
     (text, Done, (record { image = image; image_is = image_is; events = events; moments = moments; run = run; plays = plays }, refl))
@@ -157,7 +265,9 @@ one_play_of machine defined commands text other is first second =
 one_making : (work : Work) (text other : List ℕ) (status ended : Status) → IsAskedFor work → Makes work text status → Makes work other ended → (text ≡ other) × (status ≡ ended)
 unfolding IsAskedFor
 one_making NoForm text other status ended asked first second = (first.0 ∙ sym second.0, first.1 ∙ sym second.1)
-one_making (ListSource assembly) text other status ended asked first second = (first.0 ∙ sym second.0, first.1 ∙ sym second.1)
+one_making (WriteText what assembly) text other status ended asked first second = (one_text what assembly text other first.0 second.0, first.1 ∙ sym second.1)
+one_making (CompareImages defined listed) text other status ended asked first second = one_comparison_of defined listed text other status ended first second
+one_making (JudgeCertificate machine assembly stated) text other status ended asked first second = one_judgement_of machine assembly stated text other status ended asked.0 first second
 one_making (PlayScript machine defined commands) text other status ended asked first second =
     (one_play_of machine defined commands text other asked.0 first.0 second.0, first.1 ∙ sym second.1)
 
@@ -170,19 +280,33 @@ are_doable = record {
 -- ---- statuses
 
 -- the statuses that works come with
-IsWorkStatus : Status → Type 0
+unfoldable pub IsWorkStatus : Status → Type 0
 IsWorkStatus Done = Unit {0}
+IsWorkStatus No = Unit {0}
 IsWorkStatus BadWords = Unit {0}
 IsWorkStatus _ = ⊥
 
+compared_work : (compared : Compared) → IsWorkStatus (compared_status compared)
+unfolding IsWorkStatus
+compared_work Equal = tt
+compared_work (Differs location left right) = tt
+
+judged_work : (verdict : Verdict Words) → IsWorkStatus (verdict_status verdict)
+unfolding IsWorkStatus
+judged_work (Certified rows cases) = tt
+judged_work (Refused refusal) = tt
+
 made_status : (work : Work) (text : List ℕ) (status : Status) → Makes work text status → IsWorkStatus status
 unfolding IsWorkStatus
+made_status (JudgeCertificate machine assembly stated) text status made = subst IsWorkStatus (sym made.status_is) (judged_work made.verdict)
+made_status (CompareImages defined listed) text status made = subst IsWorkStatus (sym made.status_is) (compared_work made.compared)
 made_status NoForm text status made = subst IsWorkStatus (sym made.1) tt
 made_status _ text status made = subst IsWorkStatus (sym made.1) tt
 
 work_status_of_content : (status : Status) → IsWorkStatus status → cause_of status ≡ cause.Content
 unfolding IsWorkStatus
 work_status_of_content Done is = refl
+work_status_of_content No is = refl
 work_status_of_content BadWords is = refl
 work_status_of_content _ is = absurd is
 
@@ -190,20 +314,26 @@ not_long_work : IsWorkStatus LongFile → ⊥
 unfolding IsWorkStatus
 not_long_work is = is
 
-not_refused_work : (kind : Kind) → IsWorkStatus (refused_status kind) → ⊥
+pub not_refused_work : (kind : Kind) → IsWorkStatus (refused_status kind) → ⊥
 unfolding IsWorkStatus
 not_refused_work MachineFile is = is
 not_refused_work (Source machine) is = is
+not_refused_work Listing is = is
+not_refused_work (Certificate machine) is = is
 not_refused_work (Script machine) is = is
 
 refused_of_content : (kind : Kind) → cause_of (refused_status kind) ≡ cause.Content
 refused_of_content MachineFile = refl
 refused_of_content (Source machine) = refl
+refused_of_content Listing = refl
+refused_of_content (Certificate machine) = refl
 refused_of_content (Script machine) = refl
 
 refused_not_long : (kind : Kind) → refused_status kind ≢ LongFile
 refused_not_long MachineFile = λ is. absurd cc
 refused_not_long (Source machine) = λ is. absurd cc
+refused_not_long Listing = λ is. absurd cc
+refused_not_long (Certificate machine) = λ is. absurd cc
 refused_not_long (Script machine) = λ is. absurd cc
 
 are_apart : AreApart program

@@ -1,11 +1,14 @@
 -- What clauses see of the program's own values.
-use Rattle.std.specs.Prelude.{◌≡◌, ℕ, ◌≤◌, List, All, length, map, option_map, Err}
-use Rattle.ags_places.specs.declared.placed.Placed.{Placed}
-use Rattle.ags_places.specs.declared.sources.TheConstants.{SOURCE_LIMIT}
-use Rattle.ags_places.specs.Deck.{card_lines}
+use Rattle.std.specs.Prelude.{◌≡◌, ℕ, List, map, option_map, Err}
 use Rattle.ags_asm.specs.declared.assembling.Assembled.{Assembled}
-use Rattle.ags_asm.specs.Source.{AreSpans, Defines, IsFaulty, defined, placed_cards, placed_words}
+use Rattle.ags_asm.specs.Source.{Defines, IsAssembled, IsFaulty, defined, placed_words}
 use Rattle.ags_image.specs.Image.{IsImageOf}
+use Rattle.ags_certtext.specs.Text as certificate
+use Rattle.ags_certtext.specs.declared.cert_error.CertError.{CertError}
+use Rattle.ags_certtext.specs.declared.cert_error.CertError.TheVariants as fault
+use Rattle.ags_ports.specs.declared.machines.Machine.{Machine}
+use Rattle.ags_listing.specs.Listing.{AreCardsOf}
+use Rattle.ags_listing.specs.Reads.{IsFaultyListing}
 use Rattle.ags_machfile.specs.MachineFile.{machine_of}
 use Rattle.ags_plan.specs.declared.unloaded.Unloaded.{Unloaded}
 use Rattle.ags_plan.specs.declared.unloaded.Unloaded.TheVariants.{Refused, NoMemory}
@@ -17,17 +20,19 @@ use Rattle.ags_top.specs.declared.files.SourceFile.{SourceFile}
 use Rattle.ags_top.specs.declared.refusal.Refusal.{Refusal}
 use Rattle.ags_top.specs.declared.refusal.Refusal.TheVariants as refusal
 use Rattle.ags_top.specs.declared.status.Status.{Status}
-use Rattle.ags_top.specs.declared.status.Status.TheVariants.{BadMachine, BadSource, BadText}
+use Rattle.ags_top.specs.declared.status.Status.TheVariants.{BadMachine, BadSource, BadCert, BadText}
 use Rattle.ags_top.specs.declared.works.Work.{Work}
 use Rattle.ags_top.specs.declared.works.Work.TheVariants as loaded
 use Rattle.ags_top.specs.Command as asked
 use Rattle.ags_top.specs.Files.{Assembly}
-use Rattle.ags_top.specs.Text.{fault_line, machine_fault_line, script_fault_line}
+use Rattle.ags_top.specs.Text.{certificate_fault_line, fault_line, listing_fault_line, machine_fault_line, script_fault_line}
 use Rattle.ags_top.specs.Work as work
 
 -- a command without where its names lie in memory
 abbrev pub command_view : Command → asked.Command
-command_view (named.Assemble source) = asked.Assemble source.now
+command_view (named.Write text source) = asked.Write text source.now
+command_view (named.Compare source listing) = asked.Compare source.now listing.now
+command_view (named.Certify source certificate) = asked.Certify source.now certificate.now
 command_view (named.Run source script) = asked.Run source.now script.now
 
 -- and a command line
@@ -41,14 +46,10 @@ assembly_of source = record { bytes = source.bytes.items; defined = map defined 
 -- a work without where it lies in memory
 abbrev pub work_of : Work → work.Work
 work_of loaded.NoForm = work.NoForm
-work_of (loaded.ListSource source) = work.ListSource (assembly_of source)
+work_of (loaded.WriteText text source) = work.WriteText text (assembly_of source)
+work_of (loaded.CompareImages made listed) = work.CompareImages (map defined made.cards.items) listed
+work_of (loaded.JudgeCertificate machine source cert) = work.JudgeCertificate machine (assembly_of source) cert
 work_of (loaded.PlayScript machine made commands) = work.PlayScript machine (map defined made.cards.items) commands.items
-
--- The cards are those of the source's lines, which is within its limit.
-pub record AreCardsOf (bytes : List ℕ) (placed : List Placed) : Type 0 where
-  pub short : length bytes ≤ SOURCE_LIMIT
-  pub spans : AreSpans 0 (length bytes) placed
-  pub cards_are : placed ≡ placed_cards (card_lines bytes) (map defined placed)
 
 -- the image has exactly the words of the cards
 abbrev pub HasImage : Assembled → Type 0
@@ -57,6 +58,7 @@ HasImage made = IsImageOf (placed_words (map defined made.cards.items)) made.ima
 -- what was made of a source by the table of codes
 pub record IsSourceRead (order_codes bytes : List ℕ) (made : Assembled) : Type 0 where
   pub cards : AreCardsOf bytes made.cards.items
+  pub assembled : IsAssembled order_codes bytes made.cards.items made.symbols made.image
   pub defines : Defines order_codes bytes (map defined made.cards.items)
   pub image : HasImage made
 
@@ -66,26 +68,53 @@ IsSourceUnread bytes (Refused (refusal.Source error)) = IsFaulty bytes error
 IsSourceUnread bytes NoMemory = Unit {0}
 IsSourceUnread bytes _ = ⊥
 
+-- why the bytes are no listing that was read: its first fault, or want of memory
+abbrev pub IsListingUnread : (bytes : List ℕ) → Unloaded Refusal → Type 0
+IsListingUnread bytes (Refused (refusal.Listing error)) = IsFaultyListing bytes error
+IsListingUnread bytes NoMemory = Unit {0}
+IsListingUnread bytes _ = ⊥
+
+-- the error tells a fault, and not want of memory
+abbrev pub IsFault : CertError → Type 0
+IsFault (fault.At line kind) = Unit {0}
+IsFault fault.NoMemory = ⊥
+
+-- why the bytes are no certificate for the machine that was read: its first fault, or want of memory
+abbrev pub IsCertificateUnread : Machine → (bytes : List ℕ) → Unloaded Refusal → Type 0
+IsCertificateUnread machine bytes (Refused (refusal.Certificate error)) = certificate.IsRefused machine.ports bytes error × IsFault error
+IsCertificateUnread machine bytes NoMemory = Unit {0}
+IsCertificateUnread machine bytes _ = ⊥
+
 -- why the bytes are no machine file that was read: the first test that they fail, or want of memory
 abbrev pub IsMachineUnread : (bytes : List ℕ) → Unloaded Refusal → Type 0
 IsMachineUnread bytes (Refused (refusal.Machine error)) = machine_of bytes ≡ Err error
 IsMachineUnread bytes NoMemory = Unit {0}
 IsMachineUnread bytes _ = ⊥
 
+-- a source that was read by some table of codes
+abbrev pub IsReadSource : SourceFile → Type 0
+IsReadSource source = (order_codes : List ℕ) × IsSourceRead order_codes source.bytes.items source.made
+
 -- what is so of a work that was loaded
 abbrev pub IsReady : Work → Type 0
 IsReady loaded.NoForm = Unit {0}
-IsReady (loaded.ListSource source) = AreCardsOf source.bytes.items source.made.cards.items
+IsReady (loaded.WriteText text source) = IsReadSource source
+IsReady (loaded.CompareImages made listed) = HasImage made
+IsReady (loaded.JudgeCertificate machine source cert) = IsReadSource source
 IsReady (loaded.PlayScript machine made commands) = HasImage made × IsPlayable machine commands.items
 
 -- the line of a refusal
 abbrev pub line_of : Refusal → List ℕ
 line_of (refusal.Machine error) = machine_fault_line error
 line_of (refusal.Source error) = fault_line error
+line_of (refusal.Listing error) = listing_fault_line error
+line_of (refusal.Certificate error) = certificate_fault_line error
 line_of (refusal.Script error) = script_fault_line error
 
 -- the status of a refusal
 abbrev pub status_of : Refusal → Status
 status_of (refusal.Machine error) = BadMachine
 status_of (refusal.Source error) = BadSource
+status_of (refusal.Listing error) = BadText
+status_of (refusal.Certificate error) = BadCert
 status_of (refusal.Script error) = BadText

@@ -6,11 +6,32 @@ ghost use Rattle.std.specs.String.{string_bytes};
 ghost use Rattle.ags_top.specs.Command as asked;
 ghost use Rattle.ags_top.specs.Views.{command_view, line_view};
 
+use crate::source_texts::SourceText;
+
 /// What is done.
 #[derive(Clone, Copy)]
 pub(crate) enum Command<'a> {
-    /// The listing of the source of this name.
-    Assemble(&'a str),
+    /// A text of a source.
+    Write {
+        /// The text.
+        text: SourceText,
+        /// The name of the source.
+        source: &'a str,
+    },
+    /// Whether the words of a source are those of a listing.
+    Compare {
+        /// The name of the source.
+        source: &'a str,
+        /// The name of the listing.
+        listing: &'a str,
+    },
+    /// Whether a certificate is accepted for the words of a source.
+    Certify {
+        /// The name of the source.
+        source: &'a str,
+        /// The name of the certificate.
+        certificate: &'a str,
+    },
     /// What a script shows of the machine that begins with a source's words.
     Run {
         /// The name of the source.
@@ -46,12 +67,50 @@ fn line_with<'a>(command: Command<'a>, behind: &'a [String]) -> Option<CommandLi
     }
 }
 
-/// What `assemble` and these names ask for.
-fn read_assemble(names: &[String]) -> Option<CommandLine<'_>>
-    ensures { option_map line_view result ≡ asked.one_name asked.Assemble (map string_bytes names.now) }
+/// What the verb of a source's text and these names ask for.
+fn read_write(text: SourceText, names: &[String]) -> Option<CommandLine<'_>>
+    ensures { option_map line_view result ≡ asked.one_name (asked.Write text) (map string_bytes names.now) }
 {
     match names {
-        [source, behind @ ..] => line_with(Command::Assemble(source.as_str()), behind),
+        [source, behind @ ..] => line_with(
+            Command::Write {
+                text,
+                source: source.as_str(),
+            },
+            behind,
+        ),
+        _ => None,
+    }
+}
+
+/// What `compare` and these names ask for.
+fn read_compare(names: &[String]) -> Option<CommandLine<'_>>
+    ensures { option_map line_view result ≡ asked.two_names asked.Compare (map string_bytes names.now) }
+{
+    match names {
+        [source, listing, behind @ ..] => line_with(
+            Command::Compare {
+                source: source.as_str(),
+                listing: listing.as_str(),
+            },
+            behind,
+        ),
+        _ => None,
+    }
+}
+
+/// What `certify` and these names ask for.
+fn read_certify(names: &[String]) -> Option<CommandLine<'_>>
+    ensures { option_map line_view result ≡ asked.two_names asked.Certify (map string_bytes names.now) }
+{
+    match names {
+        [source, certificate, behind @ ..] => line_with(
+            Command::Certify {
+                source: source.as_str(),
+                certificate: certificate.as_str(),
+            },
+            behind,
+        ),
         _ => None,
     }
 }
@@ -77,7 +136,11 @@ fn read_names<'a>(verb: &str, names: &'a [String]) -> Option<CommandLine<'a>>
     ensures { option_map line_view result ≡ asked.line_named asked.forms verb.now (map string_bytes names.entry.now) }
 {
     match verb {
-        "assemble" => read_assemble(names),
+        "assemble" => read_write(SourceText::Listing, names),
+        "compare" => read_compare(names),
+        "tape" => read_write(SourceText::Tape, names),
+        "xref" => read_write(SourceText::CrossReference, names),
+        "certify" => read_certify(names),
         "run" => read_run(names),
         _ => None,
     }

@@ -1,24 +1,29 @@
 //! The program's one call: from the arguments of a command line to a status and the bytes that are written, over any shelf
 //! and any sink. It stands on `ags_plan` for the walk along files, on `ags_machfile` for machine files, on `ags_asm` for
-//! sources, on `ags_ports`, `ags_core` and `ags_run` for the machine and its scripts, on `ags_text` for digits and on
-//! `ags_outside` for the traits. `ags_main` answers exactly what the definitions in `specs/` say of the arguments and the
+//! sources, on `ags_listing`, `ags_compare`, `ags_tape` and `ags_xref` for their words and symbols, on `ags_certread` and
+//! `ags_check` for certificates and their verdicts, on `ags_ports`, `ags_core` and `ags_run` for the machine and its scripts, on
+//! `ags_text` for digits and on `ags_outside` for the traits. `ags_main` answers exactly what the definitions in `specs/` say of the arguments and the
 //! files.
 #![tactic(auto)]
 
 mod answer_laws;
-mod assemble_command;
+mod certify_command;
 mod command;
+mod compare_command;
 mod files;
-mod listing;
+mod listed_laws;
 mod main_call;
 mod program;
 mod refusal;
 mod run_command;
+mod source_texts;
 mod status;
 mod works;
+mod write_command;
 
 pub use answer_laws::{
     arguments_ask_for_one_command, arguments_have_one_answer, each_command_has_an_answer,
 };
+pub use listed_laws::certified_listing_is_what_runs;
 pub use main_call::ags_main;
 pub use status::Status;

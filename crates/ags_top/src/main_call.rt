@@ -5,10 +5,11 @@ ghost use Rattle.std.specs.String.{string_bytes};
 ghost use Rattle.ags_outside.specs.Count.{Rose};
 ghost use Rattle.ags_plan.specs.Answer.{IsAnswer, TellsFiles};
 ghost use Rattle.ags_plan.specs.Outcome.{AbsentExactly, Ends, EndsExactly, IsCleanOnShelf, IsCleanOnSink, LongExactly};
-ghost use Rattle.ags_top.specs.Outcome.{BadMachineExactly, BadSourceExactly, BadTextExactly, BadWordsExactly, DoneAlways, ListsWhatIsDefined, PlaysWhatIsDefined};
+ghost use Rattle.ags_top.specs.Outcome.{BadCertExactly, BadMachineExactly, BadSourceExactly, BadTextExactly, BadWordsExactly, CertifiesAccepted, CertifiesWhatIsSafe, ComparesWhatIsDefined, DoneAlways, EqualsWhatIsDefined, JudgesWhatIsDefined, NoExactly, PlaysWhatIsDefined, WritesWhatIsDefined};
 ghost use Rattle.ags_top.specs.Program.{plan_of, program};
 
 use crate::program::Ags;
+use crate::source_texts::SourceText;
 use crate::status::Status;
 use ags_outside::{Shelf, Sink};
 use std::alloc::Global;
@@ -30,16 +31,27 @@ pub fn ags_main<S: Shelf, K: Sink>(
         → IsAnswer program (S.told shelf.old) (plan_of (map string_bytes arguments.now)) text status
         → EndsExactly program (K.told out.old) (K.told out.new) result text status }
 
-    // The headline: what is listed is what the source defines, and what is shown is a play of the script on its words.
-    ensures listed { ListsWhatIsDefined (S.told shelf.old) (map string_bytes arguments.now) (K.told out.old) (K.told out.new) result }
+    // The headline: where it answers certified, what is printed is what the source defines, and every run of it is safe. What is
+    // written of a source is what it defines, a listing is said to be equal only where its words are those, and what is shown is
+    // a play of the script on them.
+    ensures certified { CertifiesWhatIsSafe (S.told shelf.old) (map string_bytes arguments.now) (K.told out.old) (K.told out.new) result }
+    ensures judged { JudgesWhatIsDefined (S.told shelf.old) (map string_bytes arguments.now) (K.told out.old) (K.told out.new) result }
+    ensures listed { WritesWhatIsDefined SourceText.Listing (S.told shelf.old) (map string_bytes arguments.now) (K.told out.old) (K.told out.new) result }
+    ensures taped { WritesWhatIsDefined SourceText.Tape (S.told shelf.old) (map string_bytes arguments.now) (K.told out.old) (K.told out.new) result }
+    ensures cross_referenced { WritesWhatIsDefined SourceText.CrossReference (S.told shelf.old) (map string_bytes arguments.now) (K.told out.old) (K.told out.new) result }
+    ensures compared { ComparesWhatIsDefined (S.told shelf.old) (map string_bytes arguments.now) (K.told out.old) (K.told out.new) result }
+    ensures equal { EqualsWhatIsDefined (S.told shelf.old) (map string_bytes arguments.now) result }
     ensures played { PlaysWhatIsDefined (S.told shelf.old) (map string_bytes arguments.now) (K.told out.old) (K.told out.new) result }
-    // Good files are answered.
+    // Good files are answered, and an accepted certificate is certified.
+    ensures accepted { CertifiesAccepted (S.told shelf.old) (map string_bytes arguments.now) result }
     ensures done { DoneAlways (S.told shelf.old) (map string_bytes arguments.now) result }
 
     // Status by status.
+    ensures no { NoExactly (S.told shelf.old) (map string_bytes arguments.now) (K.told out.old) (K.told out.new) result }
     ensures bad_words { BadWordsExactly (map string_bytes arguments.now) result }
     ensures bad_machine { BadMachineExactly (S.told shelf.old) (map string_bytes arguments.now) (K.told out.old) (K.told out.new) result }
     ensures bad_source { BadSourceExactly (S.told shelf.old) (map string_bytes arguments.now) (K.told out.old) (K.told out.new) result }
+    ensures bad_cert { BadCertExactly (S.told shelf.old) (map string_bytes arguments.now) (K.told out.old) (K.told out.new) result }
     ensures bad_text { BadTextExactly (S.told shelf.old) (map string_bytes arguments.now) (K.told out.old) (K.told out.new) result }
     ensures absent { AbsentExactly program (S.told shelf.old) (plan_of (map string_bytes arguments.now)) (K.told out.old) (K.told out.new) result }
     ensures absent_cause { result ≡ Status.AbsentFile → Rose (S.absences shelf.old) (S.absences shelf.new) }

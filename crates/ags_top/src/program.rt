@@ -14,13 +14,15 @@ ghost use Rattle.ags_top.specs.Status as status;
 ghost use Rattle.ags_top.specs.Views as views;
 ghost use Rattle.ags_top.specs.Work as work;
 
-use crate::assemble_command::{list_source, load_listing};
+use crate::certify_command::{judge_certificate, load_certification};
 use crate::command::{Command, CommandLine, read_line};
+use crate::compare_command::{compare_images, load_comparison};
 use crate::files::load_machine;
 use crate::refusal::Refusal;
 use crate::run_command::{load_play, play_script};
 use crate::status::Status;
 use crate::works::Work;
+use crate::write_command::{load_text, write_text};
 use ags_outside::{SendError, Shelf, Sink, send};
 use ags_plan::{Program, Stop, Unloaded};
 use ags_ports::Machine;
@@ -52,7 +54,14 @@ fn load_command<'a, S: Shelf>(
     ensures absences { HasCause (S.absences shelf.old) (S.absences shelf.new) (is_absence result) }
 {
     match command {
-        Command::Assemble(source) => load_listing(alloc, &machine, source, shelf),
+        Command::Write { text, source } => load_text(alloc, &machine, text, source, shelf),
+        Command::Compare { source, listing } => load_comparison(
+            alloc, &machine, source, listing, shelf,
+        ),
+        Command::Certify {
+            source,
+            certificate,
+        } => load_certification(alloc, machine, source, certificate, shelf),
         Command::Run { source, script } => load_play(alloc, machine, source, script, shelf),
     }
 }
@@ -143,7 +152,13 @@ impl Program for Ags {
     fn perform<K: Sink>(alloc: Global, work: &Work, out: &mut K) -> Result<Status, SendError> {
         match work {
             Work::NoForm => say_forms(out),
-            Work::ListSource(source) => list_source(alloc, source, out),
+            Work::WriteText { text, source } => write_text(alloc, *text, source, out),
+            Work::CompareImages { made, listed } => compare_images(made, listed, out),
+            Work::JudgeCertificate {
+                machine,
+                source,
+                cert,
+            } => judge_certificate(alloc, machine, source, cert, out),
             Work::PlayScript {
                 machine,
                 made,

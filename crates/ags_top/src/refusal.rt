@@ -6,6 +6,8 @@ ghost use Rattle.ags_top.specs.Views.{line_of, status_of};
 
 use crate::status::Status;
 use ags_asm::SourceError;
+use ags_certtext::CertError;
+use ags_listing::ListError;
 use ags_machfile::MachError;
 use ags_run::ScriptError;
 use std::alloc::{AllocError, Global};
@@ -17,6 +19,10 @@ pub(crate) enum Refusal {
     Machine(MachError),
     /// A source has this fault.
     Source(SourceError),
+    /// A listing has this fault.
+    Listing(ListError),
+    /// A certificate has this fault.
+    Certificate(CertError),
     /// A script has this fault.
     Script(ScriptError),
 }
@@ -29,6 +35,8 @@ impl Refusal {
         match self {
             Refusal::Machine(_) => Status::BadMachine,
             Refusal::Source(_) => Status::BadSource,
+            Refusal::Certificate(_) => Status::BadCert,
+            Refusal::Listing(_) => Status::BadText,
             Refusal::Script(_) => Status::BadText,
         }
     }
@@ -40,6 +48,8 @@ impl Refusal {
         match *self {
             Refusal::Machine(error) => format!(in alloc; "{error}\n"),
             Refusal::Source(error) => format!(in alloc; "{error}\n"),
+            Refusal::Listing(error) => format!(in alloc; "{error}\n"),
+            Refusal::Certificate(error) => format!(in alloc; "{error}\n"),
             Refusal::Script(error) => format!(in alloc; "{error}\n"),
         }
     }

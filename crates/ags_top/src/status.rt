@@ -8,6 +8,8 @@ ghost use Rattle.std.specs.Prelude.{◌≡◌};
 pub enum Status {
     /// The work is done.
     Done,
+    /// The answer is no: the words of a source and of a listing differ, or a certificate is refused by its verdict.
+    No,
     /// The source has a fault.
     BadSource,
     /// The arguments are none of the forms.
@@ -20,7 +22,9 @@ pub enum Status {
     WriteFault,
     /// The machine file fails a test.
     BadMachine,
-    /// The script has a fault.
+    /// The certificate has a fault.
+    BadCert,
+    /// The listing or the script has a fault.
     BadText,
     /// A file is longer than its limit.
     LongFile,
@@ -35,12 +39,14 @@ impl Status {
     {
         match self {
             Status::Done => 0,
+            Status::No => 1,
             Status::BadSource => 2,
             Status::BadWords => 3,
             Status::AbsentFile => 4,
             Status::ReadFault => 5,
             Status::WriteFault => 6,
             Status::BadMachine => 7,
+            Status::BadCert => 8,
             Status::BadText => 9,
             Status::LongFile => 10,
             Status::NoMemory => 11,

@@ -1,7 +1,10 @@
 //! What is loaded for a command line, and then done.
 
 use crate::files::SourceFile;
+use crate::source_texts::SourceText;
 use ags_asm::Assembled;
+use ags_cert::Cert;
+use ags_image::Image;
 use ags_ports::Machine;
 use ags_run::Plain;
 
@@ -10,8 +13,29 @@ use ags_run::Plain;
 pub(crate) enum Work {
     /// The arguments are none of the forms.
     NoForm,
-    /// A source is listed.
-    ListSource(SourceFile),
+    /// A text of a source is written.
+    WriteText {
+        /// The text.
+        text: SourceText,
+        /// The source.
+        source: SourceFile,
+    },
+    /// The words of a source are compared with those of a listing.
+    CompareImages {
+        /// What was made of the source.
+        made: Assembled,
+        /// The image of the listing.
+        listed: Image,
+    },
+    /// A source is listed, and a certificate judged for its words.
+    JudgeCertificate {
+        /// The machine.
+        machine: Machine,
+        /// The source.
+        source: SourceFile,
+        /// The certificate.
+        cert: Cert,
+    },
     /// A script is played on a machine that begins with a source's words.
     PlayScript {
         /// The machine.

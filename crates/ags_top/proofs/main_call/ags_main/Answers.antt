@@ -1,14 +1,51 @@
 use Rattle.std.proofs.Common.{map}
 use Rattle.std.specs.String.{string_bytes}
 use Rattle.ags_plan.proofs.StatusLemmas.{absent_exactly, long_exactly, ends_exactly}
+use Rattle.ags_top.specs.declared.source_texts.SourceText.TheVariants.{Listing, Tape, CrossReference}
 use Rattle.ags_top.specs.Program.{plan_of, program}
 use Rattle.ags_top.specs.ProgramLaws.{lawful_program}
-use Rattle.ags_top.proofs.MainLemmas.{lists_what_is_defined, plays_what_is_defined, done_always, bad_words_exactly, bad_machine_exactly, bad_source_exactly, bad_text_exactly}
+use Rattle.ags_top.proofs.MainLemmas.{writes_what_is_defined, compares_what_is_defined, equals_what_is_defined, judges_what_is_defined, certifies_what_is_safe, certifies_accepted, bad_cert_exactly, plays_what_is_defined, done_always, no_exactly, bad_words_exactly, bad_machine_exactly, bad_source_exactly, bad_text_exactly}
 use Rattle.ags_top.proofs.main_call.ags_main.Goals as goal
 
 pub returns-clause-listed : goal.returns-clause-listed
 returns-clause-listed g c =
-    lists_what_is_defined (g.S.Shelf.told c.args.shelf.now) (map string_bytes c.args.arguments.now) (g.K.Sink.told c.args.out.now) (g.K.Sink.told c.run.new.out) c.run.result c.run.ensures.content
+    writes_what_is_defined (g.S.Shelf.told c.args.shelf.now) (map string_bytes c.args.arguments.now) (g.K.Sink.told c.args.out.now) (g.K.Sink.told c.run.new.out) c.run.result c.run.ensures.content Listing
+
+pub returns-clause-taped : goal.returns-clause-taped
+returns-clause-taped g c =
+    writes_what_is_defined (g.S.Shelf.told c.args.shelf.now) (map string_bytes c.args.arguments.now) (g.K.Sink.told c.args.out.now) (g.K.Sink.told c.run.new.out) c.run.result c.run.ensures.content Tape
+
+pub returns-clause-cross_referenced : goal.returns-clause-cross_referenced
+returns-clause-cross_referenced g c =
+    writes_what_is_defined (g.S.Shelf.told c.args.shelf.now) (map string_bytes c.args.arguments.now) (g.K.Sink.told c.args.out.now) (g.K.Sink.told c.run.new.out) c.run.result c.run.ensures.content CrossReference
+
+pub returns-clause-compared : goal.returns-clause-compared
+returns-clause-compared g c =
+    compares_what_is_defined (g.S.Shelf.told c.args.shelf.now) (map string_bytes c.args.arguments.now) (g.K.Sink.told c.args.out.now) (g.K.Sink.told c.run.new.out) c.run.result c.run.ensures.content
+
+pub returns-clause-equal : goal.returns-clause-equal
+returns-clause-equal g c =
+    equals_what_is_defined (g.S.Shelf.told c.args.shelf.now) (map string_bytes c.args.arguments.now) (g.K.Sink.told c.args.out.now) (g.K.Sink.told c.run.new.out) c.run.result c.run.ensures.content
+
+pub returns-clause-no : goal.returns-clause-no
+returns-clause-no g c =
+    no_exactly (g.S.Shelf.told c.args.shelf.now) (map string_bytes c.args.arguments.now) (g.K.Sink.told c.args.out.now) (g.K.Sink.told c.run.new.out) c.run.result c.run.ensures.content
+
+pub returns-clause-certified : goal.returns-clause-certified
+returns-clause-certified g c =
+    certifies_what_is_safe (g.S.Shelf.told c.args.shelf.now) (map string_bytes c.args.arguments.now) (g.K.Sink.told c.args.out.now) (g.K.Sink.told c.run.new.out) c.run.result c.run.ensures.content
+
+pub returns-clause-judged : goal.returns-clause-judged
+returns-clause-judged g c =
+    judges_what_is_defined (g.S.Shelf.told c.args.shelf.now) (map string_bytes c.args.arguments.now) (g.K.Sink.told c.args.out.now) (g.K.Sink.told c.run.new.out) c.run.result c.run.ensures.content
+
+pub returns-clause-accepted : goal.returns-clause-accepted
+returns-clause-accepted g c =
+    certifies_accepted (g.S.Shelf.told c.args.shelf.now) (map string_bytes c.args.arguments.now) (g.K.Sink.told c.args.out.now) (g.K.Sink.told c.run.new.out) c.run.result c.run.ensures.content
+
+pub returns-clause-bad_cert : goal.returns-clause-bad_cert
+returns-clause-bad_cert g c =
+    bad_cert_exactly (g.S.Shelf.told c.args.shelf.now) (map string_bytes c.args.arguments.now) (g.K.Sink.told c.args.out.now) (g.K.Sink.told c.run.new.out) c.run.result c.run.ensures.content
 
 pub returns-clause-played : goal.returns-clause-played
 returns-clause-played g c =

@@ -1,6 +1,6 @@
 use Rattle.std.proofs.Common.{◌≡◌}
-use Rattle.ags_top.proofs.ListingLemmas.{Sending}
-use Rattle.ags_top.proofs.listing.send_listing.Given as goal
+use Rattle.ags_listing.proofs.SendingLemmas.{Sending}
+use Rattle.ags_listing.proofs.writing.send_cards.Given as goal
 
 abbrev pub invariant-loop-index : goal.invariant-loop-index
 invariant-loop-index g l = record {

@@ -1,7 +1,7 @@
 use Rattle.std.proofs.Common.{◌∙◌, refl}
 use Rattle.std.proofs.lemmas.Result.{err_from_is_err_and}
-use Rattle.ags_top.proofs.ListingLemmas.{Sending-more, Sending-front, Sending-all}
-use Rattle.ags_top.proofs.listing.send_listing.Goals as goal
+use Rattle.ags_listing.proofs.SendingLemmas.{Sending-more, Sending-front, Sending-all}
+use Rattle.ags_listing.proofs.writing.send_cards.Goals as goal
 
 pub returns-in_err-send_line-clause-front : goal.returns-in_err-send_line-clause-front
 returns-in_err-send_line-clause-front g c =

@@ -1,15 +1,15 @@
-//! The writer of the listing.
+//! The writer of listings.
 
-ghost use Rattle.std.specs.Prelude.{◌≡◌, ◌+◌, ◌≤◌, ◌<◌, ◌^◌, ◌++◌, length, OnOk, OnErr};
+ghost use Rattle.std.specs.Prelude.{◌≡◌, ◌+◌, ◌≤◌, ◌<◌, ◌^◌, ◌++◌, length, map, OnOk, OnErr};
 ghost use Rattle.ags_outside.specs.Count.{HasCause};
 ghost use Rattle.ags_outside.specs.Send.{is_write_fault};
 ghost use Rattle.ags_outside.specs.Sink.{appended, WroteFront};
 ghost use Rattle.ags_asm.specs.Source.{AreSpans, defined};
-ghost use Rattle.ags_top.specs.Listing.{columns};
+ghost use Rattle.ags_listing.specs.Listing.{AreCardsOf, columns, listing};
+ghost use Rattle.ags_listing.specs.PlacedListing.{placed_line, placed_listing};
 ghost use Rattle.ags_places.specs.declared.sources.TheConstants.{SOURCE_LIMIT};
-ghost use Rattle.ags_top.specs.PlacedListing.{placed_line, placed_listing};
 
-use ags_asm::Placed;
+use ags_asm::{Assembled, Placed};
 use ags_outside::{SendError, Sink, send};
 use ags_text::{decimal7, octal4};
 use std::alloc::{AllocError, Global};
@@ -68,12 +68,12 @@ fn send_line<K: Sink>(
     send(out, line)
 }
 
-/// Sends the listing of the cards, a line at a time.
-pub(crate) fn send_listing<K: Sink>(
+/// Sends the lines of the cards, one at a time.
+fn send_cards<K: Sink>(
     alloc: Global,
-    out: &mut K,
     source: &[u8],
     placed: &[Placed],
+    out: &mut K,
 ) -> Result<(), SendError>
     requires short { length source.now ≤ SOURCE_LIMIT }
     requires spans { AreSpans 0 (length source.now) placed.now }
@@ -86,4 +86,21 @@ pub(crate) fn send_listing<K: Sink>(
         send_line(out, &mut line, source, index as u32 + 1, card)?;
     }
     Ok(())
+}
+
+/// Sends the listing of a source, a line at a time (docs/SOURCE.md, Listing): `made` is what was assembled of its bytes.
+/// `WriteFault` comes only where the sink counted a fault; `NoMemory` may come at any source, and says nothing of it. After
+/// either the sink took a front of the listing.
+pub fn send_listing<K: Sink>(
+    alloc: Global,
+    bytes: &[u8],
+    made: &Assembled,
+    out: &mut K,
+) -> Result<(), SendError>
+    requires { AreCardsOf bytes.now made.now.cards.items }
+    ensures sent { OnOk result (K.told out.new ≡ appended (K.told out.old) (listing bytes.now (map defined made.now.cards.items))) }
+    ensures front { OnErr result (WroteFront (K.told out.old) (K.told out.new) (listing bytes.now (map defined made.now.cards.items))) }
+    ensures faults { HasCause (K.faults out.old) (K.faults out.new) (is_write_fault result) }
+{
+    send_cards(alloc, bytes, &made.cards, out)
 }

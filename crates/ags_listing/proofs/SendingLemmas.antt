@@ -8,15 +8,8 @@ use Rattle.ags_places.specs.Deck.{card_lines}
 use Rattle.ags_places.proofs.PlacingLemmas.{lines_of_cards_follow}
 use Rattle.ags_asm.specs.Source.{AreSpans, defined, placed_at, placed_cards}
 use Rattle.ags_image.specs.Image.{PlacedWord}
-use Rattle.ags_plan.specs.Plan.{WorkAt}
-use Rattle.ags_plan.specs.Saying.{SaidWhole, SaidInPart}
-use Rattle.ags_top.specs.declared.files.SourceFile.{SourceFile}
-use Rattle.ags_top.specs.declared.status.Status.TheVariants.{Done}
-use Rattle.ags_top.specs.Listing.{listing_line, listing_from, listing}
-use Rattle.ags_top.specs.PlacedListing.{card_text, placed_line, placed_listing}
-use Rattle.ags_top.specs.Program.{program}
-use Rattle.ags_top.specs.Views.{AreCardsOf, assembly_of}
-use Rattle.ags_top.specs.Work.{ListSource}
+use Rattle.ags_listing.specs.Listing.{AreCardsOf, listing_line, listing_text, printed_from, listing}
+use Rattle.ags_listing.specs.PlacedListing.{card_text, placed_line, placed_listing}
 
 -- ---- a card further
 
@@ -90,14 +83,15 @@ card_text-placed_at : (source : List ℕ) (line : LineAt) (one : Option PlacedWo
 card_text-placed_at source line None lies = ap (λ (n : ℕ). take n (drop line.start source)) (omega arith) ∙ lies.bytes_are
 card_text-placed_at source line (Some definition) lies = ap (λ (n : ℕ). take n (drop line.start source)) (omega arith) ∙ lies.bytes_are
 
-placed_line-line : (source : List ℕ) (number : ℕ) (line : LineAt) (one : Option PlacedWord) → LiesIn source line → placed_line source number (placed_at line one) ≡ listing_line number line one
-unfolding placed_line listing_line
+placed_line-line : (source : List ℕ) (number : ℕ) (line : LineAt) (one : Option PlacedWord) → LiesIn source line
+    → placed_line source number (placed_at line one) ≡ listing_line (record { number = number; placed = one; text = line.bytes })
+unfolding placed_line
 placed_line-line source number line one lies = rw (defined-placed_at line one, card_text-placed_at source line one lies) refl
 
 -- the cards' listing is that of the lines
-pub listing_by_lines : (source : List ℕ) (from number : ℕ) (lines : List LineAt) (ds : List (Option PlacedWord)) → Follow source from lines
-    → placed_listing source number (placed_cards lines ds) ≡ listing_from number lines ds
-unfolding placed_listing listing_from
+listing_by_lines : (source : List ℕ) (from number : ℕ) (lines : List LineAt) (ds : List (Option PlacedWord)) → Follow source from lines
+    → placed_listing source number (placed_cards lines ds) ≡ listing_text (printed_from number lines ds)
+unfolding placed_listing listing_text
 listing_by_lines source from number [] ds follow = refl
 listing_by_lines source from number (line ∷ lines) [] follow = refl
 listing_by_lines source from number (line ∷ lines) (d ∷ ds) follow =
@@ -107,24 +101,6 @@ listing_by_lines source from number (line ∷ lines) (d ∷ ds) follow =
 
 -- the cards' listing is the listing of what the source defines
 pub listing_is : (bytes : List ℕ) (placed : List Placed) → AreCardsOf bytes placed → placed_listing bytes 1 placed ≡ listing bytes (map defined placed)
+unfolding listing
 listing_is bytes placed are =
     ap (placed_listing bytes 1) are.cards_are ∙ listing_by_lines bytes 0 1 (card_lines bytes) (map defined placed) (lines_of_cards_follow bytes)
-
--- what was sent of it is said of the work
-pub listed : (source : SourceFile) (old new : Option (List ℕ)) → AreCardsOf source.bytes.items source.made.cards.items
-    → new ≡ appended old (placed_listing source.bytes.items 1 source.made.cards.items) → SaidWhole program (WorkAt (ListSource (assembly_of source))) old new Done
-listed source old new read sent = record {
-  text = placed_listing source.bytes.items 1 source.made.cards.items;
-  comes = (listing_is source.bytes.items source.made.cards.items read, refl);
-  sent = sent;
-}
-
--- and so is a prefix
-pub listed_in_part : (source : SourceFile) (old new : Option (List ℕ)) → AreCardsOf source.bytes.items source.made.cards.items
-    → WroteFront old new (placed_listing source.bytes.items 1 source.made.cards.items) → SaidInPart program (WorkAt (ListSource (assembly_of source))) old new
-listed_in_part source old new read prefix = record {
-  text = placed_listing source.bytes.items 1 source.made.cards.items;
-  status = Done;
-  comes = (listing_is source.bytes.items source.made.cards.items read, refl);
-  prefix = prefix;
-}

@@ -1,17 +1,20 @@
 -- The listing of cards as they were placed, by their spans in the source.
-use Rattle.std.specs.Prelude.{ℕ, ◌+◌, ◌-◌, List, [], ◌∷◌, ◌++◌, take, drop, codes}
-use Rattle.ags_text.specs.Numeral.{decimal7_text}
+use Rattle.std.specs.Prelude.{ℕ, ◌+◌, ◌-◌, List, [], ◌∷◌, ◌++◌, take, drop}
 use Rattle.ags_places.specs.declared.placed.Placed.{Placed}
 use Rattle.ags_asm.specs.Source.{defined}
-use Rattle.ags_top.specs.Listing.{columns}
+use Rattle.ags_listing.specs.Listing.{PrintedCard, listing_line}
 
 -- a card's text in its source
 abbrev pub card_text : List ℕ → Placed → List ℕ
 card_text source card = take (card.end - card.start) (drop card.start source)
 
+-- the card as it is printed
+abbrev pub printed : List ℕ → ℕ → Placed → PrintedCard
+printed source number card = record { number = number; placed = defined card; text = card_text source card }
+
 -- a card's line
 unfoldable pub placed_line : List ℕ → ℕ → Placed → List ℕ
-placed_line source number card = decimal7_text number ++ codes " " ++ columns (defined card) ++ codes " " ++ card_text source card ++ codes "\n"
+placed_line source number card = listing_line (printed source number card)
 
 -- the lines of the cards from that number on
 unfoldable pub placed_listing : List ℕ → ℕ → List Placed → List ℕ

@@ -1,0 +1,239 @@
+//! The command `certify`. The expected lines are typed by hand from docs/CERTIFICATE.md and docs/CHECKER.md.
+
+use crate::answer_tests::compare_over;
+use crate::decks::{DECK, DECK_CERTIFICATE, DECK_LISTING};
+use ags_top::Status;
+use std::test::Fail;
+
+/// A subroutine call whose return word is kept in the cell 17 octal.
+const RETURN: &str = " ORG /4000\n TSQ /4002\n TRA /4000\n STQ /17\n TRA /17\n";
+
+/// Its listing.
+const RETURN_LISTING: &str =
+    "0000001              ORG /4000\n0000002 4000 724002  TSQ /4002\n0000003 4001 404000  TRA /4000\n0000004 4002 120017  STQ /17\n0000005 4003 400017  TRA /17\n";
+
+/// A sum that is kept without end.
+const SUMS: &str = " ORG /20\nS BSS 1\n ORG /4000\nL CLA S\n ADD ONE\n STO S\n TRA L\nONE OCT 1\n";
+
+/// Its listing.
+const SUMS_LISTING: &str =
+    "0000001              ORG /20\n0000002             S BSS 1\n0000003              ORG /4000\n0000004 4000 200020 L CLA S\n0000005 4001 224004  ADD ONE\n0000006 4002 100020  STO S\n0000007 4003 404000  TRA L\n0000008 4004 000001 ONE OCT 1\n";
+
+/// Runs `certify S C` and compares the status, and the listing with the verdict behind it.
+fn compare_verdict(
+    rt: &(impl AllocGlobal + std::process::Abort),
+    source: &str,
+    listing: &str,
+    certificate: &str,
+    status: Status,
+    verdict: &str,
+) -> Result<(), Fail> {
+    let mut text = String::from_str(rt.alloc(), listing)?;
+    text.push_str(verdict)?;
+    let files = [("S", source.as_bytes()), ("C", certificate.as_bytes())];
+    for most in [100_000, 1] {
+        compare_over(rt, &files, "certify S C", most, status, text.as_str())?;
+    }
+    Ok(())
+}
+
+#[test]
+fn certifies_the_deck(rt: HostRuntime) -> Result<(), Fail> {
+    let verdict = "CERTIFIED ROWS 31 CASES 32\n";
+    compare_verdict(
+        &rt,
+        DECK,
+        DECK_LISTING,
+        DECK_CERTIFICATE,
+        Status::Done,
+        verdict,
+    )
+}
+
+#[test]
+fn certifies_a_return_word(rt: HostRuntime) -> Result<(), Fail> {
+    let rows = [
+        (
+            "AGSCERT 1\nSTART 4000\nROW 4000 A ANY Q ANY X 0 V 0\nROW 4001 A ANY Q ANY X 0 V 0\nROW 4002 A ANY Q WORDS 404001 X 0 V 0\nROW 4003 A ANY Q ANY X 0 V 0\nAT 0017 WORDS 404001\nROW 0017 A ANY Q ANY X 0 V 0\nAT 0017 WORDS 404001\nEND\n",
+            Status::Done,
+            "CERTIFIED ROWS 5 CASES 5\n",
+        ),
+        // without the last cell
+        (
+            "AGSCERT 1\nSTART 4000\nROW 4000 A ANY Q ANY X 0 V 0\nROW 4001 A ANY Q ANY X 0 V 0\nROW 4002 A ANY Q WORDS 404001 X 0 V 0\nROW 4003 A ANY Q ANY X 0 V 0\nAT 0017 WORDS 404001\nROW 0017 A ANY Q ANY X 0 V 0\nEND\n",
+            Status::No,
+            "REFUSED 3 CodeUnknown ROW 5\n",
+        ),
+        // without the first
+        (
+            "AGSCERT 1\nSTART 4000\nROW 4000 A ANY Q ANY X 0 V 0\nROW 4001 A ANY Q ANY X 0 V 0\nROW 4002 A ANY Q WORDS 404001 X 0 V 0\nROW 4003 A ANY Q ANY X 0 V 0\nROW 0017 A ANY Q ANY X 0 V 0\nAT 0017 WORDS 404001\nEND\n",
+            Status::No,
+            "REFUSED 10 NotCovered ROW 4 WORD 400017 X 0 V 0 NEXT 0017\n",
+        ),
+    ];
+    for (certificate, status, verdict) in rows {
+        compare_verdict(&rt, RETURN, RETURN_LISTING, certificate, status, verdict)?;
+    }
+    Ok(())
+}
+
+#[test]
+fn refuses_overflows_that_are_not_named(rt: HostRuntime) -> Result<(), Fail> {
+    let rows = [
+        (
+            "AGSCERT 1\nROW 4000 A ANY Q ANY X 0 V 0\nROW 4001 A ANY Q ANY X 0 V 0\nROW 4002 A ANY Q ANY X 0 V 0\nROW 4003 A ANY Q ANY X 0 V 0\nEND\n",
+            Status::No,
+            "REFUSED 7 MayOverflow ROW 2 WORD 224004 A 377777 Q 000000 M 000001\n",
+        ),
+        (
+            "AGSCERT 1\nMAY 4001\nROW 4000 A ANY Q ANY X 0 V 0\nROW 4001 A ANY Q ANY X 0 V 0\nROW 4002 A ANY Q ANY X 0 V 0\nROW 4003 A ANY Q ANY X 0 V 0\nEND\n",
+            Status::No,
+            "REFUSED 10 NotCovered ROW 2 WORD 224004 X 0 V 0 NEXT 4002\n",
+        ),
+        (
+            "AGSCERT 1\nMAY 4001\nROW 4000 A ANY Q ANY X 0 V 01\nROW 4001 A ANY Q ANY X 0 V 01\nROW 4002 A ANY Q ANY X 0 V 01\nROW 4003 A ANY Q ANY X 0 V 01\nEND\n",
+            Status::Done,
+            "CERTIFIED ROWS 4 CASES 8\n",
+        ),
+    ];
+    for (certificate, status, verdict) in rows {
+        compare_verdict(&rt, SUMS, SUMS_LISTING, certificate, status, verdict)?;
+    }
+    Ok(())
+}
+
+/// A source of one order, the certificate behind its first line, its listing and the verdict that refuses it.
+type Refused = (&'static str, &'static str, &'static str, &'static str);
+
+#[test]
+fn refuses_what_fails_first(rt: HostRuntime) -> Result<(), Fail> {
+    let rows: [Refused; 5] = [
+        (
+            " ORG /4000\n CLZ /4000\n",
+            "AGSCERT 1\nROW 4000 A ANY Q ANY X 0 V 0\nEND\n",
+            "0000001              ORG /4000\n0000002 4000 304000  CLZ /4000\n",
+            "REFUSED 6 FixedWrite ROW 1 WORD 304000 AT 4000\n",
+        ),
+        (
+            " ORG /4000\n INP /2003\n",
+            "AGSCERT 1\nROW 4000 A ANY Q ANY X 0 V 0\nEND\n",
+            "0000001              ORG /4000\n0000002 4000 642003  INP /2003\n",
+            "REFUSED 5 BadPort ROW 1 WORD 642003\n",
+        ),
+        // a cell that is run from, which may hold 17 words, and 16
+        (
+            " ORG /4000\n TRA /17\n",
+            "AGSCERT 1\nCELL 0017 RANGE 0 16\nROW 4000 A ANY Q ANY X 0 V 0\nROW 0017 A ANY Q ANY X 0 V 0\nEND\n",
+            "0000001              ORG /4000\n0000002 4000 400017  TRA /17\n",
+            "REFUSED 3 CodeUnknown ROW 2\n",
+        ),
+        (
+            " ORG /4000\n TRA /17\n",
+            "AGSCERT 1\nCELL 0017 RANGE 0 15\nROW 4000 A ANY Q ANY X 0 V 0\nROW 0017 A ANY Q ANY X 0 V 0\nEND\n",
+            "0000001              ORG /4000\n0000002 4000 400017  TRA /17\n",
+            "REFUSED 4 NoOrder ROW 2 WORD 000000\n",
+        ),
+        // the first word of a cell that has none
+        (
+            " ORG /4000\n TRA /4000\n",
+            "AGSCERT 1\nCELL 0017 RANGE 5 9\nROW 4000 A ANY Q ANY X 0 V 0\nEND\n",
+            "0000001              ORG /4000\n0000002 4000 404000  TRA /4000\n",
+            "REFUSED 1 InitRange 0017 000000\n",
+        ),
+    ];
+    for (source, certificate, listing, verdict) in rows {
+        compare_verdict(&rt, source, listing, certificate, Status::No, verdict)?;
+    }
+    Ok(())
+}
+
+// A certificate with a fault is told by its line, without a listing; and the machine file and the source come before it.
+#[test]
+fn says_the_first_fault_of_a_certificate(rt: HostRuntime) -> Result<(), Fail> {
+    let rows = [
+        (
+            "AGSCERT 1\nSTART 4000\nROW 4000 A ANY Q ANY X 0 V 0\nROW 4001 A ANY Q ANY X 0 V 0\nROW 4002 A ANY Q WORDS 404001 X 0 V 0\nROW 4003 A ANY Q ANY X 0 V 0\nAT 0017 WORDS 404001\nROW 0017 A ANY Q ANY X 0 V 0\nAT 0017 WORDS 404001\n",
+            "CERTIFICATE LINE 10 ERROR 1 BadLine\n",
+        ),
+        ("", "CERTIFICATE LINE 1 ERROR 1 BadLine\n"),
+        ("AGSCERT 2\n", "CERTIFICATE LINE 1 ERROR 2 Version\n"),
+        (
+            "AGSCERT 1\nSTART 4000\nSTART 4000\n",
+            "CERTIFICATE LINE 3 ERROR 3 Twice\n",
+        ),
+        (
+            "AGSCERT 1\n# A\n\nCELL 0017 RANGE 5 4\n",
+            "CERTIFICATE LINE 4 ERROR 4 EmptyRange\n",
+        ),
+        (
+            "AGSCERT 1\nCELL 0017 RANGE 0 4\nINIT 0017 RANGE 0 5\n",
+            "CERTIFICATE LINE 3 ERROR 5 OutsideGlobal\n",
+        ),
+        (
+            "AGSCERT 1\nIN 2003 ANY\n",
+            "CERTIFICATE LINE 2 ERROR 1 BadLine\n",
+        ),
+        ("AGSCERT 1\nEND\n", "CERTIFICATE LINE 2 ERROR 9 NoRows\n"),
+    ];
+    for (certificate, line) in rows {
+        let files = [("S", RETURN.as_bytes()), ("C", certificate.as_bytes())];
+        compare_over(&rt, &files, "certify S C", 9, Status::BadCert, line)?;
+    }
+    let files = [("S", b" _CLA 1\n".as_slice()), ("T", RETURN.as_bytes())];
+    let others = [
+        ("certify T Z", Status::AbsentFile, "ABSENT Z\n"),
+        (
+            "certify S Z",
+            Status::BadSource,
+            "SOURCE CARD 0000001 ERROR 4 UnknownOperation\n",
+        ),
+        (
+            "certify T T T",
+            Status::BadMachine,
+            "MACHINE ERROR 1 NotToml\n",
+        ),
+        ("certify T", Status::BadWords, "WORDS\n"),
+    ];
+    for (line, status, text) in others {
+        compare_over(&rt, &files, line, 9, status, text)?;
+    }
+    Ok(())
+}
+
+// A register that holds its word once must be allowed to hold 0, by the machine file that is named.
+#[test]
+fn takes_the_registers_of_a_machine_file(rt: HostRuntime) -> Result<(), Fail> {
+    let files = [
+        ("S", b" ORG /4000\n INP /17\n TRA /4000\n".as_slice()),
+        (
+            "C",
+            b"AGSCERT 1\nIN 0017 RANGE 1 5\nROW 4000 A ANY Q ANY X 0 V 0\nROW 4001 A RANGE 1 5 Q ANY X 0 V 0\nEND\n".as_slice(),
+        ),
+        ("M", b"input = [{ address = 0o17 }]\n".as_slice()),
+        (
+            "N",
+            b"input = [{ address = 0o17, once = true }]\n".as_slice(),
+        ),
+    ];
+    let rows = [
+        (
+            "certify S C M",
+            Status::Done,
+            "0000001              ORG /4000\n0000002 4000 640017  INP /17\n0000003 4001 404000  TRA /4000\nCERTIFIED ROWS 2 CASES 2\n",
+        ),
+        (
+            "certify S C N",
+            Status::BadCert,
+            "CERTIFICATE LINE 2 ERROR 6 NoZero\n",
+        ),
+        (
+            "certify S C",
+            Status::BadCert,
+            "CERTIFICATE LINE 2 ERROR 1 BadLine\n",
+        ),
+    ];
+    for (line, status, text) in rows {
+        compare_over(&rt, &files, line, 9, status, text)?;
+    }
+    Ok(())
+}
