@@ -1,0 +1,65 @@
+//! What the definition of a play means. Each law is what a function that does nothing ensures, so that it is proved with the
+//! crate. Behind each clause is a lemma of `proofs/`, which the crates above cite.
+
+ghost use Rattle.std.specs.Prelude.{◌≡◌, ◌<◌, ℕ, List, [], Option, Some};
+ghost use Rattle.ags_domain.specs.Value.{value_meaning};
+ghost use Rattle.ags_domain.specs.declared.values.Value.{Value};
+ghost use Rattle.ags_image.specs.Image.{IsImage};
+ghost use Rattle.ags_ports.specs.declared.events.Event.{Event};
+ghost use Rattle.ags_ports.specs.declared.machines.Machine.{Machine};
+ghost use Rattle.ags_ports.specs.Machine.{IsMachine};
+ghost use Rattle.ags_ports.specs.Run.{RunsTo};
+ghost use Rattle.ags_safe.specs.Certificate.{Certificate};
+ghost use Rattle.ags_safe.specs.Start.{AreDeclared};
+ghost use Rattle.ags_script.specs.declared.commands.Command.{Command};
+ghost use Rattle.ags_play.specs.Act.{Act};
+ghost use Rattle.ags_play.specs.Bench.{Bench, begun_state};
+ghost use Rattle.ags_play.specs.Doing.{PutWord};
+ghost use Rattle.ags_play.specs.Guard.{Outside};
+ghost use Rattle.ags_play.specs.Played.{Plays, Met, OutsideStart, IsPlayOf};
+ghost use Rattle.ags_play.specs.Begun.{AreSettable, IsRunOf};
+
+/// The events of a play are one run, from the state of the bench that it begins on to that of the bench that it leaves.
+pub fn events_of_a_play_are_one_run()
+    ensures { (machine : Machine) (guard : Option (Certificate Value)) (b : Bench) (acts : List Act) (events : List Event)
+        (text : List ℕ) (after : Bench) (met : Option PutWord) → Plays machine guard b acts events text after met
+        → RunsTo machine b.core events after.core }
+{}
+
+/// Under a certificate each word that a play puts is declared. A play that meets no start outside is a run from a start of the
+/// certificate; one that does has no event and no text.
+pub fn guarded_play_is_a_run_of_its_certificate()
+    ensures declared { (machine : Machine) (cert : Certificate Value) (b : Bench) (acts : List Act) (events : List Event)
+        (text : List ℕ) (after : Bench) (met : Option PutWord) → Plays machine (Some cert) b acts events text after met
+        → AreDeclared value_meaning machine cert events }
+    ensures run { (machine : Machine) (image : List (Option ℕ)) (cert : Certificate Value) (commands : List Command)
+        (events : List Event) (text : List ℕ) (met : Met) → IsImage image → cert.start < 4096 → AreSettable commands
+        → IsPlayOf machine image (Some cert) commands events text met → ((outside : Outside) → met ≡ OutsideStart outside → ⊥)
+        → IsRunOf machine image cert (begun_state machine image (Some cert) commands) events }
+    ensures none { (machine : Machine) (image : List (Option ℕ)) (cert : Certificate Value) (commands : List Command)
+        (events : List Event) (text : List ℕ) (outside : Outside)
+        → IsPlayOf machine image (Some cert) commands events text (OutsideStart outside) → (events ≡ []) × (text ≡ []) }
+{}
+
+/// From each bench the acts have one play: one list of events, one text, one bench that is left and one answer to what was met.
+pub fn acts_have_one_play()
+    ensures some { (machine : Machine) (guard : Option (Certificate Value)) (b : Bench) (acts : List Act) → IsMachine machine
+        → (events : List Event) × (text : List ℕ) × (after : Bench) × (met : Option PutWord)
+        × Plays machine guard b acts events text after met }
+    ensures one { (machine : Machine) (guard : Option (Certificate Value)) (b : Bench) (acts : List Act)
+        (events others : List Event) (text other : List ℕ) (after left : Bench) (met stopped : Option PutWord) → IsMachine machine
+        → Plays machine guard b acts events text after met → Plays machine guard b acts others other left stopped
+        → (events ≡ others) × (text ≡ other) × (after ≡ left) × (met ≡ stopped) }
+{}
+
+/// Each script has one play over each image, under one certificate or none: one list of events, one text, and one answer to what it
+/// meets.
+pub fn each_script_has_one_play()
+    ensures some { (machine : Machine) (image : List (Option ℕ)) (guard : Option (Certificate Value)) (commands : List Command)
+        → IsMachine machine
+        → (events : List Event) × (text : List ℕ) × (met : Met) × IsPlayOf machine image guard commands events text met }
+    ensures one { (machine : Machine) (image : List (Option ℕ)) (guard : Option (Certificate Value)) (commands : List Command)
+        (events others : List Event) (text other : List ℕ) (met unmet : Met) → IsMachine machine
+        → IsPlayOf machine image guard commands events text met → IsPlayOf machine image guard commands others other unmet
+        → (events ≡ others) × (text ≡ other) × (met ≡ unmet) }
+{}
