@@ -237,3 +237,76 @@ fn takes_the_registers_of_a_machine_file(rt: HostRuntime) -> Result<(), Fail> {
     }
     Ok(())
 }
+
+/// Adds a row at one of the 64 locations from 4000 octal on.
+fn add_row(text: &mut String, number: u8) -> Result<(), Fail> {
+    let digits = [b'0' + number / 8 % 8, b'0' + number % 8];
+    text.push_str("ROW 40")?;
+    text.push_str(str::from_utf8(&digits)?)?;
+    text.push_str(" A ANY Q ANY X 0 V 0\n")?;
+    Ok(())
+}
+
+/// Compares the fault of a certificate.
+fn compare_fault(
+    rt: &(impl AllocGlobal + std::process::Abort),
+    certificate: &str,
+    line: &str,
+) -> Result<(), Fail> {
+    let files = [("S", RETURN.as_bytes()), ("C", certificate.as_bytes())];
+    compare_over(rt, &files, "certify S C", 9, Status::BadCert, line)
+}
+
+// Numbers at their limits, and one past them: rows in all, rows at one location, cells of a row, and bytes of a line.
+#[test]
+fn counts_rows_cells_and_bytes(rt: HostRuntime) -> Result<(), Fail> {
+    let alloc = rt.alloc();
+    let mut rows = String::from_str(alloc, "AGSCERT 1\nSTART 4000\n")?;
+    for _ in 0..500 {
+        for number in 0..40 {
+            add_row(&mut rows, number)?;
+        }
+    }
+    add_row(&mut rows, 40)?;
+    rows.push_str("END\n")?;
+    compare_fault(
+        &rt,
+        rows.as_str(),
+        "CERTIFICATE LINE 20003 ERROR 7 TooManyRows\n",
+    )?;
+    let mut at_one = String::from_str(alloc, "AGSCERT 1\n")?;
+    for _ in 0..513 {
+        add_row(&mut at_one, 0)?;
+    }
+    compare_fault(
+        &rt,
+        at_one.as_str(),
+        "CERTIFICATE LINE 514 ERROR 7 TooManyRows\n",
+    )?;
+    let mut cells = String::from_str(alloc, "AGSCERT 1\nROW 4000 A ANY Q ANY X 0 V 0\n")?;
+    for high in ["000", "001", "002", "003", "004", "005", "006", "007"] {
+        for low in ["0", "1", "2", "3", "4", "5", "6", "7"] {
+            for part in ["AT ", high, low, " ANY\n"] {
+                cells.push_str(part)?;
+            }
+        }
+    }
+    cells.push_str("AT 0100 ANY\n")?;
+    compare_fault(
+        &rt,
+        cells.as_str(),
+        "CERTIFICATE LINE 67 ERROR 8 TooManyAt\n",
+    )?;
+    for (bytes, line) in [
+        (512, "CERTIFICATE LINE 3 ERROR 9 NoRows\n"),
+        (513, "CERTIFICATE LINE 2 ERROR 1 BadLine\n"),
+    ] {
+        let mut long = String::from_str(alloc, "AGSCERT 1\n")?;
+        for _ in 0..bytes {
+            long.push_str("#")?;
+        }
+        long.push_str("\nEND\n")?;
+        compare_fault(&rt, long.as_str(), line)?;
+    }
+    Ok(())
+}
