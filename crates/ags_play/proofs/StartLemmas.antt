@@ -19,10 +19,10 @@ use Rattle.ags_safe.specs.Certificate.{Certificate}
 use Rattle.ags_safe.specs.Start.{IsStart}
 use Rattle.ags_script.specs.declared.commands.Command.{Command}
 use Rattle.ags_script.specs.declared.commands.Command.TheVariants.{Start, Cell, Port}
-use Rattle.ags_script.specs.Suiting.{NamesLocation}
+use Rattle.ags_script.specs.Suiting.{NamesLocation, NamesWord}
 use Rattle.ags_play.specs.Bench.{with_setting, with_settings, begun_state}
 use Rattle.ags_play.specs.Guard.{IsInside}
-use Rattle.ags_play.specs.Begun.{SetsWord, AreSettable}
+use Rattle.ags_play.specs.Begun.{AreSettable}
 
 abbrev AreWords : List ℕ → Type 0
 AreWords words = All (λ word. word < 2 ^ 18) words
@@ -68,7 +68,7 @@ set_other cells address word n erasable fixed = grind (arith, common_steps)
 fixed_stays : (cells : List ℕ) (address word n : ℕ) → address < 2048 → 2048 ≤ n → get_or (cells_with_word cells address word) n 0 ≡ get_or cells n 0
 fixed_stays cells address word n erasable fixed = chosen_cell (nat_lt address 2048) (set cells address word) cells n (set_other cells address word n erasable fixed)
 
-fresh_setting : (machine : Machine) (image : List (Option ℕ)) (s : State) (command : Command) → NamesLocation command → SetsWord command → IsFresh machine image s
+fresh_setting : (machine : Machine) (image : List (Option ℕ)) (s : State) (command : Command) → NamesLocation command → NamesWord command → IsFresh machine image s
     → IsFresh machine image (with_setting machine s command)
 fresh_setting machine image s (Start address) place word p = record {
   state = record {
@@ -135,12 +135,12 @@ fresh_setting machine image s (Port address word) place below p = record {
 }
 fresh_setting machine image s _ place word p = p
 
-fresh_settings : (machine : Machine) (image : List (Option ℕ)) (s : State) (commands : List Command) → All NamesLocation commands → All SetsWord commands → IsFresh machine image s
+fresh_settings : (machine : Machine) (image : List (Option ℕ)) (s : State) (commands : List Command) → All NamesLocation commands → All NamesWord commands → IsFresh machine image s
     → IsFresh machine image (with_settings machine s commands)
 fresh_settings machine image s [] places words p = p
 fresh_settings machine image s (command ∷ commands) places words p =
-    fresh_settings machine image (with_setting machine s command) commands (All-tail NamesLocation command commands places) (All-tail SetsWord command commands words)
-    (fresh_setting machine image s command (All-head NamesLocation command commands places) (All-head SetsWord command commands words) p)
+    fresh_settings machine image (with_setting machine s command) commands (All-tail NamesLocation command commands places) (All-tail NamesWord command commands words)
+    (fresh_setting machine image s command (All-head NamesLocation command commands places) (All-head NamesWord command commands words) p)
 
 fresh_start : (machine : Machine) (image : List (Option ℕ)) (start : ℕ) → IsImage image → start < 4096 → IsFresh machine image (start_state machine image start)
 fresh_start machine image start is below = record {

@@ -1,6 +1,6 @@
 -- What is so of the commands that a script sets the start with, and what a play under a certificate is: a run of the
 -- certificate.
-use Rattle.std.specs.Prelude.{ℕ, ◌<◌, ◌^◌, List, All, Option}
+use Rattle.std.specs.Prelude.{ℕ, List, All, Option}
 use Rattle.ags_domain.specs.Value.{value_meaning}
 use Rattle.ags_domain.specs.declared.values.Value.{Value}
 use Rattle.ags_ports.specs.declared.events.Event.{Event}
@@ -10,19 +10,12 @@ use Rattle.ags_ports.specs.State.{State}
 use Rattle.ags_safe.specs.Certificate.{Certificate}
 use Rattle.ags_safe.specs.Start.{IsStart, AreDeclared}
 use Rattle.ags_script.specs.declared.commands.Command.{Command}
-use Rattle.ags_script.specs.declared.commands.Command.TheVariants.{Cell, Port}
-use Rattle.ags_script.specs.Suiting.{NamesLocation}
+use Rattle.ags_script.specs.Suiting.{NamesLocation, NamesWord}
 
--- the word that a command sets at the start is below 2 ^ 18
-abbrev pub SetsWord : Command → Type 0
-SetsWord (Cell address word) = word < 2 ^ 18
-SetsWord (Port address word) = word < 2 ^ 18
-SetsWord _ = Unit {0}
-
--- each address that is named is one of a location, of an erasable cell for CELL, and each word that is set is a word
+-- each address that is named is one of a location, of an erasable cell for CELL, and each word that is set or put is a word
 pub record AreSettable (commands : List Command) : Type 0 where
   pub locations : All NamesLocation commands
-  pub words : All SetsWord commands
+  pub words : All NamesWord commands
 
 -- The events are those of a run from the state, which is a start of the certificate, and each is one that it declares.
 pub record IsRunOf (machine : Machine) (image : List (Option ℕ)) (cert : Certificate Value) (s : State) (events : List Event) : Type 0 where

@@ -11,7 +11,7 @@ use Rattle.ags_ports.specs.declared.machines.Machine.{Machine}
 use Rattle.ags_ports.specs.Port.{place_of, register_at}
 use Rattle.ags_ports.specs.Run.{Moment, Run, last_state}
 use Rattle.ags_ports.specs.State.{State, cell}
-use Rattle.ags_run.specs.Shown.{reg_text, cell_text, output_text}
+use Rattle.ags_play.specs.Shown.{reg_text, cell_text, output_text}
 use Rattle.ags_timed.specs.declared.timed_runs.TheConstants.{CYCLE_MICROS}
 use Rattle.ags_timed.specs.Timed.{IsTimedRun, time_of_moments}
 use Rattle.ags_play.specs.Act.{Act, MakesSteps, Pulses, Puts, Presses, Feeds, FeedsWhereZero, RunsCycle, ShowsReg, ShowsCell, ShowsOut, ShowsDeda}

@@ -9,9 +9,13 @@ use Rattle.ags_play.specs.Played.{Met, Nothing, OutsideStart, OutsidePut}
 abbrev pub at_text : (address word : ℕ) → List ℕ
 at_text address word = octal4_text address ++ codes " " ++ octal6_text word
 
+-- two locations as four octal digits each, with a space between them
+abbrev pub locations_text : (script cert : ℕ) → List ℕ
+locations_text script cert = octal4_text script ++ codes " " ++ octal4_text cert
+
 -- of a start: the two locations, or the cell or the input register with its word
 abbrev pub outside_text : Outside → List ℕ
-outside_text (Place script cert) = codes "OUTSIDE START " ++ octal4_text script ++ codes " " ++ octal4_text cert
+outside_text (Place script cert) = codes "OUTSIDE START " ++ locations_text script cert
 outside_text (Cell address word) = codes "OUTSIDE CELL " ++ at_text address word
 outside_text (Port address word) = codes "OUTSIDE PORT " ++ at_text address word
 

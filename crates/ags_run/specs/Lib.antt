@@ -1,10 +1,7 @@
 -- what the public contracts cite
-pub mod FaultText
-pub mod Played
-pub mod Playable
-pub mod Reading
-pub mod Script
-pub mod Shown
-pub mod Spelling
+pub mod Play
+pub mod ErrorText
 -- what serves inside
-pub mod Field
+pub mod Hearing
+pub mod Standing
+pub mod Acted

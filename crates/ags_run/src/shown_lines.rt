@@ -2,7 +2,7 @@
 
 ghost use Rattle.std.specs.Prelude.{◌≡◌, ◌<◌, [], ◌∷◌};
 ghost use Rattle.ags_ports.specs.declared.events.Phase.{Phase};
-ghost use Rattle.ags_run.specs.Shown.{indicator_text, phase_text, reg_text, cell_text, output_text};
+ghost use Rattle.ags_play.specs.Shown.{indicator_text, phase_text, reg_text, cell_text, output_text};
 
 use ags_core::Core;
 use ags_ports::Phase;
@@ -28,7 +28,7 @@ fn phase_letter(phase: Phase) -> u8
 }
 
 /// The line of the registers, without its line feed.
-#[tactic(auto, unfolding(crate::specs::Shown::reg_text, ags_text::specs::Numeral::numeral))]
+#[tactic(auto, unfolding(ags_play::specs::Shown::reg_text, ags_text::specs::Numeral::numeral))]
 pub fn reg_line(core: &Core) -> [u8; 34]
     ensures { result ≡ reg_text core.now }
 {
@@ -45,7 +45,7 @@ pub fn reg_line(core: &Core) -> [u8; 34]
 }
 
 /// The line of a cell, without its line feed.
-#[tactic(auto, unfolding(crate::specs::Shown::cell_text, ags_text::specs::Numeral::numeral))]
+#[tactic(auto, unfolding(ags_play::specs::Shown::cell_text, ags_text::specs::Numeral::numeral))]
 pub fn cell_line(address: u16, word: Word) -> [u8; 16]
     requires { address < 4096 }
     ensures { result ≡ cell_text address word }
@@ -58,7 +58,7 @@ pub fn cell_line(address: u16, word: Word) -> [u8; 16]
 }
 
 /// The line of an output register, without its line feed.
-#[tactic(auto, unfolding(crate::specs::Shown::output_text, ags_text::specs::Numeral::numeral))]
+#[tactic(auto, unfolding(ags_play::specs::Shown::output_text, ags_text::specs::Numeral::numeral))]
 pub fn output_line(address: u16, word: Word) -> [u8; 15]
     requires { address < 4096 }
     ensures { result ≡ output_text address word }

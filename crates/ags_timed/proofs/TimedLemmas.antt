@@ -2,12 +2,13 @@
 --     some_timed, one_timed      from each state there is a timed run, and one alone
 --     timed_none, timed_idle     the run of no step
 --     timed_most                 how far the last order may pass the limit
+--     timed_few                  no more steps than microseconds
 use Rattle.std.proofs.Common.{◌≡◌, ◌≢◌, ◌⊎◌, ℕ, zero, suc, ◌+◌, ◌-◌, ◌<◌, ◌≤◌, Bool, true, false, List, [], ◌∷◌, ◌++◌, length, get_or, take, refl, sym, ap, subst, ◌∙◌, inl, inr, arith}
 use Rattle.std.specs.Prelude.{replicate, Option, Some, None, IfSome, ◌/◌, ◌%◌, ◌^◌}
 use Rattle.std.specs.Option.{option_map_or}
 use Rattle.ags_ports.specs.Time.{time_of}
 use Rattle.std.proofs.lemmas.Bool.{cases_Bool, cases_lt}
-use Rattle.std.proofs.lemmas.List.{length-append, take-append-le, take_all, take_more}
+use Rattle.std.proofs.lemmas.List.{length-append, length-take-le, take-append-le, take-take, take_all, take_more}
 use Rattle.std.proofs.lemmas.List.Sums.{sum_by-append}
 use Rattle.std.proofs.Math.Seq.{take-append_seam}
 use Rattle.ags_isa.specs.declared.decoding.Decoded.{Decoded}
@@ -30,7 +31,7 @@ use Rattle.ags_ports.specs.Run.{Moment, Run, last_state}
 use Rattle.ags_ports.proofs.StepLemmas.{some_step}
 use Rattle.ags_ports.proofs.OrderTimeLemmas.{time-least, time-most}
 use Rattle.ags_ports.proofs.RunLemmas.{run-append, last-append, one_run}
-use Rattle.ags_timed.specs.Timed.{time_of_moments, GoesOn, IsTimedRun, LooksAt, RunsFor}
+use Rattle.ags_timed.specs.Timed.{time_of_moments, GoesOn, IsTimedRun, LooksAt, RunsFor, RunsSteps}
 
 -- ---- a run grows at its end
 
@@ -109,6 +110,25 @@ seen_over looks machine limit s watcher here watcher_here spent so_far over = re
   ends = so_far.so_far.here_is;
   seen = so_far.seen;
 }
+
+-- ---- so many steps
+
+pub steps_none : {W : Type 0} (looks : W → Report → W → Type 0) (machine : Machine) (s : State) (watcher : W) → RunsSteps looks machine 0 s watcher s watcher
+steps_none looks machine s watcher = record { moments = []; run = tt; ends = refl; seen = refl }
+
+pub steps_further : {W : Type 0} (looks : W → Report → W → Type 0) (machine : Machine) (count : ℕ) (s : State) (watcher : W) (here : State) (watcher_here : W) (report : Report)
+    (after : State) (watcher_after : W) → RunsSteps looks machine count s watcher here watcher_here → Steps machine here Step report after
+    → looks watcher_here report watcher_after → RunsSteps looks machine (count + 1) s watcher after watcher_after
+steps_further looks machine count s watcher here watcher_here report after watcher_after so_far steps look =
+    let moment : Moment = record { report = report; after = after } in
+    record {
+      moments = so_far.moments ++ moment ∷ [];
+      run =
+          let P : List Event → Type 0 = λ es. Run machine s es (so_far.moments ++ moment ∷ []) in
+          subst P (steps_more count) (run-append machine s (replicate count Step) (Step ∷ []) so_far.moments (moment ∷ []) so_far.run (rw so_far.ends at steps, tt));
+      ends = sym (last-append s so_far.moments (moment ∷ []));
+      seen = looks_more looks so_far.moments moment watcher watcher_here watcher_after so_far.seen look;
+    }
 
 -- ---- there is one
 
@@ -301,6 +321,39 @@ timed_most machine limit s (moment ∷ moments) spent is timed =
     let most = time-most machine last.report is in
     let sum : time_of_moments machine all ≡ time_of_moments machine (take count all) + (0 + order_time machine last.report) = ap (time_of_moments machine) cut ∙ parts in
     omega (arith, timed.time, sum, before.time, most)
+
+-- steps of which each ends where orders run take a microsecond each, at least
+costly : (machine : Machine) (s : State) (moments : List Moment) → IsMachine machine → Run machine s (replicate (length moments) Step) moments
+    → ((count : ℕ) → count ≤ length moments → (last_state s (take count moments)).phase ≡ Running) → length moments ≤ time_of_moments machine moments
+costly machine s [] is run running = omega arith
+costly machine s (moment ∷ moments) is run running =
+    let rest = costly machine moment.after moments is run.1 (λ count within. running (suc count) (omega (arith, within))) in
+    let ran : moment.report.ran ≡ true = elim (cases_Bool moment.report.ran) [
+      | inl ran ↦ ran
+      | inr idle ↦ absurd (halted (sym (halts_unless_ran machine s moment.report moment.after (running 0 (omega arith)) run.0 idle) ∙ running 1 (omega arith)))
+    ] in
+    omega (arith, rest, time_of_first machine moment moments, time-least machine s Step moment.report moment.after is run.0 ran)
+  where
+    halted : Halted ≡ Running → ⊥
+    halted h = cc
+
+pub timed_few : (machine : Machine) (limit : ℕ) (s : State) (moments : List Moment) (spent : ℕ) → IsMachine machine → IsTimedRun machine limit s moments spent → length moments ≤ limit
+timed_few machine limit s [] spent is timed = omega arith
+timed_few machine limit s (moment ∷ moments) spent is timed =
+    let all = moment ∷ moments in
+    let count = length moments in
+    let front = take count all in
+    let size : length front ≡ count = length-take-le count all (omega arith) in
+    let before = timed.least count (omega arith) in
+    let P : ℕ → Type 0 = λ n. Run machine s (replicate n Step) front in
+    let run = subst P (sym size) (run_front machine s all count timed.run (omega arith)) in
+    let goes_on = λ (n : ℕ) (within : n ≤ length front).
+        let inside : n ≤ count = omega (arith, within, size) in
+        let same : take n front ≡ take n all = take-take n count all inside in
+        let there = timed.least n (omega (arith, inside)) in
+        let Q : List Moment → Type 0 = λ ms. (last_state s ms).phase ≡ Running in
+        subst Q (sym same) there.running in
+    omega (arith, costly machine s front is run goes_on, size, before.time)
 
 -- ---- the time of a report that names no order
 

@@ -36,3 +36,10 @@ pub record RunsFor {W : Type 0} (looks : W → Report → W → Type 0) (machine
   pub timed : IsTimedRun machine limit s moments spent
   pub ends : after ≡ last_state s moments
   pub seen : LooksAt looks watcher moments watcher_after
+
+-- From one state to another along so many steps, of which a watcher saw each report.
+pub record RunsSteps {W : Type 0} (looks : W → Report → W → Type 0) (machine : Machine) (count : ℕ) (s : State) (watcher : W) (after : State) (watcher_after : W) : Type 0 where
+  pub moments : List Moment
+  pub run : Run machine s (replicate count Step) moments
+  pub ends : after ≡ last_state s moments
+  pub seen : LooksAt looks watcher moments watcher_after

@@ -1,7 +1,7 @@
 //! What the definition of a timed run means. Each law is what a function that does nothing ensures, so that it is proved with
 //! the crate. Behind each clause is a lemma of `proofs/TimedLemmas`, which the crates above cite.
 
-ghost use Rattle.std.specs.Prelude.{◌≡◌, ◌≢◌, ◌+◌, ◌≤◌, ℕ, List, []};
+ghost use Rattle.std.specs.Prelude.{◌≡◌, ◌≢◌, ◌+◌, ◌≤◌, ℕ, List, [], length};
 ghost use Rattle.ags_ports.specs.declared.events.Phase.TheVariants.{Running};
 ghost use Rattle.ags_ports.specs.declared.machines.Machine.{Machine};
 ghost use Rattle.ags_ports.specs.Machine.{IsMachine};
@@ -22,4 +22,7 @@ pub fn each_state_has_one_timed_run()
     ensures idle { (machine : Machine) (limit : ℕ) (s : State) → s.phase ≢ Running → IsTimedRun machine limit s [] 0 }
     ensures most { (machine : Machine) (limit : ℕ) (s : State) (moments : List Moment) (spent : ℕ) → IsMachine machine
         → IsTimedRun machine limit s moments spent → spent ≤ limit + 999 }
+    // No run has more steps than microseconds: each order takes one at least, and a step that runs none is the last.
+    ensures few { (machine : Machine) (limit : ℕ) (s : State) (moments : List Moment) (spent : ℕ) → IsMachine machine
+        → IsTimedRun machine limit s moments spent → length moments ≤ limit }
 {}

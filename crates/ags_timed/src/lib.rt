@@ -1,6 +1,6 @@
 //! Timed runs of the machine: steps until the time of the orders that ran reaches a limit, as a cycle of the timer goes. It
 //! stands on `ags_core` for the steps and on `ags_ports` for the definition of runs and of order times. `run_for` is the
-//! least such run, told step by step to a watcher; `laws` says that from each state there is exactly one. No call takes
+//! least such run, told step by step to a watcher, and `run_steps` makes so many steps whatever their time; `laws` says that from each state there is exactly one. No call takes
 //! memory.
 #![tactic(auto)]
 
@@ -8,7 +8,7 @@ pub mod laws;
 mod timed_runs;
 mod watchers;
 
-pub use timed_runs::{CYCLE_MICROS, run_for};
+pub use timed_runs::{CYCLE_MICROS, run_for, run_steps};
 pub use watchers::Watcher;
 
 #[cfg(test)]

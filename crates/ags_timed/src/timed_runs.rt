@@ -6,7 +6,7 @@ ghost use Rattle.ags_ports.specs.declared.events.Event.TheVariants as event;
 ghost use Rattle.ags_ports.specs.OrderTime.{order_time};
 ghost use Rattle.ags_ports.specs.State.{IsState};
 ghost use Rattle.ags_ports.specs.Step.{Steps};
-ghost use Rattle.ags_timed.specs.Timed.{RunsFor};
+ghost use Rattle.ags_timed.specs.Timed.{RunsFor, RunsSteps};
 
 use crate::watchers::Watcher;
 use ags_core::Core;
@@ -37,6 +37,20 @@ pub fn run_for<W: Watcher>(core: &mut Core, machine: &Machine, micros: u64, watc
         spent += u64::from(order_time(machine, &report));
     }
     spent
+}
+
+/// Makes so many steps, whatever time they take and whether orders run or not. The watcher is told of each step.
+pub fn run_steps<W: Watcher>(core: &mut Core, machine: &Machine, count: u32, watcher: &mut W)
+    requires inputs { length core.old.inputs ≡ length machine.now.ports.inputs }
+    requires outputs { length core.old.outputs ≡ length machine.now.ports.outputs }
+    ensures run { RunsSteps W.looks machine.now count core.old watcher.old core.new watcher.new }
+    ensures inputs { length core.new.inputs ≡ length core.old.inputs }
+    ensures outputs { length core.new.outputs ≡ length core.old.outputs }
+    ensures state { IsState machine.now core.old → IsState machine.now core.new }
+{
+    for _ in 0..count {
+        seen_step(core, machine, watcher);
+    }
 }
 
 /// One step, of which the watcher is told.

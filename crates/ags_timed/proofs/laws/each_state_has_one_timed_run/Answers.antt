@@ -1,4 +1,4 @@
-use Rattle.ags_timed.proofs.TimedLemmas.{some_timed, one_timed, one_time, timed_most}
+use Rattle.ags_timed.proofs.TimedLemmas.{some_timed, one_timed, one_time, timed_most, timed_few}
 use Rattle.ags_timed.proofs.laws.each_state_has_one_timed_run.Goals as goal
 
 pub returns-clause-some : goal.returns-clause-some
@@ -12,3 +12,6 @@ returns-clause-time c = one_time
 
 pub returns-clause-most : goal.returns-clause-most
 returns-clause-most c = timed_most
+
+pub returns-clause-few : goal.returns-clause-few
+returns-clause-few c = timed_few

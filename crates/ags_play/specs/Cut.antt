@@ -1,0 +1,34 @@
+-- A play that is cut in two.
+use Rattle.std.specs.Prelude.{◌≡◌, ℕ, List, [], ◌++◌, Option, Some, None}
+use Rattle.ags_domain.specs.declared.values.Value.{Value}
+use Rattle.ags_ports.specs.declared.events.Event.{Event}
+use Rattle.ags_ports.specs.declared.machines.Machine.{Machine}
+use Rattle.ags_ports.specs.Run.{Moment, Run, last_state}
+use Rattle.ags_safe.specs.Certificate.{Certificate}
+use Rattle.ags_play.specs.Act.{Act}
+use Rattle.ags_play.specs.Bench.{Bench}
+use Rattle.ags_play.specs.Doing.{PutWord}
+use Rattle.ags_play.specs.Played.{Plays}
+
+-- Behind the cut the acts are played from the bench that those before it left, where none of their words was stopped; and
+-- where one was, that is the end.
+abbrev pub GoesOnFrom : Machine → Option (Certificate Value) → (mid : Bench) → (stopped : Option PutWord) → List Act → List Event → List ℕ → (after : Bench) (met : Option PutWord) → Type 0
+GoesOnFrom machine guard mid None acts events text after met = Plays machine guard mid acts events text after met
+GoesOnFrom machine guard mid (Some put) acts events text after met = Plays machine guard mid [] events text after None × (met ≡ Some put)
+
+-- A play that is cut between two acts: what stands before the cut is a play whose events are one run from the first bench's
+-- state to that of the bench that it leaves, and what stands behind it goes on from there.
+pub record PlaysInTurn (machine : Machine) (guard : Option (Certificate Value)) (b : Bench) (first second : List Act) (events : List Event) (text : List ℕ) (after : Bench) (met : Option PutWord) : Type 0 where
+  pub early : List Event
+  pub moments : List Moment
+  pub shown : List ℕ
+  pub mid : Bench
+  pub stopped : Option PutWord
+  pub later : List Event
+  pub rest : List ℕ
+  pub events_are : events ≡ early ++ later
+  pub text_is : text ≡ shown ++ rest
+  pub plays : Plays machine guard b first early shown mid stopped
+  pub run : Run machine b.core early moments
+  pub ends : mid.core ≡ last_state b.core moments
+  pub goes_on : GoesOnFrom machine guard mid stopped second later rest after met

@@ -1,6 +1,0 @@
-use Rattle.std.proofs.Common.{arith}
-use Rattle.ags_run.proofs.NumberLemmas.{small_octal}
-use Rattle.ags_run.proofs.numbers.read_address.Goals as goal
-
-pub overflow_cast-result : goal.overflow_cast-result
-overflow_cast-result c = omega (arith, small_octal c.args.text.now c.in-Some.number (omega arith) c.in-Some.ensures.found)

@@ -1,0 +1,64 @@
+-- What the functions that make acts come to: over each bench of the definition that the code's bench stood for.
+use Rattle.std.specs.Prelude.{◌≡◌, ℕ, ◌+◌, ◌%◌, ◌^◌, List, count_by, Option, Some, None}
+use Rattle.ags_domain.specs.declared.values.Value.{Value}
+use Rattle.ags_outside.specs.Sink.{appended, WroteFront}
+use Rattle.ags_play.specs.Act.{Act}
+use Rattle.ags_play.specs.Bench as play
+use Rattle.ags_play.specs.Counted.{is_step, is_put}
+use Rattle.ags_play.specs.Doing.{PutWord, Does, bench_after}
+use Rattle.ags_play.specs.Played.{Plays}
+use Rattle.ags_ports.specs.declared.events.Event.{Event}
+use Rattle.ags_ports.specs.declared.machines.Machine.{Machine}
+use Rattle.ags_ports.specs.Run.{Moment}
+use Rattle.ags_safe.specs.Certificate.{Certificate}
+use Rattle.ags_run.specs.declared.benches.Bench.{Bench}
+use Rattle.ags_run.specs.declared.play_error.PlayError.{PlayError}
+use Rattle.ags_run.specs.declared.play_error.PlayError.TheVariants.{WriteFault, StartOutside, InputRange, NoMemory}
+use Rattle.ags_run.specs.Standing.{StandsAs}
+
+-- the events are counted
+pub record AreCounted (before after : Bench) (events : List Event) : Type 0 where
+  pub steps : after.listener.steps ≡ (before.listener.steps + count_by is_step events) % 2 ^ 64
+  pub puts : after.puts ≡ (before.puts + count_by is_put events) % 2 ^ 64
+
+-- one act was made
+pub record ActMade (machine : Machine) (b : play.Bench) (act : Act) (before after : Bench) : Type 0 where
+  pub events : List Event
+  pub moments : List Moment
+  pub does : Does machine b act events moments
+  pub stands : StandsAs after (bench_after machine b act moments)
+  pub counted : AreCounted before after events
+
+-- The acts were made, none of whose words was stopped, and the sink took exactly their text.
+pub record ActsMade (machine : Machine) (guard : Option (Certificate Value)) (b : play.Bench) (acts : List Act) (old new : Option (List ℕ)) (before after : Bench) : Type 0 where
+  pub events : List Event
+  pub text : List ℕ
+  pub end : play.Bench
+  pub plays : Plays machine guard b acts events text end None
+  pub sent : new ≡ appended old text
+  pub stands : StandsAs after end
+  pub counted : AreCounted before after events
+
+-- The acts were made up to the one whose word is stopped, and the sink took exactly their text.
+pub record ActsStopped (machine : Machine) (guard : Option (Certificate Value)) (b : play.Bench) (acts : List Act) (old new : Option (List ℕ)) (put : PutWord) : Type 0 where
+  pub events : List Event
+  pub text : List ℕ
+  pub end : play.Bench
+  pub plays : Plays machine guard b acts events text end (Some put)
+  pub sent : new ≡ appended old text
+
+-- The sink took a prefix of the acts' text.
+pub record ActsInPart (machine : Machine) (guard : Option (Certificate Value)) (b : play.Bench) (acts : List Act) (old new : Option (List ℕ)) : Type 0 where
+  pub events : List Event
+  pub text : List ℕ
+  pub end : play.Bench
+  pub met : Option PutWord
+  pub plays : Plays machine guard b acts events text end met
+  pub front : WroteFront old new text
+
+-- why the acts weren't made to their end
+abbrev pub AreUnmade : Machine → Option (Certificate Value) → play.Bench → List Act → (old new : Option (List ℕ)) → PlayError → Type 0
+AreUnmade machine guard b acts old new (InputRange address word) = ActsStopped machine guard b acts old new (record { address = address; word = word })
+AreUnmade machine guard b acts old new WriteFault = ActsInPart machine guard b acts old new
+AreUnmade machine guard b acts old new NoMemory = ActsInPart machine guard b acts old new
+AreUnmade machine guard b acts old new (StartOutside outside) = ⊥

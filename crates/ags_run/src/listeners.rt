@@ -1,0 +1,49 @@
+//! The panel as it listens to the machine.
+
+ghost use Rattle.std.specs.Prelude.{◌≡◌, ◌≤◌, IfSome};
+ghost use Rattle.ags_run.specs.Hearing.{heard};
+
+use ags_deda::Panel;
+use ags_ports::Report;
+use ags_timed::Watcher;
+
+/// The panel, which is told of each step.
+#[derive(Drop)]
+pub(crate) struct Listener {
+    /// The panel.
+    pub(crate) panel: Panel,
+    /// The output register that it is connected to, where the machine has it.
+    pub(crate) address: Option<u16>,
+    /// How many steps it was told of, modulo 2 ^ 64.
+    pub(crate) steps: u64,
+}
+
+impl Listener {
+    /// The digit that a report shows to the panel.
+    fn heard(&self, report: &Report) -> Option<u8>
+        ensures digit { result ≡ heard self.now.address report.now.gave }
+        ensures most { IfSome result (λ digit. digit ≤ 15) }
+    {
+        let (Some(address), Some(gave)) = (self.address, report.gave) else {
+            return None;
+        };
+        if gave.address == address {
+            Some((gave.word.number() % 16) as u8)
+        } else {
+            None
+        }
+    }
+}
+
+impl Watcher for Listener {
+    ghost use Rattle.ags_run.specs.Hearing.{Hears};
+
+    ghost looks = { Hears };
+
+    fn saw(&mut self, report: &Report) {
+        self.steps = self.steps.wrapping_add(1);
+        if let Some(digit) = self.heard(report) {
+            let _ = self.panel.shown(digit);
+        }
+    }
+}
