@@ -67,6 +67,8 @@ fn refuses_arguments_and_files(rt: HostRuntime) -> Result<(), Fail> {
         "run",
         "run S",
         "run S P M N",
+        "guard S P",
+        "guard S P C M N",
         "RUN S P",
         "run assemble",
         "ASSEMBLE S",

@@ -17,4 +17,6 @@ mod listing_tests;
 #[cfg(test)]
 mod machine_tests;
 #[cfg(test)]
+mod panel_tests;
+#[cfg(test)]
 mod source_tests;

@@ -1,0 +1,258 @@
+//! Scripts with the panel, and guarded plays. The expected lines are typed by hand from docs/SCRIPT.md, docs/PANEL.md and
+//! docs/CHECKER.md.
+
+use crate::answer_tests::compare_over;
+use crate::decks::{DECK, DECK_CERTIFICATE};
+use ags_top::Status;
+use std::process::Abort;
+use std::test::Fail;
+
+/// A source of one order, which waits for a pulse.
+const WAITING: &str = " ORG /4000\n DLY /4000\n";
+
+/// A certificate for it, in which the panel's digits are too large for their register.
+const SMALL_DIGITS: &str = "AGSCERT 1\nIN 2200 RANGE 0 15\nROW 4000 A ANY Q ANY X 0 V 0\nEND\n";
+
+/// Hands what comes from the panel to the register at 6001.
+const ECHO: &str = " ORG /4000\nL INP /2200\n OUT /6001\n TRA L\n";
+
+/// The script of the deck.
+const DECK_SCRIPT: &str =
+    "PORT 2001 001750\nCYCLE 100\nSHOW CELL 0020\nSHOW REG\nKEY CLR 0 4 7 RO\nCYCLE 9\nSHOW DEDA\n";
+
+/// Runs `run S P` and compares what is shown.
+fn compare_shown(
+    rt: &(impl AllocGlobal + Abort),
+    source: &str,
+    script: &str,
+    text: &str,
+) -> Result<(), Fail> {
+    let files = [("S", source.as_bytes()), ("P", script.as_bytes())];
+    for most in [100_000, 1] {
+        compare_over(rt, &files, "run S P", most, Status::Done, text)?;
+    }
+    Ok(())
+}
+
+/// Runs `guard S P C` and compares the status and what is printed.
+fn compare_guarded(
+    rt: &(impl AllocGlobal + Abort),
+    files: (&str, &str, &str),
+    status: Status,
+    text: &str,
+) -> Result<(), Fail> {
+    let (source, script, certificate) = files;
+    let files = [
+        ("S", source.as_bytes()),
+        ("P", script.as_bytes()),
+        ("C", certificate.as_bytes()),
+    ];
+    for most in [100_000, 1] {
+        compare_over(rt, &files, "guard S P C", most, status, text)?;
+    }
+    Ok(())
+}
+
+// A whole entry and a wrong key, as the display has them.
+#[test]
+fn shows_keys(rt: HostRuntime) -> Result<(), Fail> {
+    let rows = [
+        (
+            "KEY CLR 0 4 7 + 0 1 2 3 4 ENTR\nSHOW DEDA\n",
+            "DEDA |047+01234 |\n",
+        ),
+        (
+            "KEY CLR 0 9 8\nSHOW DEDA\nKEY CLR\nSHOW DEDA\n",
+            "DEDA |0        E|\nDEDA |          |\n",
+        ),
+        ("SHOW DEDA\n", "DEDA |          |\n"),
+    ];
+    for (script, text) in rows {
+        compare_shown(&rt, WAITING, script, text)?;
+    }
+    Ok(())
+}
+
+// The nine digits of an entry come to the program one by one, and then none.
+#[test]
+fn feeds_an_entry(rt: HostRuntime) -> Result<(), Fail> {
+    let mut script = String::from_str(rt.alloc(), "KEY CLR 0 4 7 + 0 1 2 3 4 ENTR\n")?;
+    for _ in 0..10 {
+        script.push_str("FEED\nSTEP 3\nSHOW OUT 6001\n")?;
+    }
+    let text =
+        "OUT 6001 000020\nOUT 6001 000024\nOUT 6001 000027\nOUT 6001 000020\nOUT 6001 000020\nOUT 6001 000021\nOUT 6001 000022\nOUT 6001 000023\nOUT 6001 000024\nOUT 6001 000000\n";
+    compare_shown(&rt, ECHO, script.as_str(), text)
+}
+
+#[test]
+fn plays_and_guards_the_deck(rt: HostRuntime) -> Result<(), Fail> {
+    compare_shown(
+        &rt,
+        DECK,
+        DECK_SCRIPT,
+        "CELL 0020 001750\nA 777777 Q 404012 X 0 V 0 P 4000 W\nDEDA |047?????? |\n",
+    )?;
+    compare_guarded(
+        &rt,
+        (DECK, DECK_SCRIPT, DECK_CERTIFICATE),
+        Status::Done,
+        "CERTIFIED ROWS 31 CASES 32\nCELL 0020 001750\nA 777777 Q 404012 X 0 V 0 P 4000 W\nDEDA |047?????? |\n",
+    )
+}
+
+// Nothing is played behind what the certificate doesn't declare.
+#[test]
+fn stops_at_what_is_outside(rt: HostRuntime) -> Result<(), Fail> {
+    let rows = [
+        (
+            "SET 2001 001751\nSTEP 1\nSHOW REG\n",
+            "CERTIFIED ROWS 31 CASES 32\nOUTSIDE IN 2001 001751\n",
+        ),
+        (
+            "SET 2001 001750\nSHOW REG\nSET 2001 001751\nSHOW REG\n",
+            "CERTIFIED ROWS 31 CASES 32\nA 000000 Q 000000 X 0 V 0 P 4000 R\nOUTSIDE IN 2001 001751\n",
+        ),
+        (
+            "CELL 0020 001751\n",
+            "CERTIFIED ROWS 31 CASES 32\nOUTSIDE CELL 0020 001751\n",
+        ),
+        // a cell may begin with 0 alone, also where its range has the word
+        (
+            "CELL 0020 000001\nSHOW REG\n",
+            "CERTIFIED ROWS 31 CASES 32\nOUTSIDE CELL 0020 000001\n",
+        ),
+        (
+            "PORT 2001 001751\nCELL 0020 000000\nSHOW REG\n",
+            "CERTIFIED ROWS 31 CASES 32\nOUTSIDE PORT 2001 001751\n",
+        ),
+        // the location comes first, then cells, then registers
+        (
+            "PORT 2001 001751\nCELL 0020 000001\nSTART 4001\n",
+            "CERTIFIED ROWS 31 CASES 32\nOUTSIDE START 4001 4000\n",
+        ),
+        (
+            "PORT 2001 001751\nCELL 0021 000001\nCELL 0020 000002\n",
+            "CERTIFIED ROWS 31 CASES 32\nOUTSIDE CELL 0020 000002\n",
+        ),
+        // what is set later counts
+        (
+            "CELL 0020 000001\nCELL 0020 000000\nPORT 2001 001751\nPORT 2001 000000\nSHOW CELL 0020\nPORT 2002 000000\n",
+            "SCRIPT LINE 6 ERROR 1 BadLine\n",
+        ),
+    ];
+    for (script, text) in rows {
+        let status = if text.starts_with("SCRIPT") {
+            Status::BadText
+        } else {
+            Status::No
+        };
+        compare_guarded(&rt, (DECK, script, DECK_CERTIFICATE), status, text)?;
+    }
+    compare_guarded(
+        &rt,
+        (
+            DECK,
+            "CELL 0020 000001\nCELL 0020 000000\nSHOW CELL 0020\n",
+            DECK_CERTIFICATE,
+        ),
+        Status::Done,
+        "CERTIFIED ROWS 31 CASES 32\nCELL 0020 000000\n",
+    )
+}
+
+// The digit of a FEED, and that of a cycle, are tested as the word of a SET is.
+#[test]
+fn tests_what_the_panel_sends(rt: HostRuntime) -> Result<(), Fail> {
+    let rows = [
+        (
+            "KEY 0 4 7 RO\nSHOW REG\nFEED\nSHOW REG\n",
+            "CERTIFIED ROWS 1 CASES 1\nA 000000 Q 000000 X 0 V 0 P 4000 R\nOUTSIDE IN 2200 000020\n",
+        ),
+        (
+            "KEY 0 4 7 RO\nCYCLE 1\nSHOW REG\n",
+            "CERTIFIED ROWS 1 CASES 1\nOUTSIDE IN 2200 000020\n",
+        ),
+    ];
+    for (script, text) in rows {
+        compare_guarded(&rt, (WAITING, script, SMALL_DIGITS), Status::No, text)?;
+    }
+    // without a digit, and while the register holds a word, a cycle feeds nothing
+    for script in ["CYCLE 3\n", "SET 2200 000001\nKEY 0 4 7 RO\nCYCLE 2\n"] {
+        compare_guarded(
+            &rt,
+            (WAITING, script, SMALL_DIGITS),
+            Status::Done,
+            "CERTIFIED ROWS 1 CASES 1\n",
+        )?;
+    }
+    Ok(())
+}
+
+// A refused certificate is all that is said, and the certificate is read before the script.
+#[test]
+fn guards_nothing_that_is_refused(rt: HostRuntime) -> Result<(), Fail> {
+    let refused = "AGSCERT 1\nROW 4000 A ANY Q ANY X 0 V 0\nEND\n";
+    compare_guarded(
+        &rt,
+        (" ORG /4000\n CLZ /4000\n", "SHOW REG\n", refused),
+        Status::No,
+        "REFUSED 6 FixedWrite ROW 1 WORD 304000 AT 4000\n",
+    )?;
+    let files = [
+        ("S", WAITING.as_bytes()),
+        ("C", SMALL_DIGITS.as_bytes()),
+        ("B", b"AGSCERT 2\n".as_slice()),
+        ("P", b"STEP\n".as_slice()),
+    ];
+    let rows = [
+        ("guard S Y Z", Status::AbsentFile, "ABSENT Z\n"),
+        ("guard S Y C", Status::AbsentFile, "ABSENT Y\n"),
+        (
+            "guard S Y B",
+            Status::BadCert,
+            "CERTIFICATE LINE 1 ERROR 2 Version\n",
+        ),
+        (
+            "guard S P C",
+            Status::BadText,
+            "SCRIPT LINE 1 ERROR 1 BadLine\n",
+        ),
+        (
+            "guard P Y Z",
+            Status::BadSource,
+            "SOURCE CARD 0000001 ERROR 4 UnknownOperation\n",
+        ),
+        (
+            "guard S P C S",
+            Status::BadMachine,
+            "MACHINE ERROR 1 NotToml\n",
+        ),
+    ];
+    for (line, status, text) in rows {
+        compare_over(&rt, &files, line, 9, status, text)?;
+    }
+    Ok(())
+}
+
+#[test]
+fn refuses_scripts(rt: HostRuntime) -> Result<(), Fail> {
+    let rows = [
+        ("SET 2003 000001\n", "SCRIPT LINE 1 ERROR 2 NoPort\n"),
+        ("PORT 2003 000001\n", "SCRIPT LINE 1 ERROR 2 NoPort\n"),
+        ("SHOW OUT 2001\n", "SCRIPT LINE 1 ERROR 2 NoPort\n"),
+        ("CYCLE 5001\n", "SCRIPT LINE 1 ERROR 3 TooManySteps\n"),
+        ("STEP\n", "SCRIPT LINE 1 ERROR 1 BadLine\n"),
+        ("CELL 4000 000001\n", "SCRIPT LINE 1 ERROR 1 BadLine\n"),
+        ("KEY\n", "SCRIPT LINE 1 ERROR 1 BadLine\n"),
+        (
+            "STEP 1\nCELL 0000 000001\n",
+            "SCRIPT LINE 2 ERROR 1 BadLine\n",
+        ),
+    ];
+    for (script, line) in rows {
+        let files = [("S", WAITING.as_bytes()), ("P", script.as_bytes())];
+        compare_over(&rt, &files, "run S P", 9, Status::BadText, line)?;
+    }
+    Ok(())
+}

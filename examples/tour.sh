@@ -1,0 +1,177 @@
+#!/usr/bin/env bash
+# Runs the README's tour and compares what each command prints, on standard output and, where the output has no line, on standard
+# error. Another program than bin/ags may be named, as a build without proofs. Ends with 1 where something differs.
+set -u
+cd "$(dirname "$(readlink -f "${BASH_SOURCE[0]}")")/.." || exit 2
+ags=${1:-bin/ags}
+room=$(mktemp -d) || exit 2
+trap 'rm -rf "$room"' EXIT
+differing=0
+
+# compare NAME STATUS WANTED-STATUS: what came stands in the file `got`, and what is wanted comes on standard input
+compare() {
+  cat >"$room/wanted"
+  if [ "$2" -ne "$3" ] || ! diff "$room/wanted" "$room/got" >"$room/diff"; then
+    printf 'differs: %s (status %s, wanted %s)\n' "$1" "$2" "$3"
+    cat "$room/diff"
+    differing=1
+  fi
+}
+
+# prints STATUS ARGUMENT..: the whole standard output
+prints() {
+  local wanted=$1 status
+  shift
+  "$ags" "$@" >"$room/got" 2>"$room/said"
+  status=$?
+  compare "ags $*" "$status" "$wanted"
+}
+
+# ends STATUS ARGUMENT..: the last line of the standard output
+ends() {
+  local wanted=$1 status
+  shift
+  "$ags" "$@" >"$room/all" 2>"$room/said"
+  status=$?
+  tail -n 1 "$room/all" >"$room/got"
+  compare "ags $*" "$status" "$wanted"
+}
+
+# says STATUS ARGUMENT..: the standard error, where the output goes to the file OUT
+says() {
+  local wanted=$1 status
+  shift
+  "$ags" "$@" 2>"$room/got" >"${OUT:-$room/all}"
+  status=$?
+  compare "ags $* (standard error)" "$status" "$wanted"
+}
+
+# --- assemble and run
+
+prints 0 assemble examples/first.lem <<'END'
+0000001             * TWO CONSTANTS, AND ONE MORE PAST THEM
+0000002                     ORG /4000
+0000003 4000 377777 GAIN    OCT 377777
+0000004 4001 000001         OCT 000001
+0000005                     ORG /4010
+0000006 4010 000007         OCT 7
+END
+
+prints 0 assemble examples/scale.lem <<'END'
+0000001             * THREE QUARTERS OF A READING, LESS A BIAS, AT SCALE 10
+0000002                     ORG /20
+0000003             RESULT  BSS 1
+0000004             INPUT   EQU /2001
+0000005                     ORG /4000
+0000006 4000 642001 START   INP INPUT
+0000007 4001 164005         MPR FACTOR
+0000008 4002 224006         ADD BIAS
+0000009 4003 100020         STO RESULT
+0000010 4004 704000         DLY START
+0000011 4005 300000 FACTOR  DEC 0.75B0
+0000012 4006 774700 BIAS    DEC -12.5B10
+0000013                     END
+END
+
+prints 0 run examples/scale.lem examples/scale.script <<'END'
+CELL 0020 017500
+A 017500 Q 000000 X 0 V 0 P 4000 W
+END
+
+prints 0 run examples/once.lem examples/once.script examples/other.toml <<'END'
+A 000017 Q 000000 X 0 V 0 P 4001 R
+A 000000 Q 000000 X 0 V 0 P 4002 R
+END
+
+# --- the panel
+
+prints 0 run examples/deck.lem examples/entry.script <<'END'
+DEDA |          |
+DEDA |047       |
+DEDA |047+01234 |
+OUT 6200 000027
+DEDA |047+01234E|
+DEDA |          |
+END
+
+prints 0 run examples/deck.lem examples/deck.script <<'END'
+CELL 0020 001750
+A 777777 Q 404012 X 0 V 0 P 4000 W
+DEDA |047?????? |
+END
+
+# --- certify, break, mend, guard
+
+ends 0 certify examples/deck.lem examples/deck.cert <<'END'
+CERTIFIED ROWS 31 CASES 32
+END
+
+sed 's/^IN 2001 .*/IN 2001 RANGE -1001 1000/' examples/deck.cert >"$room/wide.cert"
+ends 1 certify examples/deck.lem "$room/wide.cert" <<'END'
+REFUSED 10 NotCovered ROW 1 WORD 642001 X 0 V 0 NEXT 4001
+END
+
+ends 1 certify examples/counter.lem examples/counter.cert <<'END'
+REFUSED 7 MayOverflow ROW 2 WORD 224004 A 377777 Q 000000 M 000001
+END
+
+ends 0 certify examples/counter.lem examples/counter_named.cert <<'END'
+CERTIFIED ROWS 4 CASES 8
+END
+
+prints 0 guard examples/deck.lem examples/deck.script examples/deck.cert <<'END'
+CERTIFIED ROWS 31 CASES 32
+CELL 0020 001750
+A 777777 Q 404012 X 0 V 0 P 4000 W
+DEDA |047?????? |
+END
+
+prints 1 guard examples/deck.lem examples/outside.script examples/deck.cert <<'END'
+CERTIFIED ROWS 31 CASES 32
+OUTSIDE IN 2001 001751
+END
+
+# --- listings, tapes and symbols
+
+"$ags" assemble examples/first.lem >"$room/first.lst"
+prints 0 compare examples/first.lem "$room/first.lst" <<'END'
+EQUAL
+END
+
+sed 's/ 377777 / 377776 /' "$room/first.lst" >"$room/mistyped.lst"
+prints 1 compare examples/first.lem "$room/mistyped.lst" <<'END'
+DIFFERS 4000 377777 377776
+END
+
+prints 0 tape examples/first.lem <<'END'
+4000 377777
+4001 000001
+4010 000007
+END
+
+prints 0 xref examples/scale.lem <<'END'
+BIAS      2054 0000012 0000008
+FACTOR    2053 0000011 0000007
+INPUT     1025 0000004 0000006
+RESULT      16 0000003 0000009
+START     2048 0000006 0000010
+END
+
+# --- what standard error says
+
+says 3 assemble <<'END'
+ags: the forms of arguments are: assemble S [M], compare S L [M], tape S [M], xref S [M], certify S C [M], run S P [M], guard S P C [M]
+END
+
+says 5 assemble examples <<'END'
+ags: examples can't be read
+END
+
+OUT=/dev/full says 6 assemble examples/first.lem <<'END'
+ags: the output can't be written
+END
+
+if [ "$differing" -ne 0 ]; then
+  exit 1
+fi
+printf 'the tour is as the README says\n'
