@@ -5,3 +5,6 @@ pub mod OnePlayLemmas
 pub mod Examples
 pub mod FoundLemmas
 pub mod SearchLemmas
+pub mod UnguardedLemmas
+pub mod CutLemmas
+pub mod CountLemmas
