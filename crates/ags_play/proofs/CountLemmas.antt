@@ -1,6 +1,6 @@
 -- How many steps and puts a play has. The crates above cite:
 --     few_steps    no more than the steps that its commands count for
---     few_puts     no more than one for each command, and one for each cycle
+--     few_puts     no more than the commands and those steps together
 use Rattle.std.proofs.Common.{◌≡◌, ℕ, zero, suc, ◌+◌, ◌*◌, ◌≤◌, Bool, true, false, cond, List, [], ◌∷◌, ◌++◌, length, replicate, refl, sym, ap, subst, ◌∙◌, arith}
 use Rattle.std.specs.Prelude.{Option, Some, None, count_by, sum_by}
 use Rattle.std.proofs.lemmas.List.Sums.{sum_by-append, sum_by-cons}
