@@ -12,7 +12,7 @@ use Rattle.ags_ports.specs.declared.events.Event.{Event}
 use Rattle.ags_ports.specs.declared.machines.Machine.{Machine}
 use Rattle.ags_ports.specs.Machine.{IsMachine}
 use Rattle.ags_ports.specs.State.{State}
-use Rattle.ags_ports.specs.Run.{Moment, Run, RunsTo, last_state}
+use Rattle.ags_ports.specs.Run.{Moment, Run, RunsTo}
 use Rattle.ags_ports.proofs.RunLemmas.{run-append, last-append, one_run}
 use Rattle.ags_safe.specs.Certificate.{Certificate}
 use Rattle.ags_script.specs.declared.commands.Command.{Command}
@@ -187,10 +187,9 @@ module _ (machine : Machine) (guard : Option (Certificate Value)) where
       let parts = cut b after first second events text met p in
       let behind = later_runs parts.mid after parts.stopped second parts.later parts.rest met parts.goes_on in
       let run = subst (λ (s : State). Run machine s parts.later behind.moments) parts.ends behind.run in
-      let whole = run-append machine b.core parts.early parts.later parts.moments behind.moments parts.run run in
-      (
+      let whole = run-append machine b.core parts.early parts.later parts.moments behind.moments parts.run run in (
         parts,
         behind.moments,
         one_run machine b.core (parts.early ++ parts.later) all (parts.moments ++ behind.moments) h
-        (subst (λ (es : List Event). Run machine b.core es all) parts.events_are r) whole,
+            (subst (λ (es : List Event). Run machine b.core es all) parts.events_are r) whole,
       )
