@@ -2,6 +2,9 @@ pub mod PlayLemmas
 pub mod StartLemmas
 pub mod RunOfLemmas
 pub mod OnePlayLemmas
-pub mod Examples
 pub mod FoundLemmas
 pub mod SearchLemmas
+pub mod UnguardedLemmas
+pub mod CutLemmas
+pub mod CountLemmas
+pub mod Examples

@@ -1,23 +1,26 @@
 //! What the definition of a play means. Each law is what a function that does nothing ensures, so that it is proved with the
 //! crate. Behind each clause is a lemma of `proofs/`, which the crates above cite.
 
-ghost use Rattle.std.specs.Prelude.{◌≡◌, ◌<◌, ℕ, List, [], Option, Some};
+ghost use Rattle.std.specs.Prelude.{◌≡◌, ℕ, ◌+◌, ◌<◌, ◌≤◌, List, [], ◌++◌, length, Option, Some, None, count_by, sum_by};
 ghost use Rattle.ags_domain.specs.Value.{value_meaning};
 ghost use Rattle.ags_domain.specs.declared.values.Value.{Value};
 ghost use Rattle.ags_image.specs.Image.{IsImage};
 ghost use Rattle.ags_ports.specs.declared.events.Event.{Event};
 ghost use Rattle.ags_ports.specs.declared.machines.Machine.{Machine};
 ghost use Rattle.ags_ports.specs.Machine.{IsMachine};
-ghost use Rattle.ags_ports.specs.Run.{RunsTo};
+ghost use Rattle.ags_ports.specs.Run.{Moment, Run, RunsTo};
 ghost use Rattle.ags_safe.specs.Certificate.{Certificate};
 ghost use Rattle.ags_safe.specs.Start.{AreDeclared};
 ghost use Rattle.ags_script.specs.declared.commands.Command.{Command};
-ghost use Rattle.ags_play.specs.Act.{Act};
+ghost use Rattle.ags_script.specs.Command.{step_count};
+ghost use Rattle.ags_play.specs.Act.{Act, acts_of};
 ghost use Rattle.ags_play.specs.Bench.{Bench, begun_state};
 ghost use Rattle.ags_play.specs.Doing.{PutWord};
 ghost use Rattle.ags_play.specs.Guard.{Outside};
-ghost use Rattle.ags_play.specs.Played.{Plays, Met, OutsideStart, IsPlayOf};
+ghost use Rattle.ags_play.specs.Played.{Plays, Met, Nothing, OutsideStart, IsPlayOf};
 ghost use Rattle.ags_play.specs.Begun.{AreSettable, IsRunOf};
+ghost use Rattle.ags_play.specs.Counted.{is_step, is_put};
+ghost use Rattle.ags_play.specs.Cut.{PlaysInTurn};
 
 /// The events of a play are one run, from the state of the bench that it begins on to that of the bench that it leaves.
 pub fn events_of_a_play_are_one_run()
@@ -62,4 +65,51 @@ pub fn each_script_has_one_play()
         (events others : List Event) (text other : List ℕ) (met unmet : Met) → IsMachine machine
         → IsPlayOf machine image guard commands events text met → IsPlayOf machine image guard commands others other unmet
         → (events ≡ others) × (text ≡ other) × (met ≡ unmet) }
+{}
+
+/// Wherever a play is cut, what stands before the cut is a play whose events are one run from the first state, and what stands
+/// behind it is played on the bench that the first part leaves, which is where this run ends. So each state that is shown is one
+/// that the run of all events has come to, and what comes later doesn't change it.
+pub fn what_is_shown_lies_on_one_run()
+    ensures split { (machine : Machine) (guard : Option (Certificate Value)) (b : Bench) (first second : List Act)
+        (events : List Event) (text : List ℕ) (after : Bench) (met : Option PutWord)
+        → Plays machine guard b (first ++ second) events text after met
+        → PlaysInTurn machine guard b first second events text after met }
+    // A run of all the events begins with that run.
+    ensures along { (machine : Machine) (guard : Option (Certificate Value)) (b : Bench) (first second : List Act)
+        (events : List Event) (text : List ℕ) (after : Bench) (met : Option PutWord) (all : List Moment) → IsMachine machine
+        → Plays machine guard b (first ++ second) events text after met → Run machine b.core events all
+        → (cut : PlaysInTurn machine guard b first second events text after met) × (further : List Moment)
+        × (all ≡ cut.moments ++ further) }
+{}
+
+/// Acts behind others go on from the bench that those leave, where none of their words was stopped; where one was, they are not
+/// played.
+pub fn plays_follow_one_another()
+    ensures on { (machine : Machine) (guard : Option (Certificate Value)) (b mid after : Bench) (first second : List Act)
+        (events later : List Event) (text rest : List ℕ) (met : Option PutWord)
+        → Plays machine guard b first events text mid None → Plays machine guard mid second later rest after met
+        → Plays machine guard b (first ++ second) (events ++ later) (text ++ rest) after met }
+    ensures stop { (machine : Machine) (guard : Option (Certificate Value)) (b after : Bench) (first second : List Act)
+        (events : List Event) (text : List ℕ) (put : PutWord) → Plays machine guard b first events text after (Some put)
+        → Plays machine guard b (first ++ second) events text after (Some put) }
+{}
+
+/// A play makes no more steps than its commands count for. A command puts one word at most, and a line of cycles one in each, for
+/// which it counts for steps too; so a play puts no more words than its commands and their steps together.
+pub fn events_are_counted_for()
+    ensures steps { (machine : Machine) (guard : Option (Certificate Value)) (b after : Bench) (commands : List Command)
+        (events : List Event) (text : List ℕ) (met : Option PutWord) → IsMachine machine
+        → Plays machine guard b (acts_of commands) events text after met
+        → count_by is_step events ≤ sum_by step_count commands }
+    ensures puts { (machine : Machine) (guard : Option (Certificate Value)) (b after : Bench) (commands : List Command)
+        (events : List Event) (text : List ℕ) (met : Option PutWord)
+        → Plays machine guard b (acts_of commands) events text after met
+        → count_by is_put events ≤ length commands + sum_by step_count commands }
+{}
+
+/// Without a certificate a play meets nothing: no start is outside, and no word is stopped.
+pub fn unguarded_play_meets_nothing()
+    ensures { (machine : Machine) (image : List (Option ℕ)) (commands : List Command) (events : List Event) (text : List ℕ)
+        (met : Met) → IsPlayOf machine image None commands events text met → met ≡ Nothing }
 {}

@@ -79,3 +79,9 @@ small_address text number is =
     let below : number < 8 ^ length text = rw (← is.value) (digits_value-lt 8 text is.digits) in
     let same : 8 ^ length text ≡ 4096 = ap (λ n. 8 ^ n) is.length in
     omega arith
+
+pub small_word : (text : List ℕ) (number : ℕ) → Writes 8 6 text number → number < 2 ^ 18
+small_word text number is =
+    let below : number < 8 ^ length text = rw (← is.value) (digits_value-lt 8 text is.digits) in
+    let same : 8 ^ length text ≡ 262144 = ap (λ n. 8 ^ n) is.length in
+    omega arith

@@ -19,8 +19,8 @@ use Rattle.ags_script.specs.Command.{is_start, is_setting, step_count, lacks_por
 use Rattle.ags_script.specs.Reading.{reading}
 use Rattle.ags_script.specs.Script.{commands_in, commands_of, is_misplaced, command_fault, reading_fault, line_fault, IsReadFor}
 use Rattle.ags_script.specs.Spelling.{LineReading, Skipped, One, Keys, Malformed, States, Spells}
-use Rattle.ags_script.specs.Suiting.{NamesLocation, AreOrdered, Suits}
-use Rattle.ags_script.proofs.NumberLemmas.{small_address}
+use Rattle.ags_script.specs.Suiting.{NamesLocation, NamesWord, AreOrdered, Suits}
+use Rattle.ags_script.proofs.NumberLemmas.{small_address, small_word}
 use Rattle.ags_script.proofs.ScriptLemmas.{commands-more, reverse-more}
 use Rattle.ags_script.proofs.SpellingLaws.{read_spelled}
 
@@ -125,10 +125,12 @@ starts earlier command few placed =
       | inr other ↦ let weight : start_weight command ≡ 0 = rw other refl in omega (arith, count_more earlier command, weight)
     ]
 
-suits_more : (machine : Machine) (earlier : List Command) (command : Command) → Suits machine earlier → NamesLocation command → IsFine machine earlier command → Suits machine (earlier ++ command ∷ [])
-suits_more machine earlier command suits location is = record {
+suits_more : (machine : Machine) (earlier : List Command) (command : Command) → Suits machine earlier → NamesLocation command → NamesWord command → IsFine machine earlier command
+    → Suits machine (earlier ++ command ∷ [])
+suits_more machine earlier command suits location word is = record {
   ports = one_more (λ c. lacks_port machine c ≡ false) earlier command suits.ports is.port;
   locations = one_more NamesLocation earlier command suits.locations location;
+  words = one_more NamesWord earlier command suits.words word;
   steps = omega (arith, sum_by-append step_count earlier (command ∷ []), sum_by-cons step_count command [], is.room);
   ordered = ordered earlier command suits.ordered is.placed;
   starts = starts earlier command suits.starts is.placed;
@@ -139,7 +141,7 @@ suits_keys : (machine : Machine) (earlier : List Command) (keys : List Key) → 
 suits_keys machine earlier [] suits = rw (append-nil earlier) suits
 suits_keys machine earlier (pressed ∷ keys) suits =
     let room : sum_by step_count earlier + step_count (Press pressed) ≤ STEP_LIMIT = omega (arith, suits.steps) in
-    let next : Suits machine (earlier ++ Press pressed ∷ []) = suits_more machine earlier (Press pressed) suits tt (record { placed = refl; port = refl; room = room }) in
+    let next : Suits machine (earlier ++ Press pressed ∷ []) = suits_more machine earlier (Press pressed) suits tt tt (record { placed = refl; port = refl; room = room }) in
     let all : Suits machine ((earlier ++ Press pressed ∷ []) ++ map Press keys) = suits_keys machine (earlier ++ Press pressed ∷ []) keys next in
     rw (append_assoc earlier (Press pressed ∷ []) (map Press keys)) at all
 
@@ -160,12 +162,27 @@ location_stated fields (ShowCell address) is = small_address is.0 address is.1
 location_stated fields (ShowOut address) is = small_address is.0 address is.1
 location_stated fields ShowDeda is = tt
 
+word_stated : (fields : List (List ℕ)) (command : Command) → States fields command → NamesWord command
+word_stated fields (Start address) is = tt
+word_stated fields (Cell address word) is = small_word is.1 word is.4
+word_stated fields (Port address word) is = small_word is.1 word is.3
+word_stated fields (Step count) is = tt
+word_stated fields Pulse is = tt
+word_stated fields (Set address word) is = small_word is.1 word is.3
+word_stated fields (Press pressed) is = tt
+word_stated fields Feed is = tt
+word_stated fields (Cycle count) is = tt
+word_stated fields ShowReg is = tt
+word_stated fields (ShowCell address) is = tt
+word_stated fields (ShowOut address) is = tt
+word_stated fields ShowDeda is = tt
+
 suits_reading : (machine : Machine) (earlier : List Command) (line : List ℕ) (asked : LineReading) → reading line ≡ asked → Suits machine earlier → reading_fault machine earlier asked ≡ None
     → Suits machine (earlier ++ commands_in asked)
 suits_reading machine earlier line Skipped is suits none = rw (append-nil earlier) suits
 suits_reading machine earlier line (One command) is suits none =
     let spells : Spells line (One command) = read_spelled line (One command) is (λ bad. cc) in
-    suits_more machine earlier command suits (location_stated spells.fields command spells.is) (fine machine earlier command none)
+    suits_more machine earlier command suits (location_stated spells.fields command spells.is) (word_stated spells.fields command spells.is) (fine machine earlier command none)
 suits_reading machine earlier line (Keys keys) is suits none = suits_keys machine earlier keys suits
 suits_reading machine earlier line Malformed is suits none = absurd cc
 
@@ -189,6 +206,7 @@ nothing_suits : (machine : Machine) → Suits machine []
 nothing_suits machine = record {
   ports = All-nil (λ c. lacks_port machine c ≡ false);
   locations = All-nil NamesLocation;
+  words = All-nil NamesWord;
   steps = omega arith;
   ordered = record { settings = []; others = []; whole = refl; first = All-nil (λ c. is_setting c ≡ true); behind = All-nil (λ c. is_setting c ≡ false) };
   starts = omega arith;

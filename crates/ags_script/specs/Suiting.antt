@@ -29,11 +29,12 @@ pub record AreOrdered (commands : List Command) : Type 0 where
   pub first : All (λ command. is_setting command ≡ true) settings
   pub behind : All (λ command. is_setting command ≡ false) others
 
--- The machine has each register that is named, each address is one of a location and each word is one, the steps are no more than a script may
--- have, the settings come first, and there is one START at most.
+-- The machine has each register that is named, each address is one of a location, each word that is set or put is below
+-- 2 ^ 18, the steps are no more than a script may have, the settings come first, and there is one START at most.
 pub record Suits (machine : Machine) (commands : List Command) : Type 0 where
   pub ports : All (λ command. lacks_port machine command ≡ false) commands
   pub locations : All NamesLocation commands
+  pub words : All NamesWord commands
   pub steps : sum_by step_count commands ≤ STEP_LIMIT
   pub ordered : AreOrdered commands
   pub starts : count_by is_start commands ≤ 1

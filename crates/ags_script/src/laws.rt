@@ -33,7 +33,8 @@ pub fn script_means_one_thing()
 {}
 
 /// A script's commands suit the machine that it is read for: it has each register that they name, each address is one of
-/// a location and each word is one, the steps are no more than a script may have, START, CELL and PORT come first, and START once at most.
+/// a location, each word that they set or put is below 2^18, the steps are no more than a script may have, START, CELL and
+/// PORT come first, and START once at most.
 pub fn scripts_suit_their_machine()
     ensures { (machine : Machine) (commands : List Command) → IsReadFor machine commands → Suits machine commands }
 {}

@@ -1,6 +1,6 @@
 //! A script: its commands, or its first fault.
 
-ghost use Rattle.std.specs.Prelude.{◌≡◌, ◌≤◌, ◌<◌, ◌⊎◌, ℕ, List, Some, length, slice_get, IfOk, IfErr, IsOkAnd, IsErrOf};
+ghost use Rattle.std.specs.Prelude.{◌≡◌, ◌≤◌, ◌<◌, ◌^◌, ◌⊎◌, ℕ, List, Some, length, slice_get, IfOk, IfErr, IsOkAnd, IsErrOf};
 ghost use Rattle.ags_script.specs.declared.commands.Command.{Command};
 ghost use Rattle.ags_script.specs.declared.script_errors.ScriptKind.{ScriptKind};
 ghost use Rattle.ags_script.specs.Script.{IsScript, IsFaultyScript, IsRefused};
@@ -34,7 +34,8 @@ impl Model for Script {
 impl Script {
     /// How many commands it has.
     pub fn len(&self) -> usize
-        ensures { result ≡ length self.now }
+        ensures count { result ≡ length self.now }
+        ensures most { length self.now < 2 ^ 63 }
     {
         self.commands.len()
     }
