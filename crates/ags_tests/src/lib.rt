@@ -13,6 +13,8 @@ mod decks;
 #[cfg(test)]
 mod fault_tests;
 #[cfg(test)]
+mod key_tests;
+#[cfg(test)]
 mod listing_tests;
 #[cfg(test)]
 mod machine_tests;

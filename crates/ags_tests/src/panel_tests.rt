@@ -85,6 +85,13 @@ fn feeds_an_entry(rt: HostRuntime) -> Result<(), Fail> {
     compare_shown(&rt, ECHO, script.as_str(), text)
 }
 
+// A register that holds its word once begins with a word too, and is 0 once it was read.
+#[test]
+fn begins_with_a_word_held_once(rt: HostRuntime) -> Result<(), Fail> {
+    let script = "PORT 2200 000021\nSTEP 2\nSHOW OUT 6001\nSTEP 3\nSHOW OUT 6001\n";
+    compare_shown(&rt, ECHO, script, "OUT 6001 000021\nOUT 6001 000000\n")
+}
+
 #[test]
 fn plays_and_guards_the_deck(rt: HostRuntime) -> Result<(), Fail> {
     compare_shown(
@@ -101,59 +108,65 @@ fn plays_and_guards_the_deck(rt: HostRuntime) -> Result<(), Fail> {
     )
 }
 
-// Nothing is played behind what the certificate doesn't declare.
+/// Guards the deck with a script, and compares what stands behind the verdict.
+fn compare_outside(rt: &(impl AllocGlobal + Abort), script: &str, shown: &str) -> Result<(), Fail> {
+    let mut text = String::from_str(rt.alloc(), "CERTIFIED ROWS 31 CASES 32\n")?;
+    text.push_str(shown)?;
+    compare_guarded(
+        rt,
+        (DECK, script, DECK_CERTIFICATE),
+        Status::No,
+        text.as_str(),
+    )
+}
+
+// A word that isn't declared isn't put, and nothing is played behind it.
 #[test]
-fn stops_at_what_is_outside(rt: HostRuntime) -> Result<(), Fail> {
+fn stops_before_a_word_outside(rt: HostRuntime) -> Result<(), Fail> {
     let rows = [
         (
             "SET 2001 001751\nSTEP 1\nSHOW REG\n",
-            "CERTIFIED ROWS 31 CASES 32\nOUTSIDE IN 2001 001751\n",
+            "OUTSIDE IN 2001 001751\n",
         ),
         (
             "SET 2001 001750\nSHOW REG\nSET 2001 001751\nSHOW REG\n",
-            "CERTIFIED ROWS 31 CASES 32\nA 000000 Q 000000 X 0 V 0 P 4000 R\nOUTSIDE IN 2001 001751\n",
+            "A 000000 Q 000000 X 0 V 0 P 4000 R\nOUTSIDE IN 2001 001751\n",
         ),
-        (
-            "CELL 0020 001751\n",
-            "CERTIFIED ROWS 31 CASES 32\nOUTSIDE CELL 0020 001751\n",
-        ),
-        // a cell may begin with 0 alone, also where its range has the word
-        (
-            "CELL 0020 000001\nSHOW REG\n",
-            "CERTIFIED ROWS 31 CASES 32\nOUTSIDE CELL 0020 000001\n",
-        ),
+    ];
+    for (script, shown) in rows {
+        compare_outside(&rt, script, shown)?;
+    }
+    Ok(())
+}
+
+// The location comes first, then cells, then registers; and a cell may begin with 0 alone, also where its range has the word.
+#[test]
+fn stops_before_a_start_outside(rt: HostRuntime) -> Result<(), Fail> {
+    let rows = [
+        ("CELL 0020 001751\n", "OUTSIDE CELL 0020 001751\n"),
+        ("CELL 0020 000001\nSHOW REG\n", "OUTSIDE CELL 0020 000001\n"),
         (
             "PORT 2001 001751\nCELL 0020 000000\nSHOW REG\n",
-            "CERTIFIED ROWS 31 CASES 32\nOUTSIDE PORT 2001 001751\n",
+            "OUTSIDE PORT 2001 001751\n",
         ),
-        // the location comes first, then cells, then registers
         (
             "PORT 2001 001751\nCELL 0020 000001\nSTART 4001\n",
-            "CERTIFIED ROWS 31 CASES 32\nOUTSIDE START 4001 4000\n",
+            "OUTSIDE START 4001 4000\n",
         ),
         (
             "PORT 2001 001751\nCELL 0021 000001\nCELL 0020 000002\n",
-            "CERTIFIED ROWS 31 CASES 32\nOUTSIDE CELL 0020 000002\n",
-        ),
-        // what is set later counts
-        (
-            "CELL 0020 000001\nCELL 0020 000000\nPORT 2001 001751\nPORT 2001 000000\nSHOW CELL 0020\nPORT 2002 000000\n",
-            "SCRIPT LINE 6 ERROR 1 BadLine\n",
+            "OUTSIDE CELL 0020 000002\n",
         ),
     ];
-    for (script, text) in rows {
-        let status = if text.starts_with("SCRIPT") {
-            Status::BadText
-        } else {
-            Status::No
-        };
-        compare_guarded(&rt, (DECK, script, DECK_CERTIFICATE), status, text)?;
+    for (script, shown) in rows {
+        compare_outside(&rt, script, shown)?;
     }
+    // what is set later counts
     compare_guarded(
         &rt,
         (
             DECK,
-            "CELL 0020 000001\nCELL 0020 000000\nSHOW CELL 0020\n",
+            "CELL 0020 000001\nCELL 0020 000000\nPORT 2001 001751\nPORT 2001 000000\nSHOW CELL 0020\n",
             DECK_CERTIFICATE,
         ),
         Status::Done,

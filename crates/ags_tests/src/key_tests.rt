@@ -1,0 +1,167 @@
+//! Keys of the panel, against the rules of docs/PANEL.md over whole lists of keys.
+
+use ags_deda::{Key, Panel};
+use std::alloc::Global;
+use std::process::Abort;
+use std::test::Fail;
+
+/// The panel's keys, but for the digits 1 to 6, and a digit that has none.
+const KEYS: [Key; 11] = [
+    Key::Digit(0),
+    Key::Digit(7),
+    Key::Digit(8),
+    Key::Digit(9),
+    Key::Digit(10),
+    Key::Plus,
+    Key::Minus,
+    Key::Clr,
+    Key::Entr,
+    Key::ReadOut,
+    Key::Hold,
+];
+
+/// A whole entry.
+const ENTRY: [Key; 10] = [
+    Key::Digit(0),
+    Key::Digit(4),
+    Key::Digit(7),
+    Key::Minus,
+    Key::Digit(9),
+    Key::Digit(8),
+    Key::Digit(0),
+    Key::Digit(1),
+    Key::Digit(2),
+    Key::Entr,
+];
+
+/// A readout with two pairs of HOLD and READ OUT.
+const READOUT: [Key; 8] = [
+    Key::Digit(7),
+    Key::Digit(0),
+    Key::Digit(1),
+    Key::ReadOut,
+    Key::Hold,
+    Key::ReadOut,
+    Key::Hold,
+    Key::ReadOut,
+];
+
+/// Whether a key may stand at a place of an entry.
+fn entry_has(place: usize, key: Key) -> bool {
+    match key {
+        Key::Digit(digit) => place < 3 && digit < 8 || 3 < place && place < 9 && digit < 10,
+        Key::Plus | Key::Minus => place == 3,
+        Key::Entr => place == 9,
+        Key::Clr | Key::ReadOut | Key::Hold => false,
+    }
+}
+
+/// Whether a key may stand at a place of a readout.
+fn readout_has(place: usize, key: Key) -> bool {
+    match key {
+        Key::Digit(digit) => place < 3 && digit < 8,
+        Key::ReadOut => 3 <= place && place % 2 == 1,
+        Key::Hold => 3 <= place && place % 2 == 0,
+        Key::Plus | Key::Minus | Key::Clr | Key::Entr => false,
+    }
+}
+
+/// Whether the first so many keys are those of a form.
+fn are_lawful(keys: &[Key], count: usize) -> bool {
+    let mut entry = true;
+    let mut readout = true;
+    for (place, key) in keys.iter().enumerate() {
+        if place < count {
+            entry = entry && entry_has(place, *key);
+            readout = readout && readout_has(place, *key);
+        }
+    }
+    entry || readout
+}
+
+/// The character of a key.
+fn character(key: Key) -> u8 {
+    match key {
+        Key::Digit(digit) if digit < 10 => b'0' + digit,
+        Key::Plus => b'+',
+        Key::Minus => b'-',
+        _ => b' ',
+    }
+}
+
+/// The display behind these keys, of which none is CLR.
+fn display(keys: &[Key]) -> [u8; 10] {
+    let mut text = *b"          ";
+    for (place, key) in keys.iter().enumerate() {
+        if !are_lawful(keys, place + 1) {
+            text[9] = b'E';
+            return text;
+        }
+        if place < 9 {
+            text[place] = character(*key);
+        }
+    }
+    text
+}
+
+/// The keys behind the last CLR.
+fn since_clear(keys: &[Key]) -> &[Key] {
+    let mut since = keys;
+    let mut rest = keys;
+    while let [key, behind @ ..] = rest {
+        if matches!(key, Key::Clr) {
+            since = behind;
+        }
+        rest = behind;
+    }
+    since
+}
+
+/// Presses keys on a new panel, and looks at its display.
+fn compare_display(rt: &impl Abort, keys: &[Key]) {
+    let mut panel = Panel::new();
+    for key in keys {
+        panel.press(*key);
+    }
+    assert!(rt; panel.text() == display(since_clear(keys)), "{keys:?}");
+}
+
+/// The keys whose places among `KEYS` a number has as its four digits of base 11.
+fn keys_of(alloc: Global, number: usize) -> Result<Vec<Key>, Fail> {
+    let mut keys = Vec::new(alloc);
+    keys.push(KEYS[number / 1331 % 11])?;
+    keys.push(KEYS[number / 121 % 11])?;
+    keys.push(KEYS[number / 11 % 11])?;
+    keys.push(KEYS[number % 11])?;
+    Ok(keys)
+}
+
+// Every list of up to four keys: a display behind each key of every list of four.
+#[test]
+fn shows_each_list_of_four_keys(rt: HostRuntime) -> Result<(), Fail> {
+    for number in 0..14641 {
+        let keys = keys_of(rt.alloc(), number)?;
+        for count in 0..5 {
+            compare_display(&rt, &keys[..count.min(keys.len())]);
+        }
+    }
+    Ok(())
+}
+
+/// Presses each key behind the first so many of a form.
+fn compare_behind(rt: &(impl AllocGlobal + Abort), form: &[Key]) -> Result<(), Fail> {
+    for count in 0..form.len() + 1 {
+        for key in KEYS {
+            let mut keys = Vec::from_slice(rt.alloc(), &form[..count])?;
+            keys.push(key)?;
+            compare_display(rt, &keys);
+        }
+    }
+    Ok(())
+}
+
+#[test]
+fn shows_each_key_at_each_place(rt: HostRuntime) -> Result<(), Fail> {
+    compare_behind(&rt, &ENTRY)?;
+    compare_behind(&rt, &READOUT)
+}
