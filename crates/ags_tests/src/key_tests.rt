@@ -106,15 +106,13 @@ fn display(keys: &[Key]) -> [u8; 10] {
 
 /// The keys behind the last CLR.
 fn since_clear(keys: &[Key]) -> &[Key] {
-    let mut since = keys;
-    let mut rest = keys;
-    while let [key, behind @ ..] = rest {
+    let mut since = 0;
+    for (place, key) in keys.iter().enumerate() {
         if matches!(key, Key::Clr) {
-            since = behind;
+            since = place + 1;
         }
-        rest = behind;
     }
-    since
+    keys.get(since..).unwrap_or(keys)
 }
 
 /// Presses keys on a new panel, and looks at its display.
