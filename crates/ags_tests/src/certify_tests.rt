@@ -147,6 +147,43 @@ fn refuses_what_fails_first(rt: HostRuntime) -> Result<(), Fail> {
     Ok(())
 }
 
+/// A jump behind an order that stores or gives A: the source, the certificate behind its first line, the listing and the verdict.
+const OUT_OF_RANGE: [Refused; 4] = [
+    (
+        " ORG /4000\n STO /20\n TRA /4000\n",
+        "AGSCERT 1\nCELL 0020 RANGE -1 1\nROW 4000 A RANGE -5 5 Q ANY X 0 V 0\nROW 4001 A RANGE -5 5 Q ANY X 0 V 0\nEND\n",
+        "0000001              ORG /4000\n0000002 4000 100020  STO /20\n0000003 4001 404000  TRA /4000\n",
+        "REFUSED 8 CellRange ROW 1 WORD 100020 AT 0020 VALUE RANGE -5 5\n",
+    ),
+    (
+        " ORG /4000\n OUT /6001\n TRA /4000\n",
+        "AGSCERT 1\nOUT 6001 RANGE -1 1\nROW 4000 A RANGE -5 5 Q ANY X 0 V 0\nROW 4001 A RANGE -5 5 Q ANY X 0 V 0\nEND\n",
+        "0000001              ORG /4000\n0000002 4000 666001  OUT /6001\n0000003 4001 404000  TRA /4000\n",
+        "REFUSED 9 OutputRange ROW 1 WORD 666001 AT 6001 VALUE RANGE -5 5\n",
+    ),
+    (
+        " ORG /4000\n OUT /6001\n TRA /4000\n",
+        "AGSCERT 1\nOUT 6001 RANGE -1 1\nROW 4000 A ANY Q ANY X 0 V 0\nROW 4001 A ANY Q ANY X 0 V 0\nEND\n",
+        "0000001              ORG /4000\n0000002 4000 666001  OUT /6001\n0000003 4001 404000  TRA /4000\n",
+        "REFUSED 9 OutputRange ROW 1 WORD 666001 AT 6001 VALUE ANY\n",
+    ),
+    // a start with 0 in A, which no row there has
+    (
+        " ORG /4000\n TRA /4000\n",
+        "AGSCERT 1\nROW 4000 A RANGE 1 5 Q ANY X 0 V 0\nEND\n",
+        "0000001              ORG /4000\n0000002 4000 404000  TRA /4000\n",
+        "REFUSED 2 StartUncovered\n",
+    ),
+];
+
+#[test]
+fn refuses_what_is_out_of_range(rt: HostRuntime) -> Result<(), Fail> {
+    for (source, certificate, listing, verdict) in OUT_OF_RANGE {
+        compare_verdict(&rt, source, listing, certificate, Status::No, verdict)?;
+    }
+    Ok(())
+}
+
 // A certificate with a fault is told by its line, without a listing; and the machine file and the source come before it.
 #[test]
 fn says_the_first_fault_of_a_certificate(rt: HostRuntime) -> Result<(), Fail> {

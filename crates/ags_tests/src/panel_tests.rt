@@ -92,6 +92,60 @@ fn begins_with_a_word_held_once(rt: HostRuntime) -> Result<(), Fail> {
     compare_shown(&rt, ECHO, script, "OUT 6001 000021\nOUT 6001 000000\n")
 }
 
+// The last order of a cycle may pass its end, and the next cycle is shorter by that. Here a cycle passes its end by 3, 6, 9 and
+// then 2 microseconds, and the fourth ends behind another order. A STEP changes nothing of it.
+#[test]
+fn carries_what_a_cycle_runs_over(rt: HostRuntime) -> Result<(), Fail> {
+    let source = " ORG /4000\n DVP /20\n TRA /4000\n";
+    for script in [
+        "CELL 0020 000001\nCYCLE 4\nSHOW REG\n",
+        "CELL 0020 000001\nCYCLE 3\nSTEP 2\nCYCLE 1\nSHOW REG\n",
+        "CELL 0020 000001\nCYCLE 2\nCYCLE 0\nCYCLE 2\nSHOW REG\n",
+    ] {
+        compare_shown(&rt, source, script, "A 000000 Q 000000 X 0 V 0 P 4001 R\n")?;
+    }
+    Ok(())
+}
+
+// A machine file connects the panel: to a register that keeps its word, which a cycle then finds filled; and to none.
+#[test]
+fn connects_the_panel_by_a_machine_file(rt: HostRuntime) -> Result<(), Fail> {
+    let files = [
+        (
+            "S",
+            b" ORG /4000\nL INP /2001\n OUT /6001\n TRA L\n".as_slice(),
+        ),
+        (
+            "P",
+            b"KEY 0 4 7 RO\nCYCLE 1\nSHOW OUT 6001\nCYCLE 2\nSHOW OUT 6001\nSHOW DEDA\n".as_slice(),
+        ),
+        ("F", b"KEY 0 4 7 RO\nFEED\n".as_slice()),
+        ("M", b"deda_in = 0o2001\n".as_slice()),
+        ("N", b"deda_in = 0o2005\ndeda_out = 0o6005\n".as_slice()),
+    ];
+    let rows = [
+        (
+            "run S P M",
+            Status::Done,
+            "OUT 6001 000020\nOUT 6001 000020\nDEDA |047       |\n",
+        ),
+        (
+            "run S P N",
+            Status::Done,
+            "OUT 6001 000000\nOUT 6001 000000\nDEDA |047       |\n",
+        ),
+        (
+            "run S F N",
+            Status::BadText,
+            "SCRIPT LINE 2 ERROR 2 NoPort\n",
+        ),
+    ];
+    for (line, status, text) in rows {
+        compare_over(&rt, &files, line, 9, status, text)?;
+    }
+    Ok(())
+}
+
 #[test]
 fn plays_and_guards_the_deck(rt: HostRuntime) -> Result<(), Fail> {
     compare_shown(
@@ -174,6 +228,78 @@ fn stops_before_a_start_outside(rt: HostRuntime) -> Result<(), Fail> {
     )
 }
 
+/// A source with a word in the cell 0020, which waits for a pulse at 4010.
+const ASSEMBLED: &str = " ORG /20\n OCT 7\n ORG /4010\n DLY /4010\n";
+
+/// A source, a script and a certificate, with the status and what stands behind the verdict.
+type Begun = (
+    &'static str,
+    &'static str,
+    &'static str,
+    Status,
+    &'static str,
+);
+
+// Places that no line of the script names are tested too, and an assembled cell begins with its word alone.
+#[test]
+fn tests_each_start(rt: HostRuntime) -> Result<(), Fail> {
+    let stated = "AGSCERT 1\nINIT 0020 WORDS 000005\nROW 4000 A ANY Q ANY X 0 V 0\nEND\n";
+    let assembled =
+        "AGSCERT 1\nSTART 4010\nINIT 0020 RANGE 0 9\nROW 4010 A ANY Q ANY X 0 V 0\nEND\n";
+    let narrow = "AGSCERT 1\nIN 2001 RANGE 5 9\nROW 4000 A ANY Q ANY X 0 V 0\nEND\n";
+    let rows: [Begun; 7] = [
+        (
+            WAITING,
+            "SHOW REG\n",
+            stated,
+            Status::No,
+            "OUTSIDE CELL 0020 000000\n",
+        ),
+        (
+            WAITING,
+            "CELL 0020 000005\nSHOW CELL 0020\n",
+            stated,
+            Status::Done,
+            "CELL 0020 000005\n",
+        ),
+        (
+            WAITING,
+            "SHOW REG\n",
+            narrow,
+            Status::No,
+            "OUTSIDE PORT 2001 000000\n",
+        ),
+        (WAITING, "PORT 2001 000005\n", narrow, Status::Done, ""),
+        (
+            ASSEMBLED,
+            "SHOW REG\n",
+            assembled,
+            Status::Done,
+            "A 000000 Q 000000 X 0 V 0 P 4010 R\n",
+        ),
+        (
+            ASSEMBLED,
+            "CELL 0020 000005\n",
+            assembled,
+            Status::No,
+            "OUTSIDE CELL 0020 000005\n",
+        ),
+        (
+            ASSEMBLED,
+            "START 4000\n",
+            assembled,
+            Status::No,
+            "OUTSIDE START 4000 4010\n",
+        ),
+    ];
+    for (source, script, certificate, status, shown) in rows {
+        let mut text = String::from_str(rt.alloc(), "CERTIFIED ROWS 1 CASES 1\n")?;
+        text.push_str(shown)?;
+        compare_guarded(&rt, (source, script, certificate), status, text.as_str())?;
+    }
+    Ok(())
+}
+
 // The digit of a FEED, and that of a cycle, are tested as the word of a SET is.
 #[test]
 fn tests_what_the_panel_sends(rt: HostRuntime) -> Result<(), Fail> {
@@ -216,6 +342,7 @@ fn guards_nothing_that_is_refused(rt: HostRuntime) -> Result<(), Fail> {
         ("S", WAITING.as_bytes()),
         ("C", SMALL_DIGITS.as_bytes()),
         ("B", b"AGSCERT 2\n".as_slice()),
+        ("R", refused.as_bytes()),
         ("P", b"STEP\n".as_slice()),
     ];
     let rows = [
@@ -228,6 +355,11 @@ fn guards_nothing_that_is_refused(rt: HostRuntime) -> Result<(), Fail> {
         ),
         (
             "guard S P C",
+            Status::BadText,
+            "SCRIPT LINE 1 ERROR 1 BadLine\n",
+        ),
+        (
+            "guard S P R",
             Status::BadText,
             "SCRIPT LINE 1 ERROR 1 BadLine\n",
         ),
