@@ -343,6 +343,7 @@ fn guards_nothing_that_is_refused(rt: HostRuntime) -> Result<(), Fail> {
         ("C", SMALL_DIGITS.as_bytes()),
         ("B", b"AGSCERT 2\n".as_slice()),
         ("R", refused.as_bytes()),
+        ("T", b" ORG /4000\n CLZ /4000\n".as_slice()),
         ("P", b"STEP\n".as_slice()),
     ];
     let rows = [
@@ -359,7 +360,7 @@ fn guards_nothing_that_is_refused(rt: HostRuntime) -> Result<(), Fail> {
             "SCRIPT LINE 1 ERROR 1 BadLine\n",
         ),
         (
-            "guard S P R",
+            "guard T P R",
             Status::BadText,
             "SCRIPT LINE 1 ERROR 1 BadLine\n",
         ),
