@@ -4,6 +4,7 @@
 //! certificate declares, on `ags_outside` for the output, on `ags_text` and `ags_word` for digits, and on `arrayvec`.
 #![tactic(auto)]
 
+mod acts;
 mod benches;
 mod error_texts;
 mod listeners;
