@@ -71,7 +71,7 @@ counted_on start mid end first second early late =
     let sum : start + first + second ≡ start + (first + second) = omega arith in
     late ∙ ap (λ (n : ℕ). (n + second) % 2 ^ 64) early ∙ mod-add-mod (start + first) (2 ^ 64) second ∙ ap (λ (n : ℕ). n % 2 ^ 64) sum
 
-counted_none : (start end : ℕ) → start < 2 ^ 64 → end ≡ start → end ≡ (start + 0) % 2 ^ 64
+pub counted_none : (start end : ℕ) → start < 2 ^ 64 → end ≡ start → end ≡ (start + 0) % 2 ^ 64
 counted_none start end fits same = omega arith
 
 seen_steps : (moments : List Moment) (old new : Listener) → old.steps < 2 ^ 64 → LooksAt Hears old moments new → new.steps ≡ (old.steps + length moments) % 2 ^ 64
@@ -147,7 +147,7 @@ cycle_made machine spent before after at fit run carry puts b stands = at_stood 
 })
 
 -- an event that runs no order: the panel hears nothing
-idle_panel : (machine : Machine) (s : State) (report : Report) (after : State) (happenings : List Happening) → report ≡ idle_report s
+pub idle_panel : (machine : Machine) (s : State) (report : Report) (after : State) (happenings : List Happening) → report ≡ idle_report s
     → panel_along machine happenings (record { report = report; after = after } ∷ []) ≡ happenings
 idle_panel machine s report after happenings idle = ap (λ (r : Report). with_shown happenings (digit_given machine r.gave)) idle
 

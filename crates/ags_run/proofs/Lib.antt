@@ -1,2 +1,5 @@
 mod TextLemmas
 mod ActLemmas
+mod Borrowed
+mod JoinLemmas
+mod PutLemmas

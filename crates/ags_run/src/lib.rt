@@ -11,6 +11,7 @@ mod listeners;
 mod outside;
 mod play_error;
 mod playing;
+mod putting;
 mod shown_lines;
 
 pub use outside::Outside;
