@@ -1,5 +1,6 @@
 -- Acts that were made one behind another. The proofs of the commands cite:
 --     none_made, act_made, act_stopped, act_in_part     no act, and one act
+--     plain_made, put_made, put_stopped                  one act that prints nothing
 --     made_on            acts were made behind acts
 --     unmade_on          acts weren't made to their end behind acts that were
 --     unmade_before      acts weren't made to their end, and others would have come behind them
@@ -111,6 +112,22 @@ module _ (machine : Machine) (guard : Option (Certificate Value)) where
   act_in_part b act old new before p front =
       let whole = act_made b act old (appended old (shown_text machine b act)) before before p refl in
       record { events = whole.events; text = whole.text; end = whole.end; met = None; plays = whole.plays; front = front }
+
+  -- ---- one act that prints nothing, over each bench
+
+  pub plain_made : (act : Act) (before after : Bench) → ((b : play.Bench) → put_by machine b act ≡ None) → ((b : play.Bench) → shown_text machine b act ≡ [])
+      → ((b : play.Bench) → StandsAs before b → ActMade machine b act before after) → (told : Option (List ℕ)) → AllMade machine guard (act ∷ []) told told before after
+  plain_made act before after puts_none shows_none makes told b stands =
+      act_made b act told told before after (record { through = rw (puts_none b) none_stopped; made = makes b stands })
+      (rw (shows_none b) (sym (appended_nothing told)))
+
+  pub put_made : (act : Act) (before after : Bench) → ((b : play.Bench) → shown_text machine b act ≡ []) → ((b : play.Bench) → StandsAs before b → ActLetThrough machine guard b act before after)
+      → (told : Option (List ℕ)) → AllMade machine guard (act ∷ []) told told before after
+  put_made act before after shows_none makes told b stands = act_made b act told told before after (makes b stands) (rw (shows_none b) (sym (appended_nothing told)))
+
+  pub put_stopped : (act : Act) (before : Bench) (error : PlayError) → ((b : play.Bench) → StandsAs before b → ActStopped machine guard b act error)
+      → (told : Option (List ℕ)) → NotAllMade machine guard (act ∷ []) told told before error
+  put_stopped act before error stops told b stands = act_stopped b act told error (stops b stands)
 
   -- ---- acts behind acts
 

@@ -3,3 +3,4 @@ mod ActLemmas
 mod Borrowed
 mod JoinLemmas
 mod PutLemmas
+mod ShowLemmas

@@ -1,6 +1,7 @@
 -- What the functions that make acts under a guard come to.
 use Rattle.std.specs.Prelude.{◌≡◌, ℕ, ◌+◌, ◌%◌, ◌^◌, ◌<◌, Bool, true, false, List, Option, Some, None, Result, Ok, Err}
 use Rattle.ags_domain.specs.declared.values.Value.{Value}
+use Rattle.ags_outside.specs.Sink.{WroteFront}
 use Rattle.ags_play.specs.Act.{Act}
 use Rattle.ags_play.specs.Bench as play
 use Rattle.ags_play.specs.Doing.{PutWord, put_by}
@@ -13,7 +14,7 @@ use Rattle.ags_safe.specs.Certificate.{Certificate}
 use Rattle.ags_run.specs.Acted.{ActMade, ActsMade, AreUnmade}
 use Rattle.ags_run.specs.declared.benches.Bench.{Bench}
 use Rattle.ags_run.specs.declared.play_error.PlayError.{PlayError}
-use Rattle.ags_run.specs.declared.play_error.PlayError.TheVariants.{WriteFault, InputRange}
+use Rattle.ags_run.specs.declared.play_error.PlayError.TheVariants.{WriteFault, InputRange, NoMemory}
 use Rattle.ags_run.specs.Standing.{StandsAs}
 
 -- what is counted is a number of 64 bits
@@ -57,6 +58,12 @@ AllMade machine guard acts old new before after = (b : play.Bench) → StandsAs 
 -- the acts weren't made to their end
 abbrev pub NotAllMade : Machine → Option (Certificate Value) → List Act → (old new : Option (List ℕ)) (before : Bench) → PlayError → Type 0
 NotAllMade machine guard acts old new before error = (b : play.Bench) → StandsAs before b → AreUnmade machine guard b acts old new error
+
+-- of a text the sink took a front, because it failed or memory was wanting
+abbrev pub IsFrontSent : (old new : Option (List ℕ)) (text : List ℕ) → PlayError → Type 0
+IsFrontSent old new text WriteFault = WroteFront old new text
+IsFrontSent old new text NoMemory = WroteFront old new text
+IsFrontSent old new text _ = ⊥
 
 -- whether acts met a fault of the sink, which its count of faults counts
 abbrev pub is_stop_fault : {T : Type 0} → Result T PlayError → Bool

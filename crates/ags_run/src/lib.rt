@@ -6,12 +6,14 @@
 
 mod acts;
 mod benches;
+mod cycling;
 mod error_texts;
 mod listeners;
 mod outside;
 mod play_error;
 mod playing;
 mod putting;
+mod showing;
 mod shown_lines;
 
 pub use outside::Outside;
