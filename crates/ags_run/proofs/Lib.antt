@@ -4,3 +4,5 @@ mod Borrowed
 mod JoinLemmas
 mod PutLemmas
 mod ShowLemmas
+mod CycleLemmas
+mod ScriptLemmas

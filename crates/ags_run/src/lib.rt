@@ -6,6 +6,7 @@
 
 mod acts;
 mod benches;
+mod commands;
 mod cycling;
 mod error_texts;
 mod listeners;
@@ -13,6 +14,7 @@ mod outside;
 mod play_error;
 mod playing;
 mod putting;
+mod script_play;
 mod showing;
 mod shown_lines;
 

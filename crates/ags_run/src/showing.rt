@@ -23,21 +23,17 @@ use ags_ports::Machine;
 use ags_word::Word;
 use arrayvec::ArrayVec;
 
-/// A display in the panel's line.
-fn framed(display: [u8; 10]) -> [u8; 17]
-    ensures { result ≡ codes "DEDA |" ++ display ++ codes "|" }
-{
-    let [c1, c2, c3, c4, c5, c6, c7, c8, c9, c10] = display;
-    [
-        b'D', b'E', b'D', b'A', b' ', b'|', c1, c2, c3, c4, c5, c6, c7, c8, c9, c10, b'|',
-    ]
-}
-
 /// The panel's line, without its line feed.
-fn deda_line(panel: &Panel) -> [u8; 17]
-    ensures { (happenings : List Happening) → StandsFor panel.now happenings → result ≡ deda_text happenings }
+fn deda_line(panel: &Panel) -> ArrayVec<u8, 17>
+    ensures text { (happenings : List Happening) → StandsFor panel.now happenings → result.items ≡ deda_text happenings }
+    ensures most { length result.items ≤ 17 }
 {
-    framed(panel.text())
+    let display = panel.text();
+    let mut line: ArrayVec<u8, 17> = ArrayVec::new();
+    let _ = line.try_extend_from_slice(b"DEDA |");
+    let _ = line.try_extend_from_slice(&display);
+    let _ = line.try_push(b'|');
+    line
 }
 
 /// The word of the output register at an address, and 0 where there is none.
@@ -122,5 +118,5 @@ pub(crate) fn show_deda<K: Sink>(bench: &Bench, out: &mut K) -> Result<(), PlayE
     ensures faults { HasCause (K.faults out.old) (K.faults out.new) (is_stop_fault result) }
 {
     bench.counts_fit();
-    send_line(out, &deda_line(&bench.listener.panel))
+    send_line(out, deda_line(&bench.listener.panel).as_slice())
 }
