@@ -1,6 +1,7 @@
-use Rattle.std.proofs.Common.{refl, option_map}
+use Rattle.std.proofs.Common.{◌≡◌, [], refl, ap, option_map, inl, inr}
 use Rattle.std.proofs.lemmas.Result.{IfOk-weaker, IfErr-weaker}
 use Rattle.ags_play.specs.Act as act
+use Rattle.ags_play.specs.Act.{acts_of_command}
 use Rattle.ags_run.specs.Play.{guard_of}
 use Rattle.ags_run.proofs.JoinLemmas.{none_made, plain_made, put_made, put_stopped}
 use Rattle.ags_run.proofs.commands.play_command.Goals as goal
@@ -61,4 +62,12 @@ returns-in-ShowDeda-clause-unmade g c =
     rw c.in-ShowDeda.is (IfErr-weaker c.show_deda.result _ _ (λ error p. p c.args.machine.now (guard_of (option_map (λ cert. cert.now) c.args.guard))) c.show_deda.ensures.unmade)
 
 pub returns-in-Start-clause-made : goal.returns-in-Start-clause-made
-returns-in-Start-clause-made g c = let h = c.in-Start in ?
+returns-in-Start-clause-made g c =
+    let none : acts_of_command c.args.command.now ≡ [] = elim c.in-Start.is [
+      | inl is ↦ ap acts_of_command is.1
+      | inr others ↦ elim others [
+          | inl is ↦ ap acts_of_command is.2
+          | inr is ↦ ap acts_of_command is.2
+        ]
+    ] in
+    rw none (none_made c.args.machine.now (guard_of (option_map (λ cert. cert.now) c.args.guard)) (g.K.Sink.told c.args.out.now) c.args.bench.now c.counts_fit.ensures)
