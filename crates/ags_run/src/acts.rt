@@ -2,6 +2,7 @@
 
 ghost use Rattle.std.specs.Prelude.{◌≡◌, ◌-◌, ◌≤◌};
 ghost use Rattle.ags_ports.specs.declared.events.Phase.{Phase};
+ghost use Rattle.ags_ports.specs.declared.machines.Machine.{Machine};
 ghost use Rattle.ags_play.specs.Act as act;
 ghost use Rattle.ags_play.specs.Bench as play;
 ghost use Rattle.ags_play.specs.Doing.{carry_in};
@@ -55,13 +56,11 @@ impl Bench {
     }
 
     /// A key is pressed.
-    pub(crate) fn press(&mut self, machine: &Machine, key: Key)
-        requires { IsBenchOf machine.now self.old }
-        ensures fitted { IsBenchOf machine.now self.new }
-        ensures acted { (b : play.Bench) → StandsAs self.old b → ActMade machine.now b (act.Presses key) self.old self.new }
+    pub(crate) fn press(&mut self, key: Key)
+        ensures fitted { (machine : Machine) → IsBenchOf machine self.old → IsBenchOf machine self.new }
+        ensures acted { (machine : Machine) (b : play.Bench) → StandsAs self.old b → ActMade machine b (act.Presses key) self.old self.new }
     {
         self.counts_fit();
-        let _machine = machine;
         self.listener.panel.press(key);
     }
 

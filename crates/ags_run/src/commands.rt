@@ -48,7 +48,7 @@ pub(crate) fn play_command<K: Sink>(
             Ok(())
         }
         Command::Press(key) => {
-            bench.press(machine, key);
+            bench.press(key);
             Ok(())
         }
         Command::Set { address, word } => set(machine, guard, bench, address, word),

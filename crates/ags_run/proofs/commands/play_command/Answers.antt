@@ -16,7 +16,7 @@ returns-in-Pulse-clause-made g c =
 
 pub returns-in-Press-clause-made : goal.returns-in-Press-clause-made
 returns-in-Press-clause-made g c =
-    rw c.in-Press.is (plain_made c.args.machine.now (guard_of (option_map (λ cert. cert.now) c.args.guard)) (act.Presses c.in-Press.key) c.args.bench.now c.press.new.self (λ b. refl) (λ b. refl) c.press.ensures.acted (g.K.Sink.told c.args.out.now))
+    rw c.in-Press.is (plain_made c.args.machine.now (guard_of (option_map (λ cert. cert.now) c.args.guard)) (act.Presses c.in-Press.key) c.args.bench.now c.press.new.self (λ b. refl) (λ b. refl) (c.press.ensures.acted c.args.machine.now) (g.K.Sink.told c.args.out.now))
 
 pub returns-in-Set-clause-made : goal.returns-in-Set-clause-made
 returns-in-Set-clause-made g c =
