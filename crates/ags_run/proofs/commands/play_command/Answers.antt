@@ -66,8 +66,8 @@ returns-in-Start-clause-made g c =
     let none : acts_of_command c.args.command.now ≡ [] = elim c.in-Start.is [
       | inl is ↦ ap acts_of_command is.1
       | inr others ↦ elim others [
-          | inl is ↦ ap acts_of_command is.2
-          | inr is ↦ ap acts_of_command is.2
-        ]
+        | inl is ↦ ap acts_of_command is.2
+        | inr is ↦ ap acts_of_command is.2
+      ]
     ] in
     rw none (none_made c.args.machine.now (guard_of (option_map (λ cert. cert.now) c.args.guard)) (g.K.Sink.told c.args.out.now) c.args.bench.now c.counts_fit.ensures)

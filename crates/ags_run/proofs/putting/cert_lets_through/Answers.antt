@@ -1,4 +1,4 @@
-use Rattle.std.proofs.Common.{sym, ◌∙◌}
+use Rattle.std.proofs.Common.{sym}
 use Rattle.ags_run.proofs.PutLemmas.{registers_below}
 use Rattle.ags_run.proofs.putting.cert_lets_through.Goals as goal
 

@@ -1,4 +1,4 @@
-use Rattle.std.proofs.Common.{◌≤◌, ◌+◌, ◌-◌, refl, ap, ◌∙◌, arith}
+use Rattle.std.proofs.Common.{refl, ap, ◌∙◌, arith}
 use Rattle.ags_ports.specs.declared.events.Phase.{Phase}
 use Rattle.ags_play.specs.Doing.{carry_in, time_left}
 use Rattle.ags_run.proofs.ActLemmas.{seen_address, cycle_made}
