@@ -1,20 +1,19 @@
--- One act that was made: what the panel heard along its steps, and what is counted. The proofs of the acts cite:
---     seen_address      the panel listens where it did
---     steps_made, pulse_made, press_made, cycle_made      the acts that no guard stops
---     word_made         a word that was put, of SET or of the panel
---     nothing_made      an act that changes nothing of the bench
---     counted_on        what is counted first, and then further
-use Rattle.std.proofs.Common.{◌≡◌, ℕ, zero, suc, ◌+◌, ◌<◌, List, [], ◌∷◌, ◌++◌, length, replicate, refl, sym, ap, subst, ◌∙◌, arith}
+-- One act that was made: what the panel heard along its steps, and what is counted. The other proofs of the crate cite:
+--     seen_address                            the panel listens where it did
+--     steps_made, pulse_made, cycle_made      the acts that no guard stops
+--     idle_panel                              an event that runs no order: the panel hears nothing
+--     counted_on, counted_none                what is counted further, and a count that stays
+--     at_stood                                what holds of the bench that the code's stands for
+use Rattle.std.proofs.Common.{◌≡◌, ℕ, zero, suc, ◌+◌, ◌<◌, List, [], ◌∷◌, length, replicate, refl, sym, ap, subst, ◌∙◌, arith}
 use Rattle.std.specs.Prelude.{Bool, true, false, ◌&&◌, ◌==◌, ◌%◌, ◌^◌, cond, count_by, is_some, Option, Some, None, if◌then◌else◌}
 use Rattle.std.proofs.Math.Nat.{mod-add-mod}
 use Rattle.std.proofs.lemmas.List.Sums.{sum_by-append}
-use Rattle.ags_deda.specs.Happening.{Happening, Pressed}
+use Rattle.ags_deda.specs.Happening.{Happening}
 use Rattle.ags_deda.specs.Standing.{StandsFor}
-use Rattle.ags_deda.specs.declared.keys.Key.{Key}
-use Rattle.ags_play.specs.Act.{Act, MakesSteps, Pulses, Presses, RunsCycle}
+use Rattle.ags_play.specs.Act.{MakesSteps, Pulses, RunsCycle}
 use Rattle.ags_play.specs.Bench as play
 use Rattle.ags_play.specs.Counted.{is_step, is_put}
-use Rattle.ags_play.specs.Doing.{digit_given, panel_along, with_shown, bench_after, time_left, carry_in}
+use Rattle.ags_play.specs.Doing.{digit_given, panel_along, with_shown, time_left, carry_in}
 use Rattle.ags_ports.specs.declared.events.Event.{Event}
 use Rattle.ags_ports.specs.declared.events.Event.TheVariants as event
 use Rattle.ags_ports.specs.declared.events.Report.{Report}
@@ -105,14 +104,12 @@ steps_counted before after count fit steps puts = record {
 
 -- ---- over the bench that the code's bench stands for
 
--- the bench of the definition that a bench of the code stands for, by what happened to the panel
-abbrev stood : Bench → List Happening → play.Bench
-stood bench panel = record { core = bench.core; panel = panel; carry = bench.carry }
-
+-- two benches with the same state and the same carry are one
 same_bench : (core other : State) (panel : List Happening) (carry another : ℕ) → core ≡ other → carry ≡ another
     → ◌≡◌ {A = play.Bench} (record { core = core; panel = panel; carry = carry }) (record { core = other; panel = panel; carry = another })
 same_bench core other panel carry another p q = cc
 
+-- what holds of the bench with the code's state and carry holds of the one that the code's stands for
 pub at_stood : (P : play.Bench → Type 0) (bench : Bench) (b : play.Bench) → StandsAs bench b → P (record { core = bench.core; panel = b.panel; carry = bench.carry }) → P b
 at_stood P bench b stands holds = subst P (same_bench bench.core b.core b.panel bench.carry b.carry stands.core stands.carry) holds
 

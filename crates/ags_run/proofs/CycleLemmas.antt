@@ -1,8 +1,8 @@
 -- So many cycles, one behind another. The proofs of `cycling` cite:
 --     one_cycle, one_stopped         one cycle
 --     cycles_more, cycles_unmade     a cycle behind those before it
-use Rattle.std.proofs.Common.{◌≡◌, ℕ, zero, suc, ◌+◌, ◌-◌, ◌<◌, List, [], ◌∷◌, ◌++◌, refl, sym, ap, subst, ◌∙◌, arith}
-use Rattle.std.specs.Prelude.{Option, Some, None}
+use Rattle.std.proofs.Common.{◌≡◌, ℕ, zero, suc, ◌+◌, ◌-◌, ◌<◌, List, [], ◌∷◌, ◌++◌, refl, ap, subst, ◌∙◌, arith}
+use Rattle.std.specs.Prelude.{Option}
 use Rattle.ags_domain.specs.declared.values.Value.{Value}
 use Rattle.ags_play.specs.Act.{Act, FeedsWhereZero, Pulses, RunsCycle, cycles}
 use Rattle.ags_play.specs.Bench as play

@@ -5,7 +5,7 @@
 --     unmade_on          acts weren't made to their end behind acts that were
 --     unmade_before      acts weren't made to their end, and others would have come behind them
 --     none_stopped       an act that puts no word is let through
-use Rattle.std.proofs.Common.{◌≡◌, ℕ, ◌+◌, ◌<◌, List, [], ◌∷◌, ◌++◌, refl, sym, ap, subst, ◌∙◌, append-nil, arith}
+use Rattle.std.proofs.Common.{◌≡◌, ℕ, ◌+◌, List, [], ◌∷◌, ◌++◌, refl, sym, ap, subst, ◌∙◌, append-nil, arith}
 use Rattle.std.specs.Prelude.{Bool, cond, ◌%◌, ◌^◌, count_by, Option, Some, None}
 use Rattle.std.proofs.lemmas.List.Sums.{sum_by-append}
 use Rattle.ags_domain.specs.declared.values.Value.{Value}
@@ -13,19 +13,18 @@ use Rattle.ags_outside.specs.Sink.{appended, appended_nothing, appended_twice, W
 use Rattle.ags_play.specs.Act.{Act}
 use Rattle.ags_play.specs.Bench as play
 use Rattle.ags_play.specs.Counted.{is_step, is_put}
-use Rattle.ags_play.specs.Doing.{PutWord, Does, put_by, bench_after, shown_text}
+use Rattle.ags_play.specs.Doing.{PutWord, put_by, bench_after, shown_text}
 use Rattle.ags_play.specs.Guard.{stopped_by}
 use Rattle.ags_play.specs.Played.{Plays, PlaysOne}
 use Rattle.ags_play.proofs.OnePlayLemmas.{some_play}
 use Rattle.ags_ports.specs.declared.events.Event.{Event}
 use Rattle.ags_ports.specs.declared.machines.Machine.{Machine}
 use Rattle.ags_ports.specs.Machine.{IsMachine}
-use Rattle.ags_ports.specs.Run.{Moment}
 use Rattle.ags_safe.specs.Certificate.{Certificate}
 use Rattle.ags_run.specs.declared.benches.Bench.{Bench}
 use Rattle.ags_run.specs.declared.play_error.PlayError.{PlayError}
 use Rattle.ags_run.specs.declared.play_error.PlayError.TheVariants.{WriteFault, StartOutside, InputRange, NoMemory}
-use Rattle.ags_run.specs.Acted.{AreCounted, ActMade, ActsMade, ActsStopped, ActsInPart, AreUnmade}
+use Rattle.ags_run.specs.Acted.{AreCounted, ActMade, ActsMade, ActsInPart, AreUnmade}
 use Rattle.ags_run.specs.Making.{CountsFit, ActLetThrough, ActStopped, AllMade, NotAllMade}
 use Rattle.ags_run.specs.Standing.{StandsAs}
 use Rattle.ags_run.proofs.ActLemmas.{counted_on}

@@ -4,28 +4,26 @@
 --     none_fed                         the panel has no digit left
 --     zero_fed, zero_stopped, zero_none      the same in a cycle
 --     registers_below                  a register stands below 4096
-use Rattle.std.proofs.Common.{◌≡◌, ℕ, ◌+◌, ◌<◌, List, [], ◌∷◌, refl, sym, ap, subst, ◌∙◌, get_or, arith}
-use Rattle.std.specs.Prelude.{true, false, ◌%◌, ◌^◌, slice_get, Option, Some, None, if◌then◌else◌}
+use Rattle.std.proofs.Common.{◌≡◌, ℕ, ◌+◌, ◌<◌, List, [], ◌∷◌, refl, sym, ap, subst, ◌∙◌}
+use Rattle.std.specs.Prelude.{true, false, slice_get, Option, Some, None}
 use Rattle.ags_deda.specs.declared.panels.Panel.{Panel}
 use Rattle.ags_deda.specs.Happening.{Happening, Sent}
 use Rattle.ags_deda.specs.Panel.{unsent}
 use Rattle.ags_deda.specs.Standing.{StandsFor}
 use Rattle.ags_domain.specs.declared.values.Value.{Value}
-use Rattle.ags_play.specs.Act.{Act, Puts, Feeds, FeedsWhereZero}
+use Rattle.ags_play.specs.Act.{Puts, Feeds, FeedsWhereZero}
 use Rattle.ags_play.specs.Bench as play
-use Rattle.ags_play.specs.Doing.{PutWord, next_digit, wants_digit, panel_along}
-use Rattle.ags_play.specs.Guard.{stopped_by}
+use Rattle.ags_play.specs.Doing.{next_digit, wants_digit, panel_along}
 use Rattle.ags_ports.specs.declared.events.Event.TheVariants as event
 use Rattle.ags_ports.specs.declared.machines.Machine.{Machine}
 use Rattle.ags_ports.specs.declared.registers.Port.{Port}
 use Rattle.ags_ports.specs.Port.{AreRegisters, place_of, held_port}
-use Rattle.ags_ports.specs.Run.{Moment}
 use Rattle.ags_ports.proofs.PortLemmas.{place_of-some}
 use Rattle.ags_safe.specs.Certificate.{Certificate}
 use Rattle.ags_run.specs.declared.benches.Bench.{Bench}
 use Rattle.ags_run.specs.declared.listeners.Listener.{Listener}
 use Rattle.ags_run.specs.declared.play_error.PlayError.{PlayError}
-use Rattle.ags_run.specs.Acted.{AreCounted, ActMade}
+use Rattle.ags_run.specs.Acted.{AreCounted}
 use Rattle.ags_run.specs.Making.{CountsFit, WordPut, WordStopped, ActLetThrough, ActStopped}
 use Rattle.ags_run.specs.Standing.{StandsAs}
 use Rattle.ags_run.proofs.ActLemmas.{at_stood, idle_panel, counted_none}

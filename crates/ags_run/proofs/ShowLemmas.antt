@@ -2,7 +2,7 @@
 --     reg_made, cell_made, out_made, deda_made            the line was sent
 --     reg_unmade, cell_unmade, out_unmade, deda_unmade    a front of it was
 use Rattle.std.proofs.Common.{◌≡◌, ℕ, List, [], ◌∷◌, ◌++◌, refl, sym, ap, subst, ◌∙◌}
-use Rattle.std.specs.Prelude.{codes, Option, Some, None}
+use Rattle.std.specs.Prelude.{codes, Option, None}
 use Rattle.ags_deda.specs.Happening.{Happening}
 use Rattle.ags_deda.specs.Standing.{StandsFor}
 use Rattle.ags_domain.specs.declared.values.Value.{Value}
@@ -18,7 +18,7 @@ use Rattle.ags_safe.specs.Certificate.{Certificate}
 use Rattle.ags_run.specs.declared.benches.Bench.{Bench}
 use Rattle.ags_run.specs.declared.play_error.PlayError.{PlayError}
 use Rattle.ags_run.specs.declared.play_error.PlayError.TheVariants.{WriteFault, StartOutside, InputRange, NoMemory}
-use Rattle.ags_run.specs.Acted.{ActMade, AreUnmade}
+use Rattle.ags_run.specs.Acted.{AreUnmade}
 use Rattle.ags_run.specs.Making.{CountsFit, ActLetThrough, AllMade, NotAllMade, IsFrontSent}
 use Rattle.ags_run.specs.Standing.{StandsAs}
 use Rattle.ags_run.proofs.ActLemmas.{at_stood}

@@ -1,4 +1,4 @@
-use Rattle.std.proofs.Common.{◌≡◌, ◌≤◌, ℕ, List, option_map, subst, arith}
+use Rattle.std.proofs.Common.{◌≡◌, ℕ, List, option_map, subst, arith}
 use Rattle.std.specs.Prelude.{Option}
 use Rattle.ags_play.specs.Act.{cycles}
 use Rattle.ags_run.specs.Making.{AllMade}

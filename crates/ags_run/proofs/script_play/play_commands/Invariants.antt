@@ -1,4 +1,4 @@
-use Rattle.std.proofs.Common.{◌≡◌, ◌≤◌, length, take, option_map}
+use Rattle.std.proofs.Common.{◌≡◌, take, option_map}
 use Rattle.ags_play.specs.Act.{acts_of}
 use Rattle.ags_run.specs.Making.{AllMade}
 use Rattle.ags_run.specs.Play.{guard_of}
