@@ -4,12 +4,18 @@
 //! certificate declares, on `ags_outside` for the output, on `ags_text` and `ags_word` for digits, and on `arrayvec`.
 #![tactic(auto)]
 
+mod acts;
 mod benches;
+mod commands;
+mod cycling;
 mod error_texts;
 mod listeners;
 mod outside;
 mod play_error;
 mod playing;
+mod putting;
+mod script_play;
+mod showing;
 mod shown_lines;
 
 pub use outside::Outside;

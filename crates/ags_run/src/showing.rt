@@ -1,0 +1,122 @@
+//! What is shown: a line, sent with its line feed.
+
+ghost use Rattle.std.specs.Prelude.{◌≡◌, ◌<◌, ◌≤◌, List, [], ◌∷◌, ◌++◌, codes, length, IfOk, IfErr, Option};
+ghost use Rattle.ags_deda.specs.Happening.{Happening};
+ghost use Rattle.ags_deda.specs.Standing.{StandsFor};
+ghost use Rattle.ags_domain.specs.declared.values.Value.{Value};
+ghost use Rattle.ags_outside.specs.Count.{HasCause};
+ghost use Rattle.ags_outside.specs.Sink.{appended};
+ghost use Rattle.ags_play.specs.Act as act;
+ghost use Rattle.ags_play.specs.Doing.{deda_text};
+ghost use Rattle.ags_ports.specs.declared.machines.Machine.{Machine};
+ghost use Rattle.ags_ports.specs.Port.{place_of, register_at};
+ghost use Rattle.ags_run.specs.Making.{AllMade, NotAllMade, IsFrontSent, is_stop_fault};
+ghost use Rattle.ags_safe.specs.Certificate.{Certificate};
+
+use crate::benches::Bench;
+use crate::play_error::PlayError;
+use crate::shown_lines::{cell_line, output_line, reg_line};
+use ags_core::Core;
+use ags_deda::Panel;
+use ags_outside::{SendError, Sink, send};
+use ags_ports::Machine;
+use ags_word::Word;
+use arrayvec::ArrayVec;
+
+/// The panel's line, without its line feed.
+fn deda_line(panel: &Panel) -> ArrayVec<u8, 17>
+    ensures text { (happenings : List Happening) → StandsFor panel.now happenings → result.items ≡ deda_text happenings }
+    ensures most { length result.items ≤ 17 }
+{
+    let display = panel.text();
+    let mut line: ArrayVec<u8, 17> = ArrayVec::new();
+    let _ = line.try_extend_from_slice(b"DEDA |");
+    let _ = line.try_extend_from_slice(&display);
+    let _ = line.try_push(b'|');
+    line
+}
+
+/// The word of the output register at an address, and 0 where there is none.
+fn output_at(machine: &Machine, core: &Core, address: u16) -> Word
+    requires { length core.now.outputs ≡ length machine.now.ports.outputs }
+    ensures { result ≡ register_at core.now.outputs (place_of machine.now.ports.outputs address) }
+{
+    match machine.ports.find_output(address) {
+        Some(place) => core.output(place),
+        None => Word::ZERO,
+    }
+}
+
+/// Sends a line with its line feed, as one piece.
+fn send_line<K: Sink>(out: &mut K, line: &[u8]) -> Result<(), PlayError>
+    requires { length line.now ≤ 34 }
+    ensures sent { IfOk result (λ _. K.told out.new ≡ appended (K.told out.old) (line.now ++ codes "\n")) }
+    ensures front { IfErr result (IsFrontSent (K.told out.old) (K.told out.new) (line.now ++ codes "\n")) }
+    ensures faults { HasCause (K.faults out.old) (K.faults out.new) (is_stop_fault result) }
+{
+    let mut whole: ArrayVec<u8, 35> = ArrayVec::new();
+    let _ = whole.try_extend_from_slice(line);
+    let _ = whole.try_push(b'\n');
+    match send(out, whole.as_slice()) {
+        Ok(()) => Ok(()),
+        Err(SendError::WriteFault) => Err(PlayError::WriteFault),
+        Err(SendError::NoMemory) => Err(PlayError::NoMemory),
+    }
+}
+
+/// Shows the processor's registers.
+pub(crate) fn show_reg<K: Sink>(bench: &Bench, out: &mut K) -> Result<(), PlayError>
+    ensures made { IfOk result (λ _. (machine : Machine) (guard : Option (Certificate Value))
+        → AllMade machine guard (act.ShowsReg ∷ []) (K.told out.old) (K.told out.new) bench.now bench.now) }
+    ensures unmade { IfErr result (λ error. (machine : Machine) (guard : Option (Certificate Value))
+        → NotAllMade machine guard (act.ShowsReg ∷ []) (K.told out.old) (K.told out.new) bench.now error) }
+    ensures faults { HasCause (K.faults out.old) (K.faults out.new) (is_stop_fault result) }
+{
+    bench.counts_fit();
+    send_line(out, &reg_line(&bench.core))
+}
+
+/// Shows the cell at an address.
+pub(crate) fn show_cell<K: Sink>(bench: &Bench, address: u16, out: &mut K) -> Result<(), PlayError>
+    requires { address < 4096 }
+    ensures made { IfOk result (λ _. (machine : Machine) (guard : Option (Certificate Value))
+        → AllMade machine guard (act.ShowsCell address ∷ []) (K.told out.old) (K.told out.new) bench.now bench.now) }
+    ensures unmade { IfErr result (λ error. (machine : Machine) (guard : Option (Certificate Value))
+        → NotAllMade machine guard (act.ShowsCell address ∷ []) (K.told out.old) (K.told out.new) bench.now error) }
+    ensures faults { HasCause (K.faults out.old) (K.faults out.new) (is_stop_fault result) }
+{
+    bench.counts_fit();
+    send_line(out, &cell_line(address, bench.core.cell(address)))
+}
+
+/// Shows the output register at an address.
+pub(crate) fn show_out<K: Sink>(
+    machine: &Machine,
+    bench: &Bench,
+    address: u16,
+    out: &mut K,
+) -> Result<(), PlayError>
+    requires address { address < 4096 }
+    requires outputs { length bench.now.core.outputs ≡ length machine.now.ports.outputs }
+    ensures made { IfOk result (λ _. (guard : Option (Certificate Value))
+        → AllMade machine.now guard (act.ShowsOut address ∷ []) (K.told out.old) (K.told out.new) bench.now bench.now) }
+    ensures unmade { IfErr result (λ error. (guard : Option (Certificate Value))
+        → NotAllMade machine.now guard (act.ShowsOut address ∷ []) (K.told out.old) (K.told out.new) bench.now error) }
+    ensures faults { HasCause (K.faults out.old) (K.faults out.new) (is_stop_fault result) }
+{
+    bench.counts_fit();
+    let word = output_at(machine, &bench.core, address);
+    send_line(out, &output_line(address, word))
+}
+
+/// Shows the panel's display.
+pub(crate) fn show_deda<K: Sink>(bench: &Bench, out: &mut K) -> Result<(), PlayError>
+    ensures made { IfOk result (λ _. (machine : Machine) (guard : Option (Certificate Value))
+        → AllMade machine guard (act.ShowsDeda ∷ []) (K.told out.old) (K.told out.new) bench.now bench.now) }
+    ensures unmade { IfErr result (λ error. (machine : Machine) (guard : Option (Certificate Value))
+        → NotAllMade machine guard (act.ShowsDeda ∷ []) (K.told out.old) (K.told out.new) bench.now error) }
+    ensures faults { HasCause (K.faults out.old) (K.faults out.new) (is_stop_fault result) }
+{
+    bench.counts_fit();
+    send_line(out, deda_line(&bench.listener.panel).as_slice())
+}
