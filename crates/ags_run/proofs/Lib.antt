@@ -1,1 +1,3 @@
 mod TextLemmas
+mod StartingLemmas
+mod GuardingLemmas

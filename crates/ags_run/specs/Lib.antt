@@ -5,3 +5,4 @@ pub mod ErrorText
 pub mod Hearing
 pub mod Standing
 pub mod Acted
+pub mod Starting

@@ -6,11 +6,13 @@
 
 mod benches;
 mod error_texts;
+mod guarding;
 mod listeners;
 mod outside;
 mod play_error;
 mod playing;
 mod shown_lines;
+mod starting;
 
 pub use outside::Outside;
 pub use play_error::PlayError;
