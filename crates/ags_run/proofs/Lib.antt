@@ -1,3 +1,5 @@
 mod TextLemmas
 mod StartingLemmas
 mod GuardingLemmas
+mod Borrowed
+mod PlayedLemmas

@@ -63,3 +63,8 @@ IsUnplayed machine image cert commands old new NoMemory = PlayedInPart machine i
 abbrev pub is_play_fault : Result Played PlayError → Bool
 is_play_fault (Err WriteFault) = true
 is_play_fault _ = false
+
+-- the same of the acts of a script
+abbrev pub is_stop_fault : Result (Unit {0}) PlayError → Bool
+is_stop_fault (Err WriteFault) = true
+is_stop_fault _ = false

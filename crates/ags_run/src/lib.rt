@@ -11,6 +11,7 @@ mod listeners;
 mod outside;
 mod play_error;
 mod playing;
+mod script_play;
 mod shown_lines;
 mod starting;
 

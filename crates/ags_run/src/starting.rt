@@ -29,7 +29,7 @@ use std::alloc::{AllocError, Global};
 const USUAL_LOCATION: u16 = 0o4000;
 
 /// The location that a script without START begins at.
-fn usual_location(guard: Option<&Cert>) -> u16
+pub(crate) fn usual_location(guard: Option<&Cert>) -> u16
     ensures location { result ≡ usual_location (guard_of (option_map (λ cert. cert.now) guard.entry)) }
     ensures below { result < 4096 }
 {
