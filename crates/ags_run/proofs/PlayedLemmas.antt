@@ -1,5 +1,5 @@
 -- What a play comes to, by how it was begun and by what its acts came to.
-use Rattle.std.proofs.Common.{◌≡◌, ℕ, ◌+◌, ◌%◌, ◌^◌, ◌<◌, ◌≤◌, List, [], length, refl, sym, ap, ◌∙◌, arith}
+use Rattle.std.proofs.Common.{◌≡◌, ℕ, ◌+◌, ◌%◌, ◌^◌, ◌<◌, ◌≤◌, List, [], length, refl, sym, arith}
 use Rattle.std.specs.Prelude.{Option, Some, None, count_by, sum_by}
 use Rattle.ags_domain.specs.declared.values.Value.{Value}
 use Rattle.ags_outside.specs.Sink.{appended_nothing, front_of_wrote, wrote_nothing}
@@ -7,7 +7,7 @@ use Rattle.ags_play.specs.Act.{acts_of}
 use Rattle.ags_play.specs.Bench.{begun_state, start_bench}
 use Rattle.ags_play.specs.Counted.{is_step, is_put}
 use Rattle.ags_play.specs.Guard.{IsFound}
-use Rattle.ags_play.specs.Played.{IsPlayOf, Plays, met_of}
+use Rattle.ags_play.specs.Played.{met_of}
 use Rattle.ags_play.proofs.SearchLemmas.{some_play_of}
 use Rattle.ags_ports.specs.declared.machines.Machine.{Machine}
 use Rattle.ags_ports.specs.Machine.{IsMachine}

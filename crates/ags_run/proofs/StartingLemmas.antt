@@ -1,7 +1,7 @@
 -- What the commands of a script set, one more at a time, and the location apart from the rest.
 use Rattle.std.proofs.Common.{◌≡◌, ℕ, ◌+◌, List, [], ◌∷◌, ◌++◌, take, refl, sym, ap, ◌∙◌}
 use Rattle.std.specs.Prelude.{Some, slice_get}
-use Rattle.std.proofs.lemmas.List.{take_more, take_all}
+use Rattle.std.proofs.lemmas.List.{take_more}
 use Rattle.std.proofs.lemmas.Option.{slice_get_within, get_or_from_slice_get}
 use Rattle.ags_play.specs.Bench.{with_setting, with_settings}
 use Rattle.ags_ports.specs.declared.machines.Machine.{Machine}

@@ -1,11 +1,10 @@
 //! What of a start is outside of a certificate.
 
-ghost use Rattle.std.specs.Prelude.{◌≡◌, ◌≢◌, ◌<◌, ◌↔◌, ℕ, IsTrue, IfSome, Some, None, length, option_map, slice_index_or};
+ghost use Rattle.std.specs.Prelude.{◌≡◌, ◌<◌, ◌↔◌, ℕ, IsTrue, IfSome, None, length, option_map, slice_index_or};
 ghost use Rattle.ags_cert.specs.Cert.{certificate_of};
 ghost use Rattle.ags_domain.specs.Value.{value_meaning};
-ghost use Rattle.ags_image.specs.Image.{entry_at};
-ghost use Rattle.ags_play.specs.Guard.{AreCellsInside, AreInputsInside, IsInputInside, IsFirstOutside, IsFound};
-ghost use Rattle.ags_ports.specs.Port.{place_of, held_port};
+ghost use Rattle.ags_play.specs.Guard.{AreInputsInside, IsInputInside, IsFirstOutside, IsFound};
+ghost use Rattle.ags_ports.specs.Port.{held_port};
 ghost use Rattle.ags_ports.specs.State.{cell};
 ghost use Rattle.ags_posts.specs.InRow.{AreInputsHeld};
 ghost use Rattle.ags_safe.specs.Start.{IsFirstWord, IsStartWord};
@@ -41,13 +40,14 @@ fn is_cell_inside(image: &Image, cert: &Cert, core: &Core, address: u16) -> bool
 }
 
 /// The address of the first erasable cell that is outside.
-fn find_cell(machine: &Machine, image: &Image, cert: &Cert, core: &Core) -> Option<u16>
+fn find_cell(image: &Image, cert: &Cert, core: &Core) -> Option<u16>
     ensures erasable { IfSome result (λ address. address < 2048) }
-    ensures earlier { IfSome result (AreCellsInside machine.now image.now (certificate_of cert.now) core.now) }
+    ensures earlier { IfSome result (λ address. (earlier : ℕ) → earlier < address
+        → IsStartWord value_meaning image.now (certificate_of cert.now) earlier (cell core.now earlier)) }
     ensures outside { IfSome result (λ address. ¬ IsStartWord value_meaning image.now (certificate_of cert.now) address (cell core.now address)) }
-    ensures none { result ≡ None → AreCellsInside machine.now image.now (certificate_of cert.now) core.now 2048 }
+    ensures none { result ≡ None → (address : ℕ) → address < 2048
+        → IsStartWord value_meaning image.now (certificate_of cert.now) address (cell core.now address) }
 {
-    let _ = machine;
     for address in 0..2048 {
         if !is_cell_inside(image, cert, core, address) {
             return Some(address);
@@ -90,7 +90,7 @@ fn find_word(machine: &Machine, image: &Image, cert: &Cert, core: &Core) -> Opti
     requires location { core.now.location ≡ cert.now.start }
     ensures { IsFirstOutside machine.now image.now (certificate_of cert.now) core.now (option_map outside_of result) }
 {
-    if let Some(address) = find_cell(machine, image, cert, core) {
+    if let Some(address) = find_cell(image, cert, core) {
         let word = core.cell(address);
         return Some(Outside::Cell { address, word });
     }

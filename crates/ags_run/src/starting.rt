@@ -1,11 +1,11 @@
 //! The bench before the first act.
 
-ghost use Rattle.std.specs.Prelude.{◌≡◌, ◌≤◌, ◌<◌, ℕ, false, length, option_map, take, IfOk, IfErr, None, List, []};
+ghost use Rattle.std.specs.Prelude.{◌≡◌, ◌<◌, false, All, option_map, IfOk, IfErr, None, []};
+ghost use Rattle.ags_deda.specs.Standing.{StandsFor};
 ghost use Rattle.ags_play.specs.Bench.{with_setting, with_settings, usual_location, begun_state, start_bench};
 ghost use Rattle.ags_play.specs.Guard.{IsFound};
 ghost use Rattle.ags_ports.specs.declared.machines.Machine.{Machine};
 ghost use Rattle.ags_ports.specs.State.{State, IsState};
-ghost use Rattle.ags_deda.specs.Standing.{StandsFor};
 ghost use Rattle.ags_script.specs.Command.{lacks_port};
 ghost use Rattle.ags_script.specs.Suiting.{NamesLocation, Suits};
 ghost use Rattle.ags_run.specs.Hearing.{listening};
@@ -40,13 +40,12 @@ pub(crate) fn usual_location(guard: Option<&Cert>) -> u16
 }
 
 /// The location once a command was set, where it was this one before.
-fn location_after(machine: &Machine, command: Command, location: u16) -> u16
+fn location_after(command: Command, location: u16) -> u16
     requires names { NamesLocation command }
     requires below { location < 4096 }
-    ensures location { (s : State) → s.location ≡ location → (with_setting machine.now s command).location ≡ result }
+    ensures location { (machine : Machine) (s : State) → s.location ≡ location → (with_setting machine s command).location ≡ result }
     ensures below { result < 4096 }
 {
-    let _ = machine;
     match command {
         Command::Start(address) => address,
         _ => location,
@@ -54,15 +53,15 @@ fn location_after(machine: &Machine, command: Command, location: u16) -> u16
 }
 
 /// The location that a script begins at, where this is the usual one.
-fn start_location(machine: &Machine, script: &Script, usual: u16) -> u16
-    requires suits { Suits machine.now script.now }
+fn start_location(script: &Script, usual: u16) -> u16
+    requires names { All NamesLocation script.now }
     requires usual { usual < 4096 }
-    ensures location { (s : State) → s.location ≡ usual → (with_settings machine.now s script.now).location ≡ result }
+    ensures location { (machine : Machine) (s : State) → s.location ≡ usual → (with_settings machine s script.now).location ≡ result }
     ensures below { result < 4096 }
 {
     let mut location = usual;
     for position in 0..script.len() {
-        location = location_after(machine, script.nth(position), location);
+        location = location_after(script.nth(position), location);
     }
     location
 }
@@ -110,7 +109,7 @@ fn begun_core(
     ensures begun { IfOk result (λ core. core ≡ begun_state machine.now image.now (guard_of (option_map (λ cert. cert.now) guard.entry)) script.now) }
     ensures state { IfOk result (IsState machine.now) }
 {
-    let start = start_location(machine, script, usual_location(guard));
+    let start = start_location(script, usual_location(guard));
     let mut core = Core::new(alloc, machine, image, start)?;
     set_all(machine, &mut core, script);
     Ok(core)

@@ -1,7 +1,6 @@
 //! Scripts that are played on the standard machine, with what they print typed by hand.
 
-ghost use Rattle.std.specs.Prelude.{◌≡◌, ◌≤◌, length, None, IfOk, IfSome};
-ghost use Rattle.ags_ports.specs.Machine.{standard_machine};
+ghost use Rattle.std.specs.Prelude.{◌≤◌, length, None, IfOk};
 ghost use Rattle.ags_script.specs.Script.{IsReadFor};
 
 use crate::{Outside, PlayError, Played, play};

@@ -1,5 +1,5 @@
-use Rattle.std.proofs.Common.{ℕ, ◌<◌, subst, option_map}
-use Rattle.std.specs.Prelude.{Option, Some}
+use Rattle.std.proofs.Common.{◌<◌, subst}
+use Rattle.std.specs.Prelude.{Option}
 use Rattle.ags_domain.specs.declared.values.Value.{Value}
 use Rattle.ags_play.specs.Bench.{usual_location}
 use Rattle.ags_play.proofs.RunOfLemmas.{play_is_run}

@@ -1,4 +1,4 @@
-use Rattle.std.proofs.Common.{ℕ, ap, sym, ◌∙◌, option_map}
+use Rattle.std.proofs.Common.{ap, sym, ◌∙◌, option_map}
 use Rattle.ags_core.specs.Core.{start_state}
 use Rattle.ags_play.specs.Bench.{with_settings, usual_location}
 use Rattle.ags_ports.specs.State.{State}
@@ -13,4 +13,4 @@ returns-clause-begun c =
     let s = start_state machine c.args.image.now (usual_location (guard_of (option_map (λ cert. cert.now) c.args.guard))) in
     c.set_all.ensures.after
     ∙ ap (λ (t : State). record (with_settings machine t commands) { location = t.location }) c.in_ok-core.ensures.start
-    ∙ settled machine s c.start_location-start.result commands (c.start_location-start.ensures.location s (sym c.usual_location.ensures.location))
+    ∙ settled machine s c.start_location-start.result commands (c.start_location-start.ensures.location machine s (sym c.usual_location.ensures.location))

@@ -1,5 +1,6 @@
 use Rattle.std.proofs.Common.{◌≡◌, ◌<◌, take}
 use Rattle.ags_play.specs.Bench.{with_settings}
+use Rattle.ags_ports.specs.declared.machines.Machine.{Machine}
 use Rattle.ags_ports.specs.State.{State}
 use Rattle.ags_run.proofs.starting.start_location.Given as goal
 
@@ -7,5 +8,5 @@ use Rattle.ags_run.proofs.starting.start_location.Given as goal
 abbrev pub invariant-loop-position : goal.invariant-loop-position
 invariant-loop-position l = record {
   below : l.location < 4096;
-  location : (s : State) → s.location ≡ l.usual → (with_settings l.machine s (take l.position l.script)).location ≡ l.location;
+  location : (machine : Machine) (s : State) → s.location ≡ l.usual → (with_settings machine s (take l.position l.script)).location ≡ l.location;
 }
