@@ -28,7 +28,7 @@ use Rattle.ags_run.specs.Acted.{AreCounted, ActMade, ActsMade, ActsInPart, AreUn
 use Rattle.ags_run.specs.Making.{CountsFit, ActLetThrough, ActStopped, AllMade, NotAllMade}
 use Rattle.ags_run.specs.Standing.{StandsAs}
 use Rattle.ags_run.proofs.ActLemmas.{counted_on}
-use Rattle.ags_run.proofs.Borrowed.{plays_on, plays_stop}
+use Rattle.ags_play.proofs.CutLemmas.{plays_on, plays_stop}
 
 -- ---- what is counted
 

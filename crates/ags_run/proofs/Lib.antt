@@ -1,8 +1,10 @@
 mod TextLemmas
 mod ActLemmas
-mod Borrowed
 mod JoinLemmas
 mod PutLemmas
 mod ShowLemmas
 mod CycleLemmas
 mod ScriptLemmas
+mod StartingLemmas
+mod GuardingLemmas
+mod PlayedLemmas

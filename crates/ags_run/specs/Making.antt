@@ -1,5 +1,5 @@
 -- What the functions that make acts under a guard come to.
-use Rattle.std.specs.Prelude.{◌≡◌, ℕ, ◌+◌, ◌%◌, ◌^◌, ◌<◌, Bool, true, false, List, Option, Some, None, Result, Err}
+use Rattle.std.specs.Prelude.{◌≡◌, ℕ, ◌+◌, ◌%◌, ◌^◌, ◌<◌, List, Option, Some, None}
 use Rattle.ags_domain.specs.declared.values.Value.{Value}
 use Rattle.ags_outside.specs.Sink.{WroteFront}
 use Rattle.ags_play.specs.Act.{Act}
@@ -64,8 +64,3 @@ abbrev pub IsFrontSent : (old new : Option (List ℕ)) (text : List ℕ) → Pla
 IsFrontSent old new text WriteFault = WroteFront old new text
 IsFrontSent old new text NoMemory = WroteFront old new text
 IsFrontSent old new text _ = ⊥
-
--- whether acts met a fault of the sink, which its count of faults counts
-abbrev pub is_stop_fault : {T : Type 0} → Result T PlayError → Bool
-is_stop_fault (Err WriteFault) = true
-is_stop_fault _ = false

@@ -1,5 +1,5 @@
 -- What `play` answers: how far a script was played, and what it met.
-use Rattle.std.specs.Prelude.{◌≡◌, ℕ, Bool, true, false, List, ◌++◌, count_by, Option, Result, Err, option_map}
+use Rattle.std.specs.Prelude.{◌≡◌, ℕ, Bool, true, false, List, count_by, Option, Result, Err, option_map}
 use Rattle.ags_cert.specs.Cert.{Stated, certificate_of}
 use Rattle.ags_domain.specs.declared.values.Value.{Value}
 use Rattle.ags_outside.specs.Sink.{appended, WroteFront}
@@ -59,7 +59,7 @@ IsUnplayed machine image cert commands old new (InputRange address word) = Playe
 IsUnplayed machine image cert commands old new WriteFault = PlayedInPart machine image cert commands old new
 IsUnplayed machine image cert commands old new NoMemory = PlayedInPart machine image cert commands old new
 
--- whether a play met a fault of the sink, which its count of faults counts
-abbrev pub is_play_fault : Result Played PlayError → Bool
+-- whether a call met a fault of the sink, which its count of faults counts
+abbrev pub is_play_fault : {T : Type 0} → Result T PlayError → Bool
 is_play_fault (Err WriteFault) = true
 is_play_fault _ = false

@@ -2,8 +2,8 @@
 
 ghost use Rattle.std.specs.Prelude.{◌≡◌, ℕ, List, [], ◌∷◌, false, IfOk, IfErr, Option, option_map};
 ghost use Rattle.ags_play.specs.Act as act;
-ghost use Rattle.ags_run.specs.Making.{AllMade, NotAllMade, is_stop_fault};
-ghost use Rattle.ags_run.specs.Play.{guard_of};
+ghost use Rattle.ags_run.specs.Making.{AllMade, NotAllMade};
+ghost use Rattle.ags_run.specs.Play.{guard_of, is_play_fault};
 ghost use Rattle.ags_run.specs.Standing.{IsBenchOf};
 
 use crate::benches::Bench;
@@ -21,7 +21,7 @@ fn run_one(machine: &Machine, guard: Option<&Cert>, bench: &mut Bench) -> Result
         (act.FeedsWhereZero ∷ act.Pulses ∷ act.RunsCycle ∷ []) told told bench.old bench.new) }
     ensures unmade { IfErr result (λ error. (told : Option (List ℕ)) → NotAllMade machine.now (guard_of (option_map (λ cert. cert.now) guard.entry))
         (act.FeedsWhereZero ∷ act.Pulses ∷ act.RunsCycle ∷ []) told told bench.old error) }
-    ensures no_fault { is_stop_fault result ≡ false }
+    ensures no_fault { is_play_fault result ≡ false }
 {
     machine_is_made_of_tables(machine);
     match feed_where_zero(machine, guard, bench) {
@@ -47,7 +47,7 @@ pub(crate) fn run_cycles(
         (act.cycles count) told told bench.old bench.new) }
     ensures unmade { IfErr result (λ error. (told : Option (List ℕ)) → NotAllMade machine.now (guard_of (option_map (λ cert. cert.now) guard.entry))
         (act.cycles count) told told bench.old error) }
-    ensures no_fault { is_stop_fault result ≡ false }
+    ensures no_fault { is_play_fault result ≡ false }
 {
     machine_is_made_of_tables(machine);
     bench.counts_fit();

@@ -9,6 +9,7 @@ mod benches;
 mod commands;
 mod cycling;
 mod error_texts;
+mod guarding;
 mod listeners;
 mod outside;
 mod play_error;
@@ -17,8 +18,12 @@ mod putting;
 mod script_play;
 mod showing;
 mod shown_lines;
+mod starting;
 
 pub use outside::Outside;
 pub use play_error::PlayError;
 pub use playing::{Played, play};
 pub use shown_lines::{cell_line, output_line, reg_line};
+
+#[cfg(test)]
+mod tests;

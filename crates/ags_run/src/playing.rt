@@ -1,17 +1,30 @@
 //! The play of a script.
 
-ghost use Rattle.std.specs.Prelude.{◌≡◌, option_map, IfOk, IfErr, IsErrOf};
+ghost use Rattle.std.specs.Prelude.{◌≡◌, ◌<◌, ◌^◌, ℕ, List, Option, Some, length, option_map, IfOk, IfErr, IsErrOf};
+ghost use Rattle.ags_domain.specs.declared.values.Value.{Value};
+ghost use Rattle.ags_image.specs.Image.{IsImage};
 ghost use Rattle.ags_outside.specs.Count.{HasCause, Rose};
+ghost use Rattle.ags_play.specs.Begun.{IsRunOf};
+ghost use Rattle.ags_play.specs.Bench.{usual_location, begun_state};
+ghost use Rattle.ags_play.specs.Guard as outside_start;
+ghost use Rattle.ags_play.specs.Played.{IsPlayOf, Met, OutsideStart};
+ghost use Rattle.ags_ports.specs.declared.events.Event.{Event};
+ghost use Rattle.ags_ports.specs.Machine.{IsMachine};
+ghost use Rattle.ags_safe.specs.Certificate.{Certificate};
 ghost use Rattle.ags_script.specs.Script.{IsReadFor};
+ghost use Rattle.ags_script.specs.Suiting.{Suits};
 ghost use Rattle.ags_run.specs.Play.{guard_of, IsUnplayed, PlayedWhole, is_play_fault};
 
 use crate::play_error::PlayError;
+use crate::script_play::play_commands;
+use crate::starting::{begin, usual_location};
 use ags_cert::Cert;
 use ags_image::Image;
 use ags_outside::Sink;
 use ags_ports::Machine;
 use ags_ports::laws::machine_is_made_of_tables;
 use ags_script::Script;
+use ags_script::laws::scripts_suit_their_machine;
 use std::alloc::Global;
 
 /// How many events a script made.
@@ -21,6 +34,33 @@ pub struct Played {
     pub steps: u64,
     /// The words that were put into input registers.
     pub puts: u64,
+}
+
+/// What is so of an image, of a script and of a certificate by their types.
+fn types_are_kept(image: &Image, script: &Script, guard: Option<&Cert>)
+    ensures image { IsImage image.now }
+    ensures commands { length script.now < 2 ^ 63 }
+    ensures location { usual_location (guard_of (option_map (λ cert. cert.now) guard.entry)) < 4096 }
+{
+    let _ = image.get(0);
+    let _ = script.len();
+    let _ = usual_location(guard);
+}
+
+/// What is so of a machine, of a script that was read for it, and of each play of the script under a certificate.
+fn plays_are_sound(machine: &Machine, image: &Image, script: &Script, guard: Option<&Cert>)
+    requires { IsReadFor machine.now script.now }
+    ensures machine { IsMachine machine.now }
+    ensures suits { Suits machine.now script.now }
+    ensures commands { length script.now < 2 ^ 63 }
+    ensures declared { (cert : Certificate Value) (events : List Event) (text : List ℕ) (met : Met)
+        → guard_of (option_map (λ cert. cert.now) guard.entry) ≡ Some cert → IsPlayOf machine.now image.now (Some cert) script.now events text met
+        → ((outside : outside_start.Outside) → met ≡ OutsideStart outside → ⊥)
+        → IsRunOf machine.now image.now cert (begun_state machine.now image.now (Some cert) script.now) events }
+{
+    machine_is_made_of_tables(machine);
+    scripts_suit_their_machine();
+    types_are_kept(image, script, guard);
 }
 
 /// Plays a script that was read for the machine (docs/SCRIPT.md), on the machine that starts with an image. What it shows is
@@ -38,9 +78,19 @@ pub fn play<K: Sink>(
     // The script has one play over the image, under the certificate or none: this is how far it came, with its text.
     ensures played { IfOk result (PlayedWhole machine.now image.now (guard_of (option_map (λ cert. cert.now) guard.entry)) script.now (K.told out.old) (K.told out.new)) }
     ensures unplayed { IfErr result (IsUnplayed machine.now image.now (guard_of (option_map (λ cert. cert.now) guard.entry)) script.now (K.told out.old) (K.told out.new)) }
+    // Under a certificate the events of the play are a run from a start that it declares, with each word that is put declared.
+    ensures declared { (cert : Certificate Value) (events : List Event) (text : List ℕ) (met : Met)
+        → guard_of (option_map (λ cert. cert.now) guard.entry) ≡ Some cert → IsPlayOf machine.now image.now (Some cert) script.now events text met
+        → ((outside : outside_start.Outside) → met ≡ OutsideStart outside → ⊥)
+        → IsRunOf machine.now image.now cert (begun_state machine.now image.now (Some cert) script.now) events }
     ensures write_fault { IsErrOf result PlayError.WriteFault → Rose (K.faults out.old) (K.faults out.new) }
     ensures faults { HasCause (K.faults out.old) (K.faults out.new) (is_play_fault result) }
 {
-    machine_is_made_of_tables(machine);
-    Err(PlayError::NoMemory)
+    plays_are_sound(machine, image, script, guard);
+    let mut bench = begin(alloc, machine, image, script, guard)?;
+    play_commands(machine, guard, &mut bench, script, out)?;
+    Ok(Played {
+        steps: bench.listener.steps,
+        puts: bench.puts,
+    })
 }

@@ -6,8 +6,8 @@ ghost use Rattle.ags_play.specs.Act as act;
 ghost use Rattle.ags_play.specs.Bench as play;
 ghost use Rattle.ags_play.specs.Doing as doing;
 ghost use Rattle.ags_play.specs.Guard as guarding;
-ghost use Rattle.ags_run.specs.Making.{WordPut, WordStopped, ActLetThrough, ActStopped, is_stop_fault};
-ghost use Rattle.ags_run.specs.Play.{guard_of};
+ghost use Rattle.ags_run.specs.Making.{WordPut, WordStopped, ActLetThrough, ActStopped};
+ghost use Rattle.ags_run.specs.Play.{guard_of, is_play_fault};
 ghost use Rattle.ags_run.specs.Standing.{IsBenchOf, StandsAs};
 
 use crate::benches::Bench;
@@ -77,7 +77,7 @@ fn put(
     ensures fitted { IsBenchOf machine.now bench.new }
     ensures put { IfOk result (λ _. WordPut machine.now (guard_of (option_map (λ cert. cert.now) guard.entry)) address word bench.old bench.new) }
     ensures stopped { IfErr result (WordStopped machine.now (guard_of (option_map (λ cert. cert.now) guard.entry)) address word) }
-    ensures no_fault { is_stop_fault result ≡ false }
+    ensures no_fault { is_play_fault result ≡ false }
 {
     if !lets_through(machine, guard, address, word) {
         return Err(PlayError::InputRange { address, word });
@@ -101,7 +101,7 @@ pub(crate) fn set(
         → ActLetThrough machine.now (guard_of (option_map (λ cert. cert.now) guard.entry)) b (act.Puts address word) bench.old bench.new) }
     ensures stopped { IfErr result (λ error. (b : play.Bench) → StandsAs bench.old b
         → ActStopped machine.now (guard_of (option_map (λ cert. cert.now) guard.entry)) b (act.Puts address word) error) }
-    ensures no_fault { is_stop_fault result ≡ false }
+    ensures no_fault { is_play_fault result ≡ false }
 {
     bench.counts_fit();
     put(machine, guard, bench, address, word)
@@ -119,7 +119,7 @@ pub(crate) fn feed(
         → ActLetThrough machine.now (guard_of (option_map (λ cert. cert.now) guard.entry)) b act.Feeds bench.old bench.new) }
     ensures stopped { IfErr result (λ error. (b : play.Bench) → StandsAs bench.old b
         → ActStopped machine.now (guard_of (option_map (λ cert. cert.now) guard.entry)) b act.Feeds error) }
-    ensures no_fault { is_stop_fault result ≡ false }
+    ensures no_fault { is_play_fault result ≡ false }
 {
     bench.counts_fit();
     match bench.listener.panel.sent() {
@@ -140,7 +140,7 @@ pub(crate) fn feed_where_zero(
         → ActLetThrough machine.now (guard_of (option_map (λ cert. cert.now) guard.entry)) b act.FeedsWhereZero bench.old bench.new) }
     ensures stopped { IfErr result (λ error. (b : play.Bench) → StandsAs bench.old b
         → ActStopped machine.now (guard_of (option_map (λ cert. cert.now) guard.entry)) b act.FeedsWhereZero error) }
-    ensures no_fault { is_stop_fault result ≡ false }
+    ensures no_fault { is_play_fault result ≡ false }
 {
     bench.counts_fit();
     if !wants_digit(machine, &bench.core) {

@@ -5,8 +5,7 @@ ghost use Rattle.ags_outside.specs.Count.{HasCause};
 ghost use Rattle.ags_play.specs.Act.{acts_of};
 ghost use Rattle.ags_play.specs.Bench as play;
 ghost use Rattle.ags_run.specs.Acted.{ActsMade, AreUnmade};
-ghost use Rattle.ags_run.specs.Making.{is_stop_fault};
-ghost use Rattle.ags_run.specs.Play.{guard_of};
+ghost use Rattle.ags_run.specs.Play.{guard_of, is_play_fault};
 ghost use Rattle.ags_run.specs.Standing.{IsBenchOf, StandsAs};
 ghost use Rattle.ags_script.specs.Suiting.{Suits};
 
@@ -34,7 +33,7 @@ pub(crate) fn play_commands<K: Sink>(
         → ActsMade machine.now (guard_of (option_map (λ cert. cert.now) guard.entry)) b (acts_of script.now) (K.told out.old) (K.told out.new) bench.old bench.new) }
     ensures unmade { IfErr result (λ error. (b : play.Bench) → StandsAs bench.old b
         → AreUnmade machine.now (guard_of (option_map (λ cert. cert.now) guard.entry)) b (acts_of script.now) (K.told out.old) (K.told out.new) error) }
-    ensures faults { HasCause (K.faults out.old) (K.faults out.new) (is_stop_fault result) }
+    ensures faults { HasCause (K.faults out.old) (K.faults out.new) (is_play_fault result) }
 {
     machine_is_made_of_tables(machine);
     bench.counts_fit();

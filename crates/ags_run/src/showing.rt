@@ -10,7 +10,8 @@ ghost use Rattle.ags_play.specs.Act as act;
 ghost use Rattle.ags_play.specs.Doing.{deda_text};
 ghost use Rattle.ags_ports.specs.declared.machines.Machine.{Machine};
 ghost use Rattle.ags_ports.specs.Port.{place_of, register_at};
-ghost use Rattle.ags_run.specs.Making.{AllMade, NotAllMade, IsFrontSent, is_stop_fault};
+ghost use Rattle.ags_run.specs.Play.{is_play_fault};
+ghost use Rattle.ags_run.specs.Making.{AllMade, NotAllMade, IsFrontSent};
 ghost use Rattle.ags_safe.specs.Certificate.{Certificate};
 
 use crate::benches::Bench;
@@ -52,7 +53,7 @@ fn send_line<K: Sink>(out: &mut K, line: &[u8]) -> Result<(), PlayError>
     requires { length line.now ≤ 34 }
     ensures sent { IfOk result (λ _. K.told out.new ≡ appended (K.told out.old) (line.now ++ codes "\n")) }
     ensures front { IfErr result (IsFrontSent (K.told out.old) (K.told out.new) (line.now ++ codes "\n")) }
-    ensures faults { HasCause (K.faults out.old) (K.faults out.new) (is_stop_fault result) }
+    ensures faults { HasCause (K.faults out.old) (K.faults out.new) (is_play_fault result) }
 {
     let mut whole: ArrayVec<u8, 35> = ArrayVec::new();
     let _ = whole.try_extend_from_slice(line);
@@ -70,7 +71,7 @@ pub(crate) fn show_reg<K: Sink>(bench: &Bench, out: &mut K) -> Result<(), PlayEr
         → AllMade machine guard (act.ShowsReg ∷ []) (K.told out.old) (K.told out.new) bench.now bench.now) }
     ensures unmade { IfErr result (λ error. (machine : Machine) (guard : Option (Certificate Value))
         → NotAllMade machine guard (act.ShowsReg ∷ []) (K.told out.old) (K.told out.new) bench.now error) }
-    ensures faults { HasCause (K.faults out.old) (K.faults out.new) (is_stop_fault result) }
+    ensures faults { HasCause (K.faults out.old) (K.faults out.new) (is_play_fault result) }
 {
     bench.counts_fit();
     send_line(out, &reg_line(&bench.core))
@@ -83,7 +84,7 @@ pub(crate) fn show_cell<K: Sink>(bench: &Bench, address: u16, out: &mut K) -> Re
         → AllMade machine guard (act.ShowsCell address ∷ []) (K.told out.old) (K.told out.new) bench.now bench.now) }
     ensures unmade { IfErr result (λ error. (machine : Machine) (guard : Option (Certificate Value))
         → NotAllMade machine guard (act.ShowsCell address ∷ []) (K.told out.old) (K.told out.new) bench.now error) }
-    ensures faults { HasCause (K.faults out.old) (K.faults out.new) (is_stop_fault result) }
+    ensures faults { HasCause (K.faults out.old) (K.faults out.new) (is_play_fault result) }
 {
     bench.counts_fit();
     send_line(out, &cell_line(address, bench.core.cell(address)))
@@ -102,7 +103,7 @@ pub(crate) fn show_out<K: Sink>(
         → AllMade machine.now guard (act.ShowsOut address ∷ []) (K.told out.old) (K.told out.new) bench.now bench.now) }
     ensures unmade { IfErr result (λ error. (guard : Option (Certificate Value))
         → NotAllMade machine.now guard (act.ShowsOut address ∷ []) (K.told out.old) (K.told out.new) bench.now error) }
-    ensures faults { HasCause (K.faults out.old) (K.faults out.new) (is_stop_fault result) }
+    ensures faults { HasCause (K.faults out.old) (K.faults out.new) (is_play_fault result) }
 {
     bench.counts_fit();
     let word = output_at(machine, &bench.core, address);
@@ -115,7 +116,7 @@ pub(crate) fn show_deda<K: Sink>(bench: &Bench, out: &mut K) -> Result<(), PlayE
         → AllMade machine guard (act.ShowsDeda ∷ []) (K.told out.old) (K.told out.new) bench.now bench.now) }
     ensures unmade { IfErr result (λ error. (machine : Machine) (guard : Option (Certificate Value))
         → NotAllMade machine guard (act.ShowsDeda ∷ []) (K.told out.old) (K.told out.new) bench.now error) }
-    ensures faults { HasCause (K.faults out.old) (K.faults out.new) (is_stop_fault result) }
+    ensures faults { HasCause (K.faults out.old) (K.faults out.new) (is_play_fault result) }
 {
     bench.counts_fit();
     send_line(out, deda_line(&bench.listener.panel).as_slice())

@@ -1,0 +1,7 @@
+use Rattle.ags_cert.specs.Cert.{certificate_of}
+use Rattle.ags_play.specs.Guard.{AreInputsInside}
+use Rattle.ags_run.proofs.guarding.find_input.Given as goal
+
+-- each input register so far is inside
+abbrev pub invariant-loop-place : goal.invariant-loop-place
+invariant-loop-place l = AreInputsInside l.machine (certificate_of l.cert) l.core l.place

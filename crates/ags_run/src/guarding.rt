@@ -1,0 +1,135 @@
+//! What of a start is outside of a certificate.
+
+ghost use Rattle.std.specs.Prelude.{◌≡◌, ◌<◌, ◌↔◌, ℕ, IsTrue, IfSome, None, length, option_map, slice_index_or};
+ghost use Rattle.ags_cert.specs.Cert.{certificate_of};
+ghost use Rattle.ags_domain.specs.Value.{value_meaning};
+ghost use Rattle.ags_play.specs.Guard.{AreInputsInside, IsInputInside, IsFirstOutside, IsFound};
+ghost use Rattle.ags_ports.specs.Port.{held_port};
+ghost use Rattle.ags_ports.specs.State.{cell};
+ghost use Rattle.ags_posts.specs.InRow.{AreInputsHeld};
+ghost use Rattle.ags_safe.specs.Start.{IsFirstWord, IsStartWord};
+ghost use Rattle.ags_run.specs.Play.{guard_of, outside_of};
+
+use crate::outside::Outside;
+use ags_cert::Cert;
+use ags_core::Core;
+use ags_domain::{Domain, Value};
+use ags_image::Image;
+use ags_ports::Machine;
+use ags_word::Word;
+
+/// Whether a cell may hold a word at the start, by the image's entry and what is stated of the start.
+fn is_first_word(entry: Option<Word>, stated: Option<Value>, word: Word) -> bool
+    ensures { IsTrue result ↔ IsFirstWord value_meaning entry stated word }
+{
+    match entry {
+        Some(assembled) => word.number() == assembled.number(),
+        None => match stated {
+            Some(value) => value.holds(word),
+            None => word.number() == 0,
+        },
+    }
+}
+
+/// Whether an erasable cell begins with a word that it may hold at the start.
+fn is_cell_inside(image: &Image, cert: &Cert, core: &Core, address: u16) -> bool
+    requires { address < 2048 }
+    ensures { IsTrue result ↔ IsStartWord value_meaning image.now (certificate_of cert.now) address (cell core.now address) }
+{
+    is_first_word(image.get(address), cert.init(address), core.cell(address))
+}
+
+/// The address of the first erasable cell that is outside.
+fn find_cell(image: &Image, cert: &Cert, core: &Core) -> Option<u16>
+    ensures erasable { IfSome result (λ address. address < 2048) }
+    ensures earlier { IfSome result (λ address. (earlier : ℕ) → earlier < address
+        → IsStartWord value_meaning image.now (certificate_of cert.now) earlier (cell core.now earlier)) }
+    ensures outside { IfSome result (λ address. ¬ IsStartWord value_meaning image.now (certificate_of cert.now) address (cell core.now address)) }
+    ensures none { result ≡ None → (address : ℕ) → address < 2048
+        → IsStartWord value_meaning image.now (certificate_of cert.now) address (cell core.now address) }
+{
+    for address in 0..2048 {
+        if !is_cell_inside(image, cert, core, address) {
+            return Some(address);
+        }
+    }
+    None
+}
+
+/// Whether the input register at a place begins with a word of its limit.
+fn is_input_inside(machine: &Machine, cert: &Cert, core: &Core, place: usize) -> bool
+    requires inside { place < length machine.now.ports.inputs }
+    requires registers { length core.now.inputs ≡ length machine.now.ports.inputs }
+    ensures { IsTrue result
+        ↔ IsInputInside (certificate_of cert.now) core.now ((slice_index_or machine.now.ports.inputs place (held_port 0)).address) place }
+{
+    let address = machine.ports.inputs()[place].address;
+    cert.limits().input(address).holds(core.input(place))
+}
+
+/// The place in the machine's table of the first input register that is outside.
+fn find_input(machine: &Machine, cert: &Cert, core: &Core) -> Option<usize>
+    requires { length core.now.inputs ≡ length machine.now.ports.inputs }
+    ensures inside { IfSome result (λ place. place < length machine.now.ports.inputs) }
+    ensures earlier { IfSome result (AreInputsInside machine.now (certificate_of cert.now) core.now) }
+    ensures outside { IfSome result (λ place.
+        ¬ IsInputInside (certificate_of cert.now) core.now ((slice_index_or machine.now.ports.inputs place (held_port 0)).address) place) }
+    ensures none { result ≡ None → AreInputsHeld value_meaning machine.now (certificate_of cert.now).limits core.now }
+{
+    for place in 0..machine.ports.inputs().len() {
+        if !is_input_inside(machine, cert, core, place) {
+            return Some(place);
+        }
+    }
+    None
+}
+
+/// What is outside of the words of a state, of which the location isn't.
+fn find_word(machine: &Machine, image: &Image, cert: &Cert, core: &Core) -> Option<Outside>
+    requires inputs { length core.now.inputs ≡ length machine.now.ports.inputs }
+    requires location { core.now.location ≡ cert.now.start }
+    ensures { IsFirstOutside machine.now image.now (certificate_of cert.now) core.now (option_map outside_of result) }
+{
+    if let Some(address) = find_cell(image, cert, core) {
+        let word = core.cell(address);
+        return Some(Outside::Cell { address, word });
+    }
+    let Some(place) = find_input(machine, cert, core) else {
+        return None;
+    };
+    let address = machine.ports.inputs()[place].address;
+    let word = core.input(place);
+    Some(Outside::Port { address, word })
+}
+
+/// What of a state is outside first.
+fn find_outside(machine: &Machine, image: &Image, cert: &Cert, core: &Core) -> Option<Outside>
+    requires { length core.now.inputs ≡ length machine.now.ports.inputs }
+    ensures { IsFirstOutside machine.now image.now (certificate_of cert.now) core.now (option_map outside_of result) }
+{
+    let script = core.location();
+    let start = cert.start();
+    if script != start {
+        return Some(Outside::Place {
+            script,
+            cert: start,
+        });
+    }
+    find_word(machine, image, cert, core)
+}
+
+/// What of a state a guard finds outside first, and without a guard nothing.
+pub(crate) fn find_under_guard(
+    machine: &Machine,
+    image: &Image,
+    guard: Option<&Cert>,
+    core: &Core,
+) -> Option<Outside>
+    requires { length core.now.inputs ≡ length machine.now.ports.inputs }
+    ensures { IsFound machine.now image.now (guard_of (option_map (λ cert. cert.now) guard.entry)) core.now (option_map outside_of result) }
+{
+    match guard {
+        Some(cert) => find_outside(machine, image, cert, core),
+        None => None,
+    }
+}
