@@ -1,5 +1,6 @@
 pub mod PlayLemmas
 pub mod StartLemmas
+pub mod EventLemmas
 pub mod RunOfLemmas
 pub mod OnePlayLemmas
 pub mod FoundLemmas
