@@ -2,6 +2,7 @@ pub mod PlayLemmas
 pub mod StartLemmas
 pub mod EventLemmas
 pub mod RunOfLemmas
+pub mod SafeLemmas
 pub mod OnePlayLemmas
 pub mod FoundLemmas
 pub mod SearchLemmas
