@@ -1,10 +1,12 @@
--- What the crate promises: the three laws. Behind them are
+-- What the crate promises: the four laws. Behind them are
 --     each_case_has_an_answer           some_posts of PostsLemmas
 --     each_row_has_a_code               some_code of CodeLemmas
 --     each_certificate_has_a_verdict    some_verdict of VerdictLemmas
+--     each_certificate_is_answered      all_answered of AnsweredLemmas
 pub mod PostsLemmas
 pub mod CodeLemmas
 pub mod VerdictLemmas
+pub mod AnsweredLemmas
 -- What stands below
 mod RangeLemmas
 mod OperationLemmas

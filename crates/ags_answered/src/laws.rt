@@ -13,6 +13,7 @@ ghost use Rattle.ags_row.specs.declared.rows.Row.{Row};
 ghost use Rattle.ags_posts.specs.Case.{Case, IsCode};
 ghost use Rattle.ags_posts.specs.Posts.{Outcome, IsPostsOfCase};
 ghost use Rattle.ags_safe.specs.Certificate.{Certificate};
+ghost use Rattle.ags_safe.specs.Failing.{AreAnswered};
 ghost use Rattle.ags_verdict.specs.Verdict.{IsVerdict};
 ghost use Rattle.ags_verdict.specs.declared.verdicts.Verdict.{Verdict};
 
@@ -32,4 +33,11 @@ pub fn each_row_has_a_code()
 pub fn each_certificate_has_a_verdict()
     ensures { (machine : Machine) (image : List (Option ℕ)) (cert : Certificate Value) → IsMachine machine → IsImage image
         → (verdict : Verdict Value) × IsVerdict value_meaning machine image cert verdict }
+{}
+
+/// The words of each row are known or are too many, and each case has posts or a reason why it has none. So a certificate over values
+/// of which no item fails is accepted.
+pub fn each_certificate_is_answered()
+    ensures { (machine : Machine) (image : List (Option ℕ)) (cert : Certificate Value) → IsMachine machine → IsImage image
+        → AreAnswered value_meaning machine image cert }
 {}
