@@ -11,3 +11,6 @@ pub mod AnsweredLemmas
 mod RangeLemmas
 mod OperationLemmas
 mod ToldLemmas
+mod EachLemmas
+mod CaseLemmas
+mod OrderLemmas
