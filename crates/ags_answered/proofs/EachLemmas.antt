@@ -1,8 +1,13 @@
 -- What holds of each element, by recursion, over the lists that the cases of a row are made of.
 use Rattle.std.proofs.Common.{List, [], ◌∷◌, ◌++◌, map}
-use Rattle.std.specs.List.{AllByRecursion, flat_map}
+use Rattle.std.specs.List.{All, AllByRecursion, flat_map}
+use Rattle.std.proofs.lemmas.List.Elements.{All-head, All-tail}
 
 module _ {X : Type 0} (P : X → Type 0) where
+  pub from_all : (xs : List X) → All P xs → AllByRecursion P xs
+  from_all [] all = tt
+  from_all (x ∷ xs) all = (All-head P x xs all, from_all xs (All-tail P x xs all))
+
   pub append_each : (xs ys : List X) → AllByRecursion P xs → AllByRecursion P ys → AllByRecursion P (xs ++ ys)
   append_each [] ys left right = right
   append_each (x ∷ xs) ys left right = (left.0, append_each xs ys left.1 right)

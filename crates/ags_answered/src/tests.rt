@@ -2,7 +2,7 @@
 
 use crate::laws::{
     each_case_has_an_answer, each_certificate_has_a_verdict, each_certificate_is_answered,
-    each_row_has_a_code,
+    each_row_has_a_code, refusal_tells_the_first_fault,
 };
 
 #[test]
@@ -11,4 +11,5 @@ fn laws(_rt: HostRuntime) {
     each_row_has_a_code();
     each_certificate_has_a_verdict();
     each_certificate_is_answered();
+    refusal_tells_the_first_fault();
 }
