@@ -2,9 +2,9 @@
 --     fault_of_refusal    the fault that a refusal tells
 --     refusal_of_first    the refusal of the first fault
 use Rattle.std.proofs.Common.{◌≡◌, ℕ, ◌+◌, ◌<◌, Bool, true, refl, sym, ap, subst, ◌∙◌, inl, inr, arith, List, [], ◌∷◌, ◌++◌, length, get_or}
-use Rattle.std.specs.Prelude.{Option, Some, None, Ok, Err, IfSome}
+use Rattle.std.specs.Prelude.{Option, Some, None, Ok, Err}
 use Rattle.std.specs.List.{AllByRecursion}
-use Rattle.std.proofs.lemmas.List.{get_or_append_left, get_or_default}
+use Rattle.std.proofs.lemmas.List.{get_or_append_left}
 use Rattle.ags_domain.specs.Domain.{Meaning, IsMeaning}
 use Rattle.ags_domain.specs.WordSet.{lists}
 use Rattle.ags_domain.specs.Value.{value_meaning}
@@ -19,13 +19,9 @@ use Rattle.ags_row.specs.declared.posts.Post.{Post}
 use Rattle.ags_row.specs.declared.rows.Row.{Row}
 use Rattle.ags_posts.specs.Case.{Case, case_of, IsCode}
 use Rattle.ags_posts.specs.Posts.{Outcome, IsPostsOfCase}
-use Rattle.ags_posts.specs.declared.answers.PostPair.{PostPair}
-use Rattle.ags_posts.proofs.OneAnswerLemmas.{one_answer}
-use Rattle.ags_posts.proofs.CodeLemmas.{code_one}
 use Rattle.ags_safe.specs.Certificate.{Certificate}
-use Rattle.ags_safe.specs.Accepted.{IsCovered, IsCaseAccepted, IsRowAccepted}
-use Rattle.ags_safe.specs.Failing.{Item, CellItem, StartItem, CodeItem, CaseItem, Fault, InitRange, StartUncovered, CodeUnknown, Stopped, NotCovered, Precedes, place_of_item, StandsAt, IsJudged, CaseFails, Fails, IsFirstFault}
-use Rattle.ags_safe.specs.Failing.{IsUncovered as IsToldPost}
+use Rattle.ags_safe.specs.Accepted.{IsCaseAccepted, IsRowAccepted}
+use Rattle.ags_safe.specs.Failing.{Item, CellItem, StartItem, CodeItem, CaseItem, Fault, InitRange, StartUncovered, CodeUnknown, Stopped, NotCovered, Precedes, place_of_item, StandsAt, IsJudged, CaseFails, Fails, IsFirstFault, IsUncovered as IsToldPost}
 use Rattle.ags_safe.proofs.FaultLemmas.{accepted_none, one_first}
 use Rattle.ags_verdict.specs.RowCase.{RowCase, cases_in, case_in}
 use Rattle.ags_verdict.specs.Fault.{refusal_of, IsUncovered, IsFaultOfAnswer}
@@ -40,6 +36,7 @@ use Rattle.ags_answered.specs.Told.{refusal_of_fault}
 use Rattle.ags_answered.proofs.EachLemmas.{from_all}
 use Rattle.ags_answered.proofs.CaseLemmas.{cases_each, each_cases}
 use Rattle.ags_answered.proofs.OrderLemmas.{InTurn, StandsBefore, numbers_of, one_way, cases_in_turn, earlier_hold}
+use Rattle.ags_answered.proofs.UnfailingLemmas.{one_row, accepted_or_fails, one_code, some_or_none, row_or_case}
 use Rattle.ags_answered.proofs.VerdictLemmas.{some_verdict}
 
 -- ---- an element between others
@@ -53,12 +50,6 @@ module _ {X : Type 0} where
   between P [] behind x each = each.0
   between P (y ∷ before) behind x each = between P before behind x each.1
 
-none_some : (code : WordSet) → ◌≡◌ {A = Option WordSet} None (Some code) → ⊥
-none_some code h = cc
-
-same_set : (one other : WordSet) → ◌≡◌ {A = Option WordSet} (Some one) (Some other) → one ≡ other
-same_set one other h = cc
-
 module _ {D : Type 0} (meaning : Meaning D) (lawful : IsMeaning D meaning) (machine : Machine) (image : List (Option ℕ)) (cert : Certificate D)
     (machine_is : IsMachine machine) where
   abbrev HasFirst : Refusal D → Type 0
@@ -66,46 +57,6 @@ module _ {D : Type 0} (meaning : Meaning D) (lawful : IsMeaning D meaning) (mach
 
   abbrev CaseAccepted : Row D → RowCase → Type 0
   CaseAccepted row c = IsCaseAccepted meaning cert (case_in machine image cert.limits row c)
-
-  -- ---- what is accepted doesn't fail
-
-  one_row : (place : ℕ) (row other : Row D) → StandsAt cert place row → StandsAt cert place other → row ≡ other
-  one_row place row other p r = sym p.1 ∙ get_or_default cert.rows place row other p.0 ∙ r.1
-
-  covered_or_told : (place : ℕ) (c : Case D) (post : Option (Post D)) (fault : Fault D) → IfSome post (IsCovered meaning cert c.row)
-      → IsToldPost meaning machine image cert place c post fault → ⊥
-  covered_or_told place c None fault covers told = told
-  covered_or_told place c (Some post) fault covers told = told.0 covers
-
-  pair_covered : (place : ℕ) (c : Case D) (pair : PostPair D) (fault : Fault D) → IfSome pair.first (IsCovered meaning cert c.row)
-      → IfSome pair.second (IsCovered meaning cert c.row) → CaseFails meaning machine image cert place c (Ok pair) fault → ⊥
-  pair_covered place c pair fault first second (inl told) = covered_or_told place c pair.first fault first told
-  pair_covered place c pair fault first second (inr told) = covered_or_told place c pair.second fault second told.1
-
-  accepted_or_fails : (place : ℕ) (row : Row D) (word index : ℕ) (indicator : Bool) (outcome : Outcome D) (fault : Fault D)
-      → IsCaseAccepted meaning cert (case_of machine image cert.limits row word index indicator)
-      → IsPostsOfCase meaning (case_of machine image cert.limits row word index indicator) outcome
-      → CaseFails meaning machine image cert place (case_of machine image cert.limits row word index indicator) outcome fault → ⊥
-  accepted_or_fails place row word index indicator outcome fault accepted posts fails =
-      let c = case_of machine image cert.limits row word index indicator in
-      let one : outcome ≡ Ok accepted.0 = one_answer meaning lawful c outcome (Ok accepted.0) machine_is posts accepted.1 in
-      pair_covered place c accepted.0 fault accepted.2 accepted.3 (subst (λ (o : Outcome D). CaseFails meaning machine image cert place c o fault) one fails)
-
-  one_code : (row : Row D) (one other : WordSet) → IsCode meaning image cert.limits row (Some one) → IsCode meaning image cert.limits row (Some other) → one ≡ other
-  one_code row one other p r = same_set one other (code_one meaning image cert.limits row (Some one) (Some other) p r)
-
-  some_or_none : (row : Row D) (code : WordSet) → IsCode meaning image cert.limits row (Some code) → IsCode meaning image cert.limits row None → ⊥
-  some_or_none row code is none = none_some code (code_one meaning image cert.limits row None (Some code) none is)
-
-  row_or_case : (place : ℕ) (row : Row D) (word index : ℕ) (indicator : Bool) (outcome : Outcome D) (fault : Fault D)
-      → IsRowAccepted meaning machine image cert row → IsJudged meaning machine image cert row word index indicator
-      → IsPostsOfCase meaning (case_of machine image cert.limits row word index indicator) outcome
-      → CaseFails meaning machine image cert place (case_of machine image cert.limits row word index indicator) outcome fault → ⊥
-  row_or_case place row word index indicator outcome fault accepted judged posts fails =
-      let same = one_code row judged.code accepted.code judged.is_code accepted.is_code in
-      accepted_or_fails place row word index indicator outcome fault
-      (accepted.cases word index indicator (subst (λ (set : WordSet). lists set.list word ≡ true) same judged.listed) judged.index_may_stand judged.indicator_may_stand)
-      posts fails
 
   -- ---- a first word, and the start
 
@@ -187,11 +138,11 @@ module _ {D : Type 0} (meaning : Meaning D) (lawful : IsMeaning D meaning) (mach
     no_code : (other : ℕ) (fault : Fault D) → other < place → Fails meaning machine image cert (CodeItem other) fault → ⊥
     no_code other fault less fails =
         let accepted = earlier_row other fails.0 less fails.1 in
-        some_or_none fails.0 accepted.code accepted.is_code fails.2
+        some_or_none meaning lawful machine image cert machine_is fails.0 accepted.code accepted.is_code fails.2
 
     no_case : (other word index : ℕ) (indicator : Bool) (fault : Fault D) → other < place → Fails meaning machine image cert (CaseItem other word index indicator) fault → ⊥
     no_case other word index indicator fault less fails =
-        row_or_case other fails.0 word index indicator fails.3 fault (earlier_row other fails.0 less fails.1) fails.2 fails.4 fails.5
+        row_or_case meaning lawful machine image cert machine_is other fails.0 word index indicator fails.3 fault (earlier_row other fails.0 less fails.1) fails.2 fails.4 fails.5
 
     -- ---- without a code
 
@@ -235,19 +186,19 @@ module _ {D : Type 0} (meaning : Meaning D) (lawful : IsMeaning D meaning) (mach
           → IsCaseAccepted meaning cert (case_of machine image cert.limits is.fails word index indicator)
       earlier_case word index indicator j before =
           each_cases is.fails IsFine code.list each_earlier word index indicator
-          (subst (λ (set : WordSet). lists set.list word ≡ true) (one_code is.fails j.code code j.is_code is_code) j.listed)
+          (subst (λ (set : WordSet). lists set.list word ≡ true) (one_code meaning lawful machine image cert machine_is is.fails j.code code j.is_code is_code) j.listed)
           j.index_may_stand j.indicator_may_stand before
 
       -- the row that stands at its place is the row
       same_code : (row : Row D) → StandsAt cert place row → IsCode meaning image cert.limits row None → ⊥
-      same_code row at none = some_or_none is.fails code is_code
-          (subst (λ (r : Row D). IsCode meaning image cert.limits r None) (one_row place row is.fails at stands) none)
+      same_code row at none = some_or_none meaning lawful machine image cert machine_is is.fails code is_code
+          (subst (λ (r : Row D). IsCode meaning image cert.limits r None) (one_row meaning lawful machine image cert machine_is place row is.fails at stands) none)
 
       same_row : (word index : ℕ) (indicator : Bool) (other : Fault D) → StandsBefore (record { word = word; index = index; indicator = indicator }) c
           → Fails meaning machine image cert (CaseItem place word index indicator) other → ⊥
       same_row word index indicator other before fails =
-          let same = one_row place fails.0 is.fails fails.1 stands in
-          accepted_or_fails place is.fails word index indicator fails.3 other
+          let same = one_row meaning lawful machine image cert machine_is place fails.0 is.fails fails.1 stands in
+          accepted_or_fails meaning lawful machine image cert machine_is place is.fails word index indicator fails.3 other
           (earlier_case word index indicator (subst (λ (r : Row D). IsJudged meaning machine image cert r word index indicator) same fails.2) before)
           (subst (λ (r : Row D). IsPostsOfCase meaning (case_of machine image cert.limits r word index indicator) fails.3) same fails.4)
           (subst (λ (r : Row D). CaseFails meaning machine image cert place (case_of machine image cert.limits r word index indicator) fails.3 other) same fails.5)

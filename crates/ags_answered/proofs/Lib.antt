@@ -16,3 +16,4 @@ mod ToldLemmas
 mod EachLemmas
 mod CaseLemmas
 mod OrderLemmas
+mod UnfailingLemmas
