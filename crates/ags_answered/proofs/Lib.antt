@@ -1,11 +1,19 @@
--- What the crate promises: the three laws. Behind them are
+-- What the crate promises: the five laws. Behind them are
 --     each_case_has_an_answer           some_posts of PostsLemmas
 --     each_row_has_a_code               some_code of CodeLemmas
 --     each_certificate_has_a_verdict    some_verdict of VerdictLemmas
+--     each_certificate_is_answered      all_answered of AnsweredLemmas
+--     refusal_tells_the_first_fault     fault_of_refusal and refusal_of_first of FirstFaultLemmas
 pub mod PostsLemmas
 pub mod CodeLemmas
 pub mod VerdictLemmas
+pub mod AnsweredLemmas
+pub mod FirstFaultLemmas
 -- What stands below
 mod RangeLemmas
 mod OperationLemmas
 mod ToldLemmas
+mod EachLemmas
+mod CaseLemmas
+mod OrderLemmas
+mod UnfailingLemmas

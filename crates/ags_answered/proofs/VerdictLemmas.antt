@@ -1,8 +1,8 @@
 -- Each certificate has a verdict. Behind the law of the same name is
 --     some_verdict    the verdict of a certificate
-use Rattle.std.proofs.Common.{◌≡◌, ℕ, zero, suc, ◌+◌, ◌<◌, ◌≤◌, ◌^◌, Bool, true, refl, sym, subst, ◌⊎◌, inl, inr, ⊎_elim, arith, List, [], ◌∷◌, ◌++◌, length, map}
+use Rattle.std.proofs.Common.{◌≡◌, ℕ, zero, suc, ◌+◌, ◌<◌, ◌≤◌, ◌^◌, Bool, true, refl, sym, subst, ◌⊎◌, inl, inr, ⊎_elim, arith, List, [], ◌∷◌, length}
 use Rattle.std.specs.Prelude.{Option, Some, None, IfSome, Result, Ok, Err, unwrap_or}
-use Rattle.std.specs.List.{AllByRecursion, flat_map}
+use Rattle.std.specs.List.{AllByRecursion}
 use Rattle.std.proofs.lemmas.Bool.{cases_eq}
 use Rattle.ags_image.specs.Image.{IsImage, entry_at}
 use Rattle.ags_ports.specs.declared.machines.Machine.{Machine}
@@ -31,26 +31,9 @@ use Rattle.ags_verdict.specs.declared.verdicts.Refusal.{Refusal}
 use Rattle.ags_verdict.specs.declared.verdicts.Refusal.TheVariants.{InitRange, StartUncovered}
 use Rattle.ags_verdict.specs.declared.verdicts.Verdict.{Verdict}
 use Rattle.ags_verdict.specs.declared.verdicts.Verdict.TheVariants.{Certified, Refused}
+use Rattle.ags_answered.proofs.EachLemmas.{append_each, each_of, map_each, flat_each}
 use Rattle.ags_answered.proofs.PostsLemmas.{some_posts}
 use Rattle.ags_answered.proofs.CodeLemmas.{some_code}
-
--- ---- lists
-
-append_each : {X : Type 0} (P : X → Type 0) (xs ys : List X) → AllByRecursion P xs → AllByRecursion P ys → AllByRecursion P (xs ++ ys)
-append_each P [] ys left right = right
-append_each P (x ∷ xs) ys left right = (left.0, append_each P xs ys left.1 right)
-
-each_of : {X : Type 0} (P : X → Type 0) → ((x : X) → P x) → (xs : List X) → AllByRecursion P xs
-each_of P each [] = tt
-each_of P each (x ∷ xs) = (each x, each_of P each xs)
-
-map_each : {X Y : Type 0} (P : Y → Type 0) (f : X → Y) → ((x : X) → P (f x)) → (xs : List X) → AllByRecursion P (map f xs)
-map_each P f each [] = tt
-map_each P f each (x ∷ xs) = (each x, map_each P f each xs)
-
-flat_each : {X Y : Type 0} (P : Y → Type 0) (f : X → List Y) → ((x : X) → AllByRecursion P (f x)) → (xs : List X) → AllByRecursion P (flat_map f xs)
-flat_each P f each [] = tt
-flat_each P f each (x ∷ xs) = append_each P (f x) (flat_map f xs) (each x) (flat_each P f each xs)
 
 -- ---- things that are judged in order
 

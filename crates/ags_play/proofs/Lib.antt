@@ -1,6 +1,8 @@
 pub mod PlayLemmas
 pub mod StartLemmas
+pub mod EventLemmas
 pub mod RunOfLemmas
+pub mod SafeLemmas
 pub mod OnePlayLemmas
 pub mod FoundLemmas
 pub mod SearchLemmas

@@ -13,6 +13,7 @@ use Rattle.ags_play.specs.Doing.{PutWord}
 use Rattle.ags_play.specs.Guard.{Outside, IsFirstOutside}
 use Rattle.ags_play.specs.Played.{Met, OutsideStart, PlaysUnless, IsPlayOf, met_of}
 use Rattle.ags_play.specs.Begun.{AreSettable, IsRunOf}
+use Rattle.ags_play.proofs.EventLemmas.{play_events, acts_put}
 use Rattle.ags_play.proofs.PlayLemmas.{play_runs, play_declared}
 use Rattle.ags_play.proofs.StartLemmas.{begun_is_start}
 
@@ -27,6 +28,7 @@ module _ (machine : Machine) (image : List (Option ℕ)) (cert : Certificate Val
       let runs = play_runs machine (Some cert) b (acts_of commands) events text p.after p.stopped p.plays in
       record {
         start = begun_is_start machine image cert commands is below settable tested;
+        words = play_events machine (Some cert) b (acts_of commands) events text p.after p.stopped (acts_put commands settable.words) p.plays;
         declared = play_declared machine cert b (acts_of commands) events text p.after p.stopped p.plays;
         moments = runs.moments;
         run = runs.run;

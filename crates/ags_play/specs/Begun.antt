@@ -5,7 +5,7 @@ use Rattle.ags_domain.specs.Value.{value_meaning}
 use Rattle.ags_domain.specs.declared.values.Value.{Value}
 use Rattle.ags_ports.specs.declared.events.Event.{Event}
 use Rattle.ags_ports.specs.declared.machines.Machine.{Machine}
-use Rattle.ags_ports.specs.Run.{Moment, Run}
+use Rattle.ags_ports.specs.Run.{Moment, Run, AreEvents}
 use Rattle.ags_ports.specs.State.{State}
 use Rattle.ags_safe.specs.Certificate.{Certificate}
 use Rattle.ags_safe.specs.Start.{IsStart, AreDeclared}
@@ -17,9 +17,11 @@ pub record AreSettable (commands : List Command) : Type 0 where
   pub locations : All NamesLocation commands
   pub words : All NamesWord commands
 
--- The events are those of a run from the state, which is a start of the certificate, and each is one that it declares.
+-- The events are those of a run from the state, which is a start of the certificate: each word that they put is below 2 ^ 18, and
+-- one that it declares.
 pub record IsRunOf (machine : Machine) (image : List (Option ℕ)) (cert : Certificate Value) (s : State) (events : List Event) : Type 0 where
   pub start : IsStart value_meaning machine image cert s
+  pub words : AreEvents events
   pub declared : AreDeclared value_meaning machine cert events
   pub moments : List Moment
   pub run : Run machine s events moments

@@ -8,8 +8,9 @@ ghost use Rattle.ags_image.specs.Image.{IsImage};
 ghost use Rattle.ags_ports.specs.declared.events.Event.{Event};
 ghost use Rattle.ags_ports.specs.declared.machines.Machine.{Machine};
 ghost use Rattle.ags_ports.specs.Machine.{IsMachine};
-ghost use Rattle.ags_ports.specs.Run.{Moment, Run, RunsTo};
+ghost use Rattle.ags_ports.specs.Run.{Moment, Run, RunsTo, AtEachStep};
 ghost use Rattle.ags_safe.specs.Certificate.{Certificate};
+ghost use Rattle.ags_safe.specs.Safe.{IsSafeState, IsSafeStep, Safe};
 ghost use Rattle.ags_safe.specs.Start.{AreDeclared};
 ghost use Rattle.ags_script.specs.declared.commands.Command.{Command};
 ghost use Rattle.ags_script.specs.Command.{step_count};
@@ -42,6 +43,22 @@ pub fn guarded_play_is_a_run_of_its_certificate()
     ensures none { (machine : Machine) (image : List (Option ℕ)) (cert : Certificate Value) (commands : List Command)
         (events : List Event) (text : List ℕ) (outside : Outside)
         → IsPlayOf machine image (Some cert) commands events text (OutsideStart outside) → (events ≡ []) × (text ≡ []) }
+{}
+
+/// Where a certificate is safe, a play under it that meets no start outside begins in a safe state, and each step of the run of its
+/// events is safe.
+pub fn guarded_play_is_safe()
+    ensures start { (machine : Machine) (image : List (Option ℕ)) (cert : Certificate Value) (commands : List Command)
+        (events : List Event) (text : List ℕ) (met : Met) → IsImage image → cert.start < 4096 → AreSettable commands
+        → IsPlayOf machine image (Some cert) commands events text met → ((outside : Outside) → met ≡ OutsideStart outside → ⊥)
+        → Safe value_meaning machine image cert
+        → IsSafeState value_meaning machine image cert (begun_state machine image (Some cert) commands) }
+    ensures steps { (machine : Machine) (image : List (Option ℕ)) (cert : Certificate Value) (commands : List Command)
+        (events : List Event) (text : List ℕ) (met : Met) (moments : List Moment) → IsImage image → cert.start < 4096
+        → AreSettable commands → IsPlayOf machine image (Some cert) commands events text met
+        → ((outside : Outside) → met ≡ OutsideStart outside → ⊥) → Safe value_meaning machine image cert
+        → Run machine (begun_state machine image (Some cert) commands) events moments
+        → AtEachStep (IsSafeStep value_meaning machine image cert) (begun_state machine image (Some cert) commands) events moments }
 {}
 
 /// From each bench the acts have one play: one list of events, one text, one bench that is left and one answer to what was met.
