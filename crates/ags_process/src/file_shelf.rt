@@ -3,6 +3,7 @@
 ghost use Rattle.std.specs.Prelude.{◌≡◌, ◌≢◌, ◌+◌, ◌-◌, ◌^◌, ◌<◌, ◌≤◌, None, Some, Ok, IfOk, IfErr, OnErr, IfSome, length, min};
 ghost use Rattle.std.specs.Io.KnownBytes.{ReadConsumes};
 ghost use Rattle.std.specs.IoError.{error_kind};
+ghost use Rattle.std.specs.Option.{option_map};
 ghost use Rattle.std.specs.Result.{result_ok};
 ghost use Rattle.std.specs.String.{string_bytes};
 ghost use Rattle.ags_process.specs.Answers.{count_of, faults_after};
@@ -33,6 +34,8 @@ pub(crate) struct FileShelf<'a, R: Files> {
     held: Option<OpenFile<R::File>>,
     faults: u64,
     absences: u64,
+    /// The name of the file that couldn't be read last, where there was memory to keep it.
+    unread: Option<String>,
 }
 
 /// A file that stood at its start, at that place.
@@ -130,6 +133,29 @@ impl<'a, R: Files> FileShelf<'a, R> {
             held: None,
             faults: 0,
             absences: 0,
+            unread: None,
+        }
+    }
+
+    /// The name of the file that couldn't be read, if there was one and memory to keep it.
+    pub(crate) fn unread(&self) -> Option<&str>
+        ensures { option_map (λ name. name.now) result ≡ option_map string_bytes self.now.unread }
+    {
+        match &self.unread {
+            Some(name) => Some(name.as_str()),
+            None => None,
+        }
+    }
+
+    /// Keeps the name of a file that couldn't be read.
+    fn keep_unread(&mut self, name: &str, answer: Pull)
+        ensures unread { answer ≡ Pull.Failed → IfSome self.new.unread (λ unread. string_bytes unread ≡ name.now) }
+        ensures faults { self.new.faults ≡ self.old.faults }
+        ensures absences { self.new.absences ≡ self.old.absences }
+        ensures held { self.new.held ≡ self.old.held }
+    {
+        if matches!(answer, Pull::Failed) {
+            self.unread = String::from_str(self.alloc, name).ok();
         }
     }
 
@@ -182,6 +208,8 @@ impl<R: Files> Shelf for FileShelf<'_, R> {
         ensures failed { result ≡ Pull.Failed → Rose self.old.faults self.new.faults }
         ensures faults { HasCause self.old.faults self.new.faults (is_failed_pull result) }
         ensures absences { HasCause self.old.absences self.new.absences (is_absent_pull result) }
+        // The name that is kept for a message is that of the file.
+        ensures unread { result ≡ Pull.Failed → IfSome self.new.unread (λ unread. string_bytes unread ≡ name.now) }
         // Bytes and an end are those of a file of that name, and what is known of it bears them out.
         ensures open { StaysOpen self.new.held name.now from (count_of result) }
         ensures end { IsAtItsEnd R.File.remaining self.new.held (count_of result) }
@@ -191,6 +219,7 @@ impl<R: Files> Shelf for FileShelf<'_, R> {
     {
         let answer = answer_to(self.read_on(name, from, into));
         self.count(answer);
+        self.keep_unread(name, answer);
         answer
     }
 }

@@ -4,6 +4,7 @@
 #![tactic(auto)]
 
 mod file_shelf;
+mod messages;
 mod out_sink;
 #[cfg(test)]
 mod tests;
@@ -17,6 +18,7 @@ ghost use Rattle.ags_top.specs.Status.{number_of};
 
 use ags_top::{Status, ags_main};
 use file_shelf::FileShelf;
+use messages::{Message, tell, tell_unrun};
 use out_sink::OutSink;
 use std::alloc::{AllocError, Global};
 use std::env::Args;
@@ -45,7 +47,7 @@ fn ended(status: Status, written: bool) -> Status
 }
 
 /// Runs the program over its arguments, and answers its status. It has none only where there was no memory to begin.
-fn run<R: Files + Print + AllocGlobal>(rt: &R, all: Args) -> io::Result<Status>
+fn run<R: Files + Print + Eprint + AllocGlobal>(rt: &R, all: Args) -> io::Result<Status>
     ensures ends { IfOk result (EndsFor (map string_bytes (drop 1 (into_iter_items all)))) }
     ensures memory { IfErr result (λ error. error_kind error ≡ ErrorKind.OutOfMemory) }
 {
@@ -53,7 +55,10 @@ fn run<R: Files + Print + AllocGlobal>(rt: &R, all: Args) -> io::Result<Status>
     let mut shelf = FileShelf::new(rt, rt.alloc());
     let mut out = OutSink::new(rt.alloc(), io::writer(rt))?;
     let status = ags_main(rt.alloc(), &arguments, &mut shelf, &mut out);
-    Ok(ended(status, out.finish()))
+    let status = ended(status, out.finish());
+    let unread = shelf.unread();
+    tell(rt, Message { status, unread });
+    Ok(status)
 }
 
 /// The number of a run's status; where there was no memory to begin, that of `NoMemory`; and where an argument isn't UTF-8,
@@ -74,13 +79,24 @@ fn number_of_run(ended: io::Result<Status>) -> u8
 /// Runs the program as a process, and answers the number that it ends with (the README, Commands): that of a status which
 /// answers the arguments behind the program's name for some files, since the system tells nothing of them, or of one that
 /// stops; 11 where there was no memory for the arguments, and 3 where one of them isn't UTF-8.
-pub fn exit_number<R: Files + Print + AllocGlobal>(rt: &R, arguments: io::Result<Args>) -> u8
+pub fn exit_number<R: Files + Print + Eprint + AllocGlobal>(
+    rt: &R,
+    arguments: io::Result<Args>,
+) -> u8
     ensures ends { IfOk arguments (λ all. ExitsFor (map string_bytes (drop 1 (into_iter_items all))) result) }
     ensures memory { IfErr arguments (λ error. error_kind error ≡ ErrorKind.OutOfMemory → result ≡ 11) }
     ensures no_text { IfErr arguments (λ error. error_kind error ≢ ErrorKind.OutOfMemory → result ≡ 3) }
 {
     match arguments {
-        Ok(all) => number_of_run(run(rt, all)),
-        Err(error) => number_of_run(Err(error)),
+        Ok(all) => {
+            let ended = run(rt, all);
+            tell_unrun(rt, &ended);
+            number_of_run(ended)
+        }
+        Err(error) => {
+            let ended = Err(error);
+            tell_unrun(rt, &ended);
+            number_of_run(ended)
+        }
     }
 }

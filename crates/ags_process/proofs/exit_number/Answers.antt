@@ -8,5 +8,5 @@ use Rattle.ags_process.proofs.exit_number.Goals as goal
 
 pub returns-in-Ok-clause-ends : goal.returns-in-Ok-clause-ends
 returns-in-Ok-clause-ends g c =
-    rw c.in-Ok.is (exits_for error_kind OutOfMemory (map string_bytes (drop 1 (into_iter_items c.in-Ok.all))) c.run.result c.number_of_run.result
-    c.run.ensures.ends c.run.ensures.memory c.number_of_run.ensures.status c.number_of_run.ensures.memory)
+    rw c.in-Ok.is (exits_for error_kind OutOfMemory (map string_bytes (drop 1 (into_iter_items c.in-Ok.all))) c.run-ended.result c.number_of_run.result
+    c.run-ended.ensures.ends c.run-ended.ensures.memory c.number_of_run.ensures.status c.number_of_run.ensures.memory)

@@ -1,0 +1,70 @@
+//! What standard error says to a person where the status alone doesn't say enough. Standard output has the defined bytes and
+//! nothing else.
+
+ghost use Rattle.std.specs.Prelude.{◌≡◌};
+ghost use Rattle.ags_process.specs.MessageText.{is_told};
+
+use ags_top::Status;
+use std::fmt;
+use std::io::{self, ErrorKind};
+
+/// What is said of a run that ended with a status.
+#[derive(Clone, Copy)]
+pub(crate) struct Message<'a> {
+    /// The status.
+    pub(crate) status: Status,
+    /// The name of a file that couldn't be read, where one is known.
+    pub(crate) unread: Option<&'a str>,
+}
+
+/// Prints the message, without a line feed, and nothing for a status that has its own line of output.
+impl fmt::Display for Message<'_> {
+    ghost use Rattle.std.specs.Prelude.{Some};
+    ghost use Rattle.std.specs.Option.{option_map};
+    ghost use Rattle.ags_process.specs.MessageText.{message_text};
+
+    ghost output = { λ message. Some (message_text message.status (option_map (λ name. name.now) message.unread)) };
+
+    fn fmt<W: fmt::Write>(&self, f: &mut fmt::Formatter<W>) -> fmt::Result {
+        match self.status {
+            Status::BadWords => f.write_str(
+                "the forms of arguments are: assemble S [M], compare S L [M], tape S [M], xref S [M], certify S C [M], run S P [M], guard S P C [M]",
+            ),
+            Status::ReadFault => match self.unread {
+                Some(name) => write!(f, "{name} can't be read"),
+                None => f.write_str("a file can't be read"),
+            },
+            Status::WriteFault => f.write_str("the output can't be written"),
+            Status::NoMemory => f.write_str("memory ran out"),
+            _ => Ok(()),
+        }
+    }
+}
+
+/// Whether anything is said of a status.
+fn is_told(status: Status) -> bool
+    ensures { result ≡ is_told status }
+{
+    matches!(
+        status,
+        Status::BadWords | Status::ReadFault | Status::WriteFault | Status::NoMemory
+    )
+}
+
+/// Says it, in one line. That standard error can't be written changes nothing.
+pub(crate) fn tell<R: Eprint>(rt: &R, message: Message<'_>) {
+    if is_told(message.status) {
+        let _ = eprintln!(rt; "ags: {message}");
+    }
+}
+
+/// Says why a run couldn't be begun, in one line, where it couldn't.
+pub(crate) fn tell_unrun<R: Eprint>(rt: &R, ended: &io::Result<Status>) {
+    if let Err(error) = ended {
+        let _ = if error.kind() == ErrorKind::OutOfMemory {
+            eprintln!(rt; "ags: memory ran out")
+        } else {
+            eprintln!(rt; "ags: an argument isn't UTF-8")
+        };
+    }
+}
