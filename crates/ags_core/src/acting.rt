@@ -15,6 +15,8 @@ use ags_word::Word;
 impl Core {
     /// One step of the machine at an event, and what it tells. The tables of the machine stay with the core that they
     /// began: it has a word for each register of theirs.
+    // A long script is steps and little else, so that the call counts.
+    #[inline(always)]
     pub fn act(&mut self, machine: &Machine, event: Event) -> Report
         requires inputs { length self.old.inputs ≡ length machine.now.ports.inputs }
         requires outputs { length self.old.outputs ≡ length machine.now.ports.outputs }
