@@ -1,3 +1,4 @@
+pub mod Borrowed
 pub mod CertifyLemmas
 pub mod CommandLemmas
 pub mod CompareLemmas

@@ -8,5 +8,7 @@ pub mod Status
 pub mod Text
 pub mod Work
 -- what serves inside
+pub mod Guarding
+pub mod PlayLaws
 pub mod ProgramLaws
 pub mod Views
