@@ -2,7 +2,9 @@ pub mod Borrowed
 pub mod CertifyLemmas
 pub mod CommandLemmas
 pub mod CompareLemmas
+pub mod DeclaredLemmas
 pub mod FilesLemmas
+pub mod GuardLemmas
 pub mod ListedLemmas
 pub mod MainLemmas
 pub mod WriteLemmas

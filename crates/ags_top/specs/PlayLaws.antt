@@ -66,7 +66,7 @@ one_shown machine defined commands text other is first second =
 -- ---- under a certificate
 
 module _ (machine : Machine) (image : List (Option ℕ)) (cert : Stated) (commands : List Command) (is : IsMachine machine) where
-  some_played : (verdict : Verdict Value) → (text : List ℕ) × (status : Status) × IsPlayedBy machine image cert commands verdict text status
+  pub some_played : (verdict : Verdict Value) → (text : List ℕ) × (status : Status) × IsPlayedBy machine image cert commands verdict text status
   some_played (Certified rows cases) =
       let (events, shown, met, plays) = some_play_of machine image (Some (certificate_of cert)) commands is in (
         verdict_line (Certified rows cases) ++ shown ++ met_line met,
