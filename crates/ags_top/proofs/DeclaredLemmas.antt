@@ -28,7 +28,7 @@ use Rattle.ags_top.specs.Outcome.{IsGuardedOn, IsRefusedFor, IsDeclaredPlay, IsD
 use Rattle.ags_top.specs.Program.{program, command_plan}
 use Rattle.ags_top.specs.Text.{met_line, verdict_line}
 use Rattle.ags_top.specs.Work.{Work, IsGuardedPlay, IsPlayedBy, Makes}
-use Rattle.ags_top.proofs.Borrowed.{settable}
+use Rattle.ags_top.specs.Borrowed.{settable}
 
 -- the play of a told script on a told source under a told certificate
 pub guarded_told : (told : Told) (machine : Machine) (source script certificate source_bytes script_bytes certificate_bytes text : List ℕ) (status : Status) (work : Work)

@@ -1,8 +1,8 @@
 -- What the loaders of files answer.
-use Rattle.std.proofs.Common.{◌≡◌, ℕ, ◌≤◌, Bool, false, List, length, Option, Some, Result, Ok, Err, refl, inr, subst, sym, ◌∙◌}
+use Rattle.std.proofs.Common.{◌≡◌, ℕ, ◌≤◌, Bool, false, List, length, Option, Some, Result, Ok, Err, refl, inr, subst, sym, ◌∙◌, arith}
 use Rattle.std.specs.Prelude.{IfOk, IfErr}
 use Rattle.std.specs.Result.{result_map_both}
-use Rattle.ags_outside.specs.Count.{HasCause}
+use Rattle.ags_outside.specs.Count.{HasCause, rose_since}
 use Rattle.ags_machfile.specs.declared.reading.TheConstants.{MACHINE_LIMIT}
 use Rattle.ags_cert.specs.Cert.{Stated}
 use Rattle.ags_certread.specs.declared.reading.TheConstants.{CERT_LIMIT}
@@ -97,6 +97,14 @@ certificate_loads told machine name bytes (Err NoMemory) agrees short read unrea
 -- a count that an earlier call left as it was stays so
 pub stays_counted : (before now : ℕ) (counted : Bool) → HasCause before now false → counted ≡ false → HasCause before now counted
 stays_counted before now counted counts none = subst (λ (b : Bool). HasCause before now b) (sym none) counts
+
+-- a count that stayed is counted on
+pub counted_on : (before mid now : ℕ) (counted : Bool) → HasCause before mid false → HasCause mid now counted → HasCause before now counted
+counted_on before mid now counted stayed counts = record {
+  stays = omega (arith, stayed.stays, counts.stays);
+  cause = λ is. rose_since before mid now stayed.stays (counts.cause is);
+  clean = λ is. counts.clean is ∙ stayed.clean refl;
+}
 
 -- what is loaded from a shelf that tells what it told before is loaded as from that
 pub loads_as_before : (told now : Told) (kind : Kind) (name : List ℕ) (result : Result (Value kind) (Option (End program))) → now ≡ told → LoadsFile program now kind name result

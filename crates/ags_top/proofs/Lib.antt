@@ -1,4 +1,3 @@
-pub mod Borrowed
 pub mod CertifyLemmas
 pub mod CommandLemmas
 pub mod CompareLemmas
@@ -7,4 +6,5 @@ pub mod FilesLemmas
 pub mod GuardLemmas
 pub mod ListedLemmas
 pub mod MainLemmas
+pub mod PlayLemmas
 pub mod WriteLemmas

@@ -98,9 +98,12 @@ fn play_guarded<K: Sink>(
 {
     match play(alloc, machine, image, script, Some(cert), out) {
         Ok(_) => Ok(Status::Done),
-        Err(PlayError::WriteFault) => Err(SendError::WriteFault),
-        Err(PlayError::NoMemory) => Err(SendError::NoMemory),
-        Err(outside) => say_met(alloc, outside, out),
+        Err(error) => match error {
+            PlayError::WriteFault => Err(SendError::WriteFault),
+            PlayError::NoMemory => Err(SendError::NoMemory),
+            PlayError::StartOutside(_) => say_met(alloc, error, out),
+            PlayError::InputRange { .. } => say_met(alloc, error, out),
+        },
     }
 }
 

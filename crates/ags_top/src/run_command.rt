@@ -67,6 +67,7 @@ pub(crate) fn play_script<K: Sink>(
         Err(PlayError::WriteFault) => Err(SendError::WriteFault),
         Err(PlayError::NoMemory) => Err(SendError::NoMemory),
         // Without a guard nothing is outside.
-        Err(PlayError::StartOutside(_) | PlayError::InputRange { .. }) => unreachable!(),
+        Err(PlayError::StartOutside(_)) => unreachable!(),
+        Err(PlayError::InputRange { .. }) => unreachable!(),
     }
 }
