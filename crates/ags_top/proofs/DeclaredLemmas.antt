@@ -37,14 +37,14 @@ pub guarded_told : (told : Told) (machine : Machine) (source script certificate 
     → IsGuardedOn machine source_bytes script_bytes certificate_bytes text status
 guarded_told told machine source script certificate source_bytes script_bytes certificate_bytes text status work is also too
     (assembly, (there, agrees, holds), (stated, (read, seen, has), (commands, (found, sight, suit), same))) makes = record {
-  defined = assembly.defined;
-  defines = subst (λ (b : List ℕ). Defines machine.codes b assembly.defined) (told_bytes (told source) source_bytes there is agrees) holds.holds.defines;
-  cert = stated;
-  is_cert = subst (λ (b : List ℕ). IsCertOf machine.ports b stated) (told_bytes (told certificate) certificate_bytes read too seen) has.holds;
-  commands = commands;
-  is_script = subst (λ (b : List ℕ). IsScript machine b commands) (told_bytes (told script) script_bytes found also sight) suit.holds;
-  guarded = subst (λ (w : Work). Makes w text status) (sym same) makes;
-}
+      defined = assembly.defined;
+      defines = subst (λ (b : List ℕ). Defines machine.codes b assembly.defined) (told_bytes (told source) source_bytes there is agrees) holds.holds.defines;
+      cert = stated;
+      is_cert = subst (λ (b : List ℕ). IsCertOf machine.ports b stated) (told_bytes (told certificate) certificate_bytes read too seen) has.holds;
+      commands = commands;
+      is_script = subst (λ (b : List ℕ). IsScript machine b commands) (told_bytes (told script) script_bytes found also sight) suit.holds;
+      guarded = subst (λ (w : Work). Makes w text status) (sym same) makes;
+    }
 
 module _ (machine : Machine) (image : List (Option ℕ)) (certificate : List ℕ) (cert : Stated) (commands : List Command) (text : List ℕ) (status : Status)
     (machine_is : IsMachine machine) (image_is : IsImage image) (is_cert : IsCertOf machine.ports certificate cert) (read : IsReadFor machine commands) where

@@ -80,9 +80,9 @@ module _ (machine : Machine) (image : List (Option ℕ)) (cert : Stated) (comman
   one_played (Certified rows cases) text other status ended first second =
       let same = one_play_of machine image (Some (certificate_of cert)) commands first.events second.events first.shown second.shown first.met second.met is first.plays second.plays in (
         first.text_is
-        ∙ ap (λ (s : List ℕ). verdict_line (Certified rows cases) ++ s ++ met_line first.met) same.1
-        ∙ ap (λ (m : Met). verdict_line (Certified rows cases) ++ second.shown ++ met_line m) same.2
-        ∙ sym second.text_is,
+            ∙ ap (λ (s : List ℕ). verdict_line (Certified rows cases) ++ s ++ met_line first.met) same.1
+            ∙ ap (λ (m : Met). verdict_line (Certified rows cases) ++ second.shown ++ met_line m) same.2
+            ∙ sym second.text_is,
         first.status_is ∙ ap met_status same.2 ∙ sym second.status_is,
       )
   one_played (Refused refusal) text other status ended first second = (first.0 ∙ sym second.0, first.1 ∙ sym second.1)
