@@ -1,5 +1,5 @@
 -- What is said of a script that was played under a certificate.
-use Rattle.std.proofs.Common.{◌≡◌, ℕ, List, [], ◌++◌, map, Option, Some, refl, sym, ap, subst, ◌∙◌, append_assoc, inl}
+use Rattle.std.proofs.Common.{◌≡◌, ℕ, List, ◌++◌, map, Option, Some, refl, sym, ap, subst, ◌∙◌, append_assoc, inl}
 use Rattle.std.specs.Prelude.{Result, Ok, Err, IfOk, OnOk, OnErr}
 use Rattle.ags_asm.specs.Source.{defined}
 use Rattle.ags_asm.specs.declared.assembling.Assembled.{Assembled}
@@ -10,7 +10,7 @@ use Rattle.ags_outside.specs.declared.sending.SendError.{SendError}
 use Rattle.ags_outside.specs.Sink.{appended, appended_twice, WroteFront, front_in_first, front_in_second}
 use Rattle.ags_plan.specs.Plan.{WorkAt}
 use Rattle.ags_plan.specs.Saying.{Says, SaidWhole, SaidInPart}
-use Rattle.ags_play.specs.Played.{Met, Nothing, IsPlayOf}
+use Rattle.ags_play.specs.Played.{Met}
 use Rattle.ags_ports.specs.declared.machines.Machine.{Machine}
 use Rattle.ags_ports.specs.Machine.{IsMachine}
 use Rattle.ags_run.specs.Play.{PlayedTo, PlayedInPart}

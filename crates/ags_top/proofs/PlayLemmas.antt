@@ -1,8 +1,7 @@
 -- What is said of a script that was played without a guard.
-use Rattle.std.proofs.Common.{◌≡◌, ℕ, List, map, Option, None, refl, subst}
+use Rattle.std.proofs.Common.{ℕ, List, map, Option, None, refl, subst}
 use Rattle.ags_asm.specs.Source.{defined}
 use Rattle.ags_asm.specs.declared.assembling.Assembled.{Assembled}
-use Rattle.ags_outside.specs.Sink.{appended, WroteFront}
 use Rattle.ags_plan.specs.Plan.{WorkAt}
 use Rattle.ags_plan.specs.Saying.{SaidWhole, SaidInPart}
 use Rattle.ags_play.specs.Doing.{PutWord}

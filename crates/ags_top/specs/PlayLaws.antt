@@ -28,7 +28,7 @@ use Rattle.ags_play.proofs.SearchLemmas.{some_play_of}
 use Rattle.ags_top.specs.declared.status.Status.{Status}
 use Rattle.ags_top.specs.declared.status.Status.TheVariants.{No}
 use Rattle.ags_top.specs.Text.{met_line, verdict_line}
-use Rattle.ags_top.specs.Work.{IsShownBy, IsGuardedPlay, IsPlayedBy, IsGuardedBy, met_status}
+use Rattle.ags_top.specs.Work.{IsShownBy, IsPlayedBy, IsGuardedBy, met_status}
 use Rattle.ags_top.specs.Borrowed.{unguarded}
 
 -- ---- without a guard

@@ -1,5 +1,4 @@
 use Rattle.std.proofs.Common.{inl}
-use Rattle.ags_run.specs.Play.{outside_of}
 use Rattle.ags_top.proofs.PlayLemmas.{no_start_outside, no_word_outside, play_said, play_said_in_part}
 use Rattle.ags_top.proofs.run_command.play_script.Goals as goal
 
