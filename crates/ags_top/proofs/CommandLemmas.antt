@@ -7,7 +7,7 @@ use Rattle.std.specs.Str.{bytes_eq}
 use Rattle.std.proofs.lemmas.Slice.Eq.{bytes_eq-Decides}
 use Rattle.ags_top.specs.declared.source_texts.SourceText.{SourceText}
 use Rattle.ags_top.specs.declared.source_texts.SourceText.TheVariants.{Listing, Tape, CrossReference}
-use Rattle.ags_top.specs.Command.{Command, Write, Compare, Certify, Run, CommandLine, verb_of, arguments_of, machine_argument, line_arguments, line_with, one_name, two_names, Form, form_of, forms, line_named, line_of}
+use Rattle.ags_top.specs.Command.{Command, Write, Compare, Certify, Run, Guard, CommandLine, verb_of, arguments_of, machine_argument, line_arguments, line_with, one_name, two_names, three_names, Form, form_of, forms, line_named, line_of}
 
 -- what stands behind a command's names is read back
 line_with-machine_argument : (command : Command) (machine : Option (List ℕ)) → line_with command (machine_argument machine) ≡ Some (record { command = command; machine = machine })
@@ -24,6 +24,7 @@ line_of-line_arguments line = of_command line.command line.machine
     of_command (Compare source listing) machine = line_with-machine_argument (Compare source listing) machine
     of_command (Certify source certificate) machine = line_with-machine_argument (Certify source certificate) machine
     of_command (Run source script) machine = line_with-machine_argument (Run source script) machine
+    of_command (Guard source script certificate) machine = line_with-machine_argument (Guard source script certificate) machine
 
 -- and nothing else asks for it
 of_line_with : (command : Command) (behind : List (List ℕ)) (line : CommandLine) → line_with command behind ≡ Some line → arguments_of command ++ behind ≡ line_arguments line
@@ -50,6 +51,16 @@ of_two_names verb command arguments (name ∷ []) line asked = absurd cc
 of_two_names verb command arguments (name ∷ other ∷ behind) line asked =
     ap (λ (a : List (List ℕ)). a ++ behind) (sym (arguments name other)) ∙ of_line_with (command name other) behind line asked
 
+of_three_names : (verb : List ℕ) (command : List ℕ → List ℕ → List ℕ → Command)
+    → ((name other third : List ℕ) → arguments_of (command name other third) ≡ verb ∷ name ∷ other ∷ third ∷ [])
+    → IsForm (record { verb = verb; line_of = three_names command })
+unfolding IsForm
+of_three_names verb command arguments [] line asked = absurd cc
+of_three_names verb command arguments (name ∷ []) line asked = absurd cc
+of_three_names verb command arguments (name ∷ other ∷ []) line asked = absurd cc
+of_three_names verb command arguments (name ∷ other ∷ third ∷ behind) line asked =
+    ap (λ (a : List (List ℕ)). a ++ behind) (sym (arguments name other third)) ∙ of_line_with (command name other third) behind line asked
+
 AreForms : List Form → Type 0
 AreForms [] = Unit {0}
 AreForms (form ∷ others) = IsForm form × AreForms others
@@ -67,7 +78,10 @@ are_forms = (
       of_text Tape,
       (
         of_text CrossReference,
-        (of_two_names (codes "certify") Certify (λ name other. refl), (of_two_names (codes "run") Run (λ name other. refl), tt)),
+        (
+          of_two_names (codes "certify") Certify (λ name other. refl),
+          (of_two_names (codes "run") Run (λ name other. refl), (of_three_names (codes "guard") Guard (λ name other third. refl), tt)),
+        ),
       ),
     ),
   ),

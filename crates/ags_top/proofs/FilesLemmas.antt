@@ -1,8 +1,8 @@
 -- What the loaders of files answer.
-use Rattle.std.proofs.Common.{◌≡◌, ℕ, ◌≤◌, Bool, false, List, length, Option, Some, Result, Ok, Err, refl, inr, subst, sym}
+use Rattle.std.proofs.Common.{◌≡◌, ℕ, ◌≤◌, Bool, false, List, length, Option, Some, Result, Ok, Err, refl, inr, subst, sym, ◌∙◌, arith}
 use Rattle.std.specs.Prelude.{IfOk, IfErr}
 use Rattle.std.specs.Result.{result_map_both}
-use Rattle.ags_outside.specs.Count.{HasCause}
+use Rattle.ags_outside.specs.Count.{HasCause, rose_since}
 use Rattle.ags_machfile.specs.declared.reading.TheConstants.{MACHINE_LIMIT}
 use Rattle.ags_cert.specs.Cert.{Stated}
 use Rattle.ags_certread.specs.declared.reading.TheConstants.{CERT_LIMIT}
@@ -98,6 +98,14 @@ certificate_loads told machine name bytes (Err NoMemory) agrees short read unrea
 pub stays_counted : (before now : ℕ) (counted : Bool) → HasCause before now false → counted ≡ false → HasCause before now counted
 stays_counted before now counted counts none = subst (λ (b : Bool). HasCause before now b) (sym none) counts
 
+-- a count that stayed is counted on
+pub counted_on : (before mid now : ℕ) (counted : Bool) → HasCause before mid false → HasCause mid now counted → HasCause before now counted
+counted_on before mid now counted stayed counts = record {
+  stays = omega (arith, stayed.stays, counts.stays);
+  cause = λ is. rose_since before mid now stayed.stays (counts.cause is);
+  clean = λ is. counts.clean is ∙ stayed.clean refl;
+}
+
 -- what is loaded from a shelf that tells what it told before is loaded as from that
 pub loads_as_before : (told now : Told) (kind : Kind) (name : List ℕ) (result : Result (Value kind) (Option (End program))) → now ≡ told → LoadsFile program now kind name result
     → LoadsFile program told kind name result
@@ -122,3 +130,40 @@ module _ (told now : Told) (machine : Machine) (source name : List ℕ) (kind : 
   both_load value loads =
       loads_on program told (Source machine) source (λ a. Read kind name (λ v. Do (done a v))) assembly (Ok (done assembly value)) first
       (loads_on program told kind name (λ v. Do (done assembly v)) value (Ok (done assembly value)) (loads_as_before told now kind name (Ok value) same loads) refl)
+
+-- ---- a source, and then files of two more kinds
+
+module _ (told now : Told) (machine : Machine) (source name third : List ℕ) (kind last : Kind) (done : Assembly → Value kind → Value last → Work) (assembly : Assembly)
+    (first : LoadsFile program told (Source machine) source (Ok assembly)) (same : now ≡ told) where
+  -- what is left behind the source
+  abbrev behind : Assembly → Plan program
+  behind a = Read kind name (λ value. Read last third (λ v. Do (done a value v)))
+
+  -- all three, one behind the other
+  abbrev pub all_three : Plan program
+  all_three = Read (Source machine) source behind
+
+  -- the second file is why they aren't loaded
+  pub second_of_three_stops : (why : Option (End program)) → LoadsFile program now kind name (Err why) → Loads program told all_three (Err why)
+  second_of_three_stops why loads =
+      loads_on program told (Source machine) source behind assembly (Err why) first
+      (loads_stop program told kind name (λ value. Read last third (λ v. Do (done assembly value v))) why (loads_as_before told now kind name (Err why) same loads))
+
+  module _ (later : Told) (value : Value kind) (second : LoadsFile program now kind name (Ok value)) (still : later ≡ now) where
+    -- what comes of the third file comes of all three
+    all_by_third : (result : Result Work (Option (End program))) → Loads program told (Read last third (λ v. Do (done assembly value v))) result
+        → Loads program told all_three result
+    all_by_third result loads =
+        loads_on program told (Source machine) source behind assembly result first
+        (loads_on program told kind name (λ v. Read last third (λ w. Do (done assembly v w))) value result (loads_as_before told now kind name (Ok value) same second) loads)
+
+    -- the third file is why they aren't loaded
+    pub third_stops : (why : Option (End program)) → LoadsFile program later last third (Err why) → Loads program told all_three (Err why)
+    third_stops why loads =
+        all_by_third (Err why) (loads_stop program told last third (λ v. Do (done assembly value v)) why (loads_as_before told later last third (Err why) (still ∙ same) loads))
+
+    -- all are loaded
+    pub all_load : (held : Value last) → LoadsFile program later last third (Ok held) → Loads program told all_three (Ok (done assembly value held))
+    all_load held loads =
+        all_by_third (Ok (done assembly value held))
+        (loads_on program told last third (λ v. Do (done assembly value v)) held (Ok (done assembly value held)) (loads_as_before told later last third (Ok held) (still ∙ same) loads) refl)

@@ -1,7 +1,10 @@
 pub mod CertifyLemmas
 pub mod CommandLemmas
 pub mod CompareLemmas
+pub mod DeclaredLemmas
 pub mod FilesLemmas
+pub mod GuardLemmas
 pub mod ListedLemmas
 pub mod MainLemmas
+pub mod PlayLemmas
 pub mod WriteLemmas

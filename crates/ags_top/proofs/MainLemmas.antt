@@ -35,18 +35,20 @@ use Rattle.ags_verdict.proofs.VerdictLemmas.{accepted_of, certified_of, counted_
 use Rattle.ags_machfile.specs.MachineFile.{machine_of}
 use Rattle.ags_ports.specs.declared.machines.Machine.{Machine}
 use Rattle.ags_ports.specs.Machine.{standard_machine}
-use Rattle.ags_run.specs.declared.script_error.ScriptError.TheVariants.{At}
-use Rattle.ags_run.specs.Script.{IsScript}
+use Rattle.ags_script.specs.declared.script_errors.ScriptError.TheVariants.{At}
+use Rattle.ags_script.specs.Script.{IsScript}
+use Rattle.ags_play.specs.Played.{Met, Nothing}
+use Rattle.ags_top.proofs.DeclaredLemmas.{guarded_told, declared_of}
 use Rattle.ags_top.specs.declared.status.Status.{Status}
 use Rattle.ags_top.specs.declared.status.Status.TheVariants.{Done, No, BadMachine, BadSource, BadWords, BadCert, BadText}
 use Rattle.ags_top.specs.declared.source_texts.SourceText.{SourceText}
-use Rattle.ags_top.specs.Command.{Command, Write, Compare, Certify, Run, CommandLine, line_arguments, line_of, AreNoForm}
+use Rattle.ags_top.specs.Command.{Command, Write, Compare, Certify, Run, Guard, CommandLine, line_arguments, line_of, AreNoForm}
 use Rattle.ags_top.specs.Files.{Kind, MachineFile, Source, Listing, Certificate, Script, refused_status}
-use Rattle.ags_top.specs.Outcome.{EndsWith, IsMachineOf, WritesWhatIsDefined, IsComparedOn, ComparesWhatIsDefined, IsJudgedOn, JudgesWhatIsDefined, IsCertifiedOn, CertifiesWhatIsSafe, TellsMachine, TellsAccepted, CertifiesAccepted, ReadsCertificateFault, BadCertExactly, IsOneImage, EqualsWhatIsDefined, IsPlayOn, PlaysWhatIsDefined, DoneAlways, NoExactly, BadWordsExactly, ReadsMachineFault, BadMachineExactly, ReadsFault, BadSourceExactly, ReadsScriptFault, ReadsListingFault, BadTextExactly}
+use Rattle.ags_top.specs.Outcome.{EndsWith, IsMachineOf, WritesWhatIsDefined, IsComparedOn, ComparesWhatIsDefined, IsJudgedOn, JudgesWhatIsDefined, IsCertifiedOn, CertifiesWhatIsSafe, TellsMachine, TellsAccepted, CertifiesAccepted, ReadsCertificateFault, BadCertExactly, IsOneImage, EqualsWhatIsDefined, IsShownOn, PlaysWhatIsDefined, IsGuardedOn, GuardsWhatIsDefined, IsDeclaredOn, PlaysWhatIsDeclared, DoneAlways, NoExactly, BadWordsExactly, ReadsMachineFault, BadMachineExactly, ReadsFault, BadSourceExactly, ReadsScriptFault, ReadsListingFault, BadTextExactly}
 use Rattle.ags_top.specs.Program.{program, command_plan, plan_on, asked_plan, plan_of}
 use Rattle.ags_top.specs.ProgramLaws.{IsWorkStatus, comes_to_no_form, lawful_program, not_refused_work}
 use Rattle.ags_top.specs.Text.{words_line, certificate_fault_line, fault_line, listing_fault_line, machine_fault_line, script_fault_line, verdict_line}
-use Rattle.ags_top.specs.Work.{Work, NoForm, WriteText, CompareImages, JudgeCertificate, PlayScript, IsTextOf, IsJudgementOf, compared_status, verdict_status, Makes}
+use Rattle.ags_top.specs.Work.{Work, NoForm, WriteText, CompareImages, JudgeCertificate, PlayScript, GuardScript, IsTextOf, IsJudgementOf, IsPlayedBy, compared_status, met_status, verdict_status, Makes}
 use Rattle.ags_top.proofs.CommandLemmas.{line_of-line_arguments, line_arguments-line_of}
 
 -- ---- a run that ends with the status of a work came to a work
@@ -153,7 +155,7 @@ safe_of machine source certificate text is judged = by_verdict judged.judgement.
 -- the play of a told script on a told source
 play_told : (told : Told) (machine : Machine) (source script source_bytes script_bytes text : List ℕ) (work : Work) → told source ≡ Stored source_bytes
     → told script ≡ Stored script_bytes → LeadsTo program Agrees told (command_plan machine (Run source script)) work → Makes work text Done
-    → IsPlayOn machine source_bytes script_bytes text
+    → IsShownOn machine source_bytes script_bytes text
 play_told told machine source script source_bytes script_bytes text work is too (assembly, (there, agrees, holds), (commands, (read, seen, has), same)) makes =
     let made : Makes (PlayScript machine assembly.defined commands) text Done = subst (λ (w : Work). Makes w text Done) (sym same) makes in
     record {
@@ -207,6 +209,15 @@ no_form_work (JudgeCertificate machine assembly stated) text makes = absurd (nev
     never (Certified rows cases) is = absurd cc
     never (Refused refusal) is = absurd cc
 no_form_work (PlayScript machine defined commands) text makes = let is = makes.1 in absurd cc
+no_form_work (GuardScript machine defined stated commands) text makes = absurd (never makes.verdict makes.played)
+  where
+    never_met : (met : Met) → BadWords ≡ met_status met → ⊥
+    never_met Nothing is = absurd cc
+    never_met _ is = absurd cc
+
+    never : (verdict : Verdict Value) → IsPlayedBy machine makes.image stated commands verdict text BadWords → ⊥
+    never (Certified rows cases) played = never_met played.met played.status_is
+    never (Refused refusal) played = let is = played.1 in absurd cc
 
 module _ (told : Told) (arguments : List (List ℕ)) (old new : Option (List ℕ)) (result : Status) (ends : Ends program (IsAnswer program told (plan_of arguments)) old new result) where
   -- what a run with that status answered
@@ -311,6 +322,42 @@ module _ (told : Told) (arguments : List (List ℕ)) (old new : Option (List ℕ
         machine_is,
         (text, play_told told machine source script source_bytes script_bytes text work known too way makes, sent ∙ ap (λ (o : Option (List ℕ)). appended o text) holds),
       )
+
+  pub guards_what_is_defined : GuardsWhatIsDefined told arguments old new result
+  unfolding IsWorkStatus
+  guards_what_is_defined source script certificate source_bytes script_bytes certificate_bytes held machine_file is asked known also too holds = elim is [
+    | inl done ↦ with_status Done tt done
+    | inr met ↦ with_status No tt met
+  ]
+    where
+      with_status : (status : Status) → IsWorkStatus status → result ≡ status → (machine : Machine) × IsMachineOf told machine_file machine
+          × ((text : List ℕ) × IsGuardedOn machine source_bytes script_bytes certificate_bytes text result × (new ≡ Some (held ++ text)))
+      with_status status answers ended =
+          let (machine, machine_is, valid, (text, work, way, makes, sent)) = work_with status machine_file (Guard source script certificate) answers ended asked in
+          let guarded = guarded_told told machine source script certificate source_bytes script_bytes certificate_bytes text status work known also too way makes in (
+            machine,
+            machine_is,
+            (
+              text,
+              subst (IsGuardedOn machine source_bytes script_bytes certificate_bytes text) (sym ended) guarded,
+              sent ∙ ap (λ (o : Option (List ℕ)). appended o text) holds,
+            ),
+          )
+
+  pub plays_what_is_declared : PlaysWhatIsDeclared told arguments old new result
+  unfolding IsWorkStatus
+  plays_what_is_declared source script certificate source_bytes script_bytes certificate_bytes machine_file is asked known also too = elim is [
+    | inl done ↦ with_status Done tt done
+    | inr met ↦ with_status No tt met
+  ]
+    where
+      with_status : (status : Status) → IsWorkStatus status → result ≡ status → (machine : Machine) × IsMachineOf told machine_file machine
+          × ((text : List ℕ) × IsDeclaredOn machine source_bytes script_bytes certificate_bytes text result × (new ≡ appended old text))
+      with_status status answers ended =
+          let (machine, machine_is, valid, (text, work, way, makes, sent)) = work_with status machine_file (Guard source script certificate) answers ended asked in
+          let guarded = guarded_told told machine source script certificate source_bytes script_bytes certificate_bytes text status work known also too way makes in
+          let declared = declared_of machine source_bytes script_bytes certificate_bytes text status valid guarded in
+          (machine, machine_is, (text, subst (IsDeclaredOn machine source_bytes script_bytes certificate_bytes text) (sym ended) declared, sent))
 
   -- what is exact of a status is so of the run's end
   exactly_with : (text : List ℕ) (status : Status) → EndsExactly program old new result text status → EndsWith result status

@@ -15,6 +15,8 @@ pub data Command : Type 0 where
   Certify : (source certificate : List ℕ) → Command
   -- what the script of this name shows of the machine that begins with the words of that source
   Run : (source script : List ℕ) → Command
+  -- the same with the certificate of that name as its guard, where it is accepted for those words
+  Guard : (source script certificate : List ℕ) → Command
 
 -- What a command line asks for: a command, and the name of the file of the machine that it is for, or nothing, where it is for
 -- the standard machine.
@@ -34,6 +36,7 @@ arguments_of (Write text source) = verb_of text ∷ source ∷ []
 arguments_of (Compare source listing) = codes "compare" ∷ source ∷ listing ∷ []
 arguments_of (Certify source certificate) = codes "certify" ∷ source ∷ certificate ∷ []
 arguments_of (Run source script) = codes "run" ∷ source ∷ script ∷ []
+arguments_of (Guard source script certificate) = codes "guard" ∷ source ∷ script ∷ certificate ∷ []
 
 -- the argument that names a machine file, where one is named
 abbrev pub machine_argument : Option (List ℕ) → List (List ℕ)
@@ -60,6 +63,11 @@ abbrev pub two_names : (List ℕ → List ℕ → Command) → List (List ℕ) �
 two_names command (name ∷ other ∷ behind) = line_with (command name other) behind
 two_names command _ = None
 
+-- a command of three names
+abbrev pub three_names : (List ℕ → List ℕ → List ℕ → Command) → List (List ℕ) → Option CommandLine
+three_names command (name ∷ other ∷ third ∷ behind) = line_with (command name other third) behind
+three_names command _ = None
+
 -- A form: a verb, and what the names behind it ask for.
 pub record Form : Type 0 where
   pub verb : List ℕ
@@ -78,6 +86,7 @@ forms =
     ∷ form_of CrossReference
     ∷ record { verb = codes "certify"; line_of = two_names Certify }
     ∷ record { verb = codes "run"; line_of = two_names Run }
+    ∷ record { verb = codes "guard"; line_of = three_names Guard }
     ∷ []
 
 -- what a verb and the names behind it ask for, by the form of that verb

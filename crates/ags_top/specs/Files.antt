@@ -16,11 +16,11 @@ use Rattle.ags_machfile.specs.declared.mach_error.MachError.{MachError}
 use Rattle.ags_machfile.specs.declared.reading.TheConstants.{MACHINE_LIMIT}
 use Rattle.ags_machfile.specs.MachineFile.{machine_of}
 use Rattle.ags_ports.specs.declared.machines.Machine.{Machine}
-use Rattle.ags_run.specs.declared.plain.Plain.{Plain}
-use Rattle.ags_run.specs.declared.script_error.ScriptKind.{ScriptKind}
-use Rattle.ags_run.specs.declared.script_error.ScriptError.TheVariants.{At}
-use Rattle.ags_run.specs.Script.{IsScript, IsFaultyScript}
-use Rattle.ags_run.specs.declared.script.TheConstants.{SCRIPT_LIMIT}
+use Rattle.ags_script.specs.declared.commands.Command.{Command}
+use Rattle.ags_script.specs.declared.script_errors.ScriptKind.{ScriptKind}
+use Rattle.ags_script.specs.declared.script_errors.ScriptError.TheVariants.{At}
+use Rattle.ags_script.specs.Script.{IsScript, IsFaultyScript}
+use Rattle.ags_script.specs.declared.scripts.TheConstants.{SCRIPT_LIMIT}
 use Rattle.ags_top.specs.declared.status.Status.{Status}
 use Rattle.ags_top.specs.declared.status.Status.TheVariants.{BadMachine, BadSource, BadCert, BadText}
 use Rattle.ags_top.specs.Text.{certificate_fault_line, fault_line, listing_fault_line, machine_fault_line, script_fault_line}
@@ -44,7 +44,7 @@ Value MachineFile = Machine
 Value (Source machine) = Assembly
 Value Listing = List (Option ℕ)
 Value (Certificate machine) = Stated
-Value (Script machine) = List Plain
+Value (Script machine) = List Command
 
 -- how many bytes a file of a kind has at most
 abbrev pub limit_of : Kind → ℕ

@@ -8,5 +8,8 @@ pub mod Status
 pub mod Text
 pub mod Work
 -- what serves inside
+pub mod Borrowed
+pub mod Guarding
+pub mod PlayLaws
 pub mod ProgramLaws
 pub mod Views

@@ -1,5 +1,5 @@
 -- What `ags_main` comes to, command by command and status by status, in the program's own words.
-use Rattle.std.specs.Prelude.{◌≡◌, ℕ, ◌≤◌, ◌⊎◌, List, ◌++◌, length, Option, Some, None, Ok, Err}
+use Rattle.std.specs.Prelude.{◌≡◌, ℕ, ◌≤◌, ◌⊎◌, List, [], ◌++◌, length, Option, Some, None, Ok, Err}
 use Rattle.ags_outside.specs.ToldFile.{Stored}
 use Rattle.ags_outside.specs.Sink.{appended}
 use Rattle.ags_plan.specs.Plan.{WorkAt}
@@ -14,6 +14,7 @@ use Rattle.ags_certtext.specs.declared.cert_error.CertKind.{CertKind}
 use Rattle.ags_certtext.specs.declared.cert_error.CertError.TheVariants as certificate
 use Rattle.ags_certtext.specs.Text.{IsCertOf, IsFaultyCert}
 use Rattle.ags_domain.specs.Value.{value_meaning}
+use Rattle.ags_domain.specs.declared.values.Value.{Value}
 use Rattle.ags_image.specs.Image.{PlacedWord, IsImageOf}
 use Rattle.ags_listing.specs.declared.list_error.ListError.{ListError}
 use Rattle.ags_listing.specs.declared.reading.TheConstants.{LISTING_LIMIT}
@@ -21,16 +22,23 @@ use Rattle.ags_listing.specs.Reads.{IsFaultyListing, Reads}
 use Rattle.ags_machfile.specs.declared.mach_error.MachError.{MachError}
 use Rattle.ags_machfile.specs.declared.reading.TheConstants.{MACHINE_LIMIT}
 use Rattle.ags_machfile.specs.MachineFile.{machine_of}
+use Rattle.ags_ports.specs.declared.events.Event.{Event}
 use Rattle.ags_ports.specs.declared.machines.Machine.{Machine}
 use Rattle.ags_ports.specs.Machine.{standard_machine}
 use Rattle.ags_safe.specs.Accepted.{Accepted}
 use Rattle.ags_safe.specs.Safe.{Safe}
-use Rattle.ags_verdict.specs.declared.verdicts.Verdict.TheVariants.{Certified}
-use Rattle.ags_run.specs.declared.plain.Plain.{Plain}
-use Rattle.ags_run.specs.declared.script_error.ScriptKind.{ScriptKind}
-use Rattle.ags_run.specs.declared.script_error.ScriptError.TheVariants.{At}
-use Rattle.ags_run.specs.declared.script.TheConstants.{SCRIPT_LIMIT}
-use Rattle.ags_run.specs.Script.{IsScript, IsFaultyScript}
+use Rattle.ags_verdict.specs.Verdict.{IsVerdict}
+use Rattle.ags_verdict.specs.declared.verdicts.Refusal.{Refusal}
+use Rattle.ags_verdict.specs.declared.verdicts.Verdict.TheVariants.{Certified, Refused}
+use Rattle.ags_script.specs.declared.commands.Command.{Command}
+use Rattle.ags_script.specs.declared.script_errors.ScriptKind.{ScriptKind}
+use Rattle.ags_script.specs.declared.script_errors.ScriptError.TheVariants.{At}
+use Rattle.ags_script.specs.declared.scripts.TheConstants.{SCRIPT_LIMIT}
+use Rattle.ags_script.specs.Script.{IsScript, IsFaultyScript}
+use Rattle.ags_play.specs.Begun.{IsRunOf}
+use Rattle.ags_play.specs.Bench.{begun_state}
+use Rattle.ags_play.specs.Guard.{Outside}
+use Rattle.ags_play.specs.Played.{Met, OutsideStart, IsPlayOf}
 use Rattle.ags_top.specs.declared.status.Status.{Status}
 use Rattle.ags_top.specs.declared.status.Status.TheVariants.{Done, No, BadMachine, BadSource, BadWords, BadCert, BadText}
 use Rattle.ags_top.specs.declared.source_texts.SourceText.{SourceText}
@@ -38,8 +46,8 @@ use Rattle.ags_top.specs.Command as command
 use Rattle.ags_top.specs.Command.{line_arguments, AreNoForm}
 use Rattle.ags_top.specs.Files as file
 use Rattle.ags_top.specs.Program.{program, plan_of}
-use Rattle.ags_top.specs.Text.{certificate_fault_line, fault_line, listing_fault_line, machine_fault_line, script_fault_line, verdict_line}
-use Rattle.ags_top.specs.Work.{Work, IsTextOf, IsComparisonOf, IsJudgementOf, IsPlayOf, Makes}
+use Rattle.ags_top.specs.Text.{certificate_fault_line, fault_line, listing_fault_line, machine_fault_line, met_line, script_fault_line, verdict_line}
+use Rattle.ags_top.specs.Work.{Work, IsTextOf, IsComparisonOf, IsJudgementOf, IsShownBy, IsGuardedBy, met_status, Makes}
 use Rattle.ags_listing.specs.Listing.{listing}
 
 -- the run ends with that status, unless it stops
@@ -166,19 +174,89 @@ CertifiesAccepted told arguments result = (source certificate : List ℕ) (machi
     → TellsMachine told machine_file machine → TellsAccepted told machine source certificate → EndsWith result Done
 
 -- The source defines words, the script has commands for the machine, and the text is their play on these words.
-pub record IsPlayOn (machine : Machine) (source script text : List ℕ) : Type 0 where
+pub record IsShownOn (machine : Machine) (source script text : List ℕ) : Type 0 where
   pub defined : List (Option PlacedWord)
   pub defines : Defines machine.codes source defined
-  pub commands : List Plain
+  pub commands : List Command
   pub is_script : IsScript machine script commands
-  pub play : IsPlayOf machine defined commands text
+  pub play : IsShownBy machine defined commands text
 
 -- Where the run of `run` is done, and the shelf and the sink tell, the sink took exactly what the script's play prints on the
 -- words that the source defines, on the machine that the command line is for.
 abbrev pub PlaysWhatIsDefined : (told : Told) (arguments : List (List ℕ)) (old new : Option (List ℕ)) → Status → Type 0
 PlaysWhatIsDefined told arguments old new result = (source script source_bytes script_bytes held : List ℕ) (machine_file : Option (List ℕ)) → result ≡ Done
     → arguments ≡ line_arguments (record { command = command.Run source script; machine = machine_file }) → told source ≡ Stored source_bytes → told script ≡ Stored script_bytes → old ≡ Some held
-    → (machine : Machine) × IsMachineOf told machine_file machine × ((text : List ℕ) × IsPlayOn machine source_bytes script_bytes text × (new ≡ Some (held ++ text)))
+    → (machine : Machine) × IsMachineOf told machine_file machine × ((text : List ℕ) × IsShownOn machine source_bytes script_bytes text × (new ≡ Some (held ++ text)))
+
+-- The source defines words, the certificate is one for the machine's registers, the script has commands for the machine, and this is
+-- the text and the status of the verdict and of the play under the certificate.
+pub record IsGuardedOn (machine : Machine) (source script certificate text : List ℕ) (status : Status) : Type 0 where
+  pub defined : List (Option PlacedWord)
+  pub defines : Defines machine.codes source defined
+  pub cert : Stated
+  pub is_cert : IsCertOf machine.ports certificate cert
+  pub commands : List Command
+  pub is_script : IsScript machine script commands
+  pub guarded : IsGuardedBy machine defined cert commands text status
+
+-- Where the run of `guard` ends with Done or with No, and the shelf and the sink tell, the sink took the verdict of the certificate for
+-- the words that the source defines, and, where it is certified, what the script's play shows on them with the certificate as its
+-- guard, and what the play met.
+abbrev pub GuardsWhatIsDefined : (told : Told) (arguments : List (List ℕ)) (old new : Option (List ℕ)) → Status → Type 0
+GuardsWhatIsDefined told arguments old new result = (source script certificate source_bytes script_bytes certificate_bytes held : List ℕ) (machine_file : Option (List ℕ))
+    → (result ≡ Done) ⊎ (result ≡ No)
+    → arguments ≡ line_arguments (record { command = command.Guard source script certificate; machine = machine_file }) → told source ≡ Stored source_bytes
+    → told script ≡ Stored script_bytes → told certificate ≡ Stored certificate_bytes → old ≡ Some held
+    → (machine : Machine) × IsMachineOf told machine_file machine
+    × ((text : List ℕ) × IsGuardedOn machine source_bytes script_bytes certificate_bytes text result × (new ≡ Some (held ++ text)))
+
+-- The certificate is refused by its verdict for the image: the text is the line of that, and the answer is no.
+pub record IsRefusedFor (machine : Machine) (image : List (Option ℕ)) (cert : Stated) (text : List ℕ) (status : Status) : Type 0 where
+  pub refusal : Refusal Value
+  pub is_verdict : IsVerdict value_meaning machine image (certificate_of cert) (Refused refusal)
+  pub text_is : text ≡ verdict_line (Refused refusal)
+  pub status_is : status ≡ No
+
+-- The certificate is accepted for the image, so that every run is safe, over every list of events that it declares; and the script's
+-- play under it is such a run: its events are declared, and lead from a start of the certificate. Only where the script sets a start
+-- that isn't one is there no event, and nothing shown. The text says that the certificate is certified, then what the play shows along
+-- that very run, and then what it met.
+pub record IsDeclaredPlay (machine : Machine) (image : List (Option ℕ)) (cert : Stated) (commands : List Command) (text : List ℕ) (status : Status) : Type 0 where
+  pub accepted : Accepted value_meaning machine image (certificate_of cert)
+  pub safe : Safe value_meaning machine image (certificate_of cert)
+  pub events : List Event
+  pub shown : List ℕ
+  pub met : Met
+  pub plays : IsPlayOf machine image (Some (certificate_of cert)) commands events shown met
+  pub run : ((outside : Outside) → met ≡ OutsideStart outside → ⊥)
+      → IsRunOf machine image (certificate_of cert) (begun_state machine image (Some (certificate_of cert)) commands) events
+  pub nothing : (outside : Outside) → met ≡ OutsideStart outside → (events ≡ []) × (shown ≡ [])
+  pub cases : ℕ
+  pub text_is : text ≡ verdict_line (Certified (length cert.rows) cases) ++ shown ++ met_line met
+  pub status_is : status ≡ met_status met
+
+-- The source defines words, the certificate is one for the machine's registers and the script has commands for the machine; and for the
+-- image of exactly these words the certificate is refused, or the play is a run of it.
+pub record IsDeclaredOn (machine : Machine) (source script certificate text : List ℕ) (status : Status) : Type 0 where
+  pub defined : List (Option PlacedWord)
+  pub defines : Defines machine.codes source defined
+  pub image : List (Option ℕ)
+  pub image_is : IsImageOf (placed_words defined) image
+  pub cert : Stated
+  pub is_cert : IsCertOf machine.ports certificate cert
+  pub commands : List Command
+  pub is_script : IsScript machine script commands
+  pub comes : IsRefusedFor machine image cert text status ⊎ IsDeclaredPlay machine image cert commands text status
+
+-- The actual run: where the run of `guard` ends with Done or with No, and the shelf tells, what is played is a run of the certificate,
+-- every run of which is safe, or the certificate is refused; and where the sink tells, it took what is shown of that run.
+abbrev pub PlaysWhatIsDeclared : (told : Told) (arguments : List (List ℕ)) (old new : Option (List ℕ)) → Status → Type 0
+PlaysWhatIsDeclared told arguments old new result = (source script certificate source_bytes script_bytes certificate_bytes : List ℕ) (machine_file : Option (List ℕ))
+    → (result ≡ Done) ⊎ (result ≡ No)
+    → arguments ≡ line_arguments (record { command = command.Guard source script certificate; machine = machine_file }) → told source ≡ Stored source_bytes
+    → told script ≡ Stored script_bytes → told certificate ≡ Stored certificate_bytes
+    → (machine : Machine) × IsMachineOf told machine_file machine
+    × ((text : List ℕ) × IsDeclaredOn machine source_bytes script_bytes certificate_bytes text result × (new ≡ appended old text))
 
 -- Where the walk over told files comes to a work that is done with Done, the run ends so, unless it stops: each file on the way
 -- is there, within its limit and without a fault.
@@ -195,8 +273,8 @@ pub record AnswersNo (told : Told) (arguments : List (List ℕ)) (old new : Opti
   pub makes : Makes work text No
   pub sent : new ≡ appended old text
 
--- No comes exactly where the walk comes to a work whose answer is no: a listing has other words than its source, or a certificate is
--- refused by its verdict
+-- No comes exactly where the walk comes to a work whose answer is no: a listing has other words than its source, a certificate is
+-- refused by its verdict, or a play meets a start or a word that its guard doesn't declare
 pub record NoExactly (told : Told) (arguments : List (List ℕ)) (old new : Option (List ℕ)) (result : Status) : Type 0 where
   pub only : result ≡ No → AnswersNo told arguments old new
   pub always : (work : Work) (text : List ℕ) → EndsAt program Tells told (plan_of arguments) (WorkAt work) → Makes work text No → EndsWith result No

@@ -4,10 +4,10 @@ use Rattle.ags_plan.specs.Plan.{Definition, Plan, Do, Read}
 use Rattle.ags_ports.specs.declared.machines.Machine.{Machine}
 use Rattle.ags_ports.specs.Machine.{standard_machine}
 use Rattle.ags_top.specs.declared.status.Status.{Status}
-use Rattle.ags_top.specs.Command.{Command, Write, Compare, Certify, Run, CommandLine, line_of}
+use Rattle.ags_top.specs.Command.{Command, Write, Compare, Certify, Run, Guard, CommandLine, line_of}
 use Rattle.ags_top.specs.Files.{Kind, MachineFile, Source, Listing, Certificate, Script, Value, limit_of, Holds, Refuses, refused_status}
 use Rattle.ags_top.specs.Status.{cause_of, stop_status}
-use Rattle.ags_top.specs.Work.{Work, NoForm, WriteText, CompareImages, JudgeCertificate, PlayScript, Makes}
+use Rattle.ags_top.specs.Work.{Work, NoForm, WriteText, CompareImages, JudgeCertificate, PlayScript, GuardScript, Makes}
 
 -- the program's kinds of files, its works and its statuses
 abbrev pub program : Definition Status
@@ -33,6 +33,9 @@ command_plan machine (Certify source certificate) =
     Read (Source machine) source (λ assembly. Read (Certificate machine) certificate (λ cert. Do (JudgeCertificate machine assembly cert)))
 command_plan machine (Run source script) =
     Read (Source machine) source (λ assembly. Read (Script machine) script (λ commands. Do (PlayScript machine assembly.defined commands)))
+command_plan machine (Guard source script certificate) =
+    Read (Source machine) source (λ assembly. Read (Certificate machine) certificate
+    (λ cert. Read (Script machine) script (λ commands. Do (GuardScript machine assembly.defined cert commands))))
 
 -- what is read and done on the machine of a file of that name, or on the standard one, where none is named
 abbrev pub plan_on : Option (List ℕ) → (Machine → Plan program) → Plan program

@@ -45,23 +45,22 @@ use Rattle.ags_isa.specs.Code.{AreCodes}
 use Rattle.ags_ports.specs.declared.machines.Machine.{Machine}
 use Rattle.ags_ports.specs.Machine.{IsMachine, standard_machine}
 use Rattle.ags_ports.proofs.MachineLemmas.{IsMachine-standard}
-use Rattle.ags_core.specs.Core.{start_state}
-use Rattle.ags_run.specs.declared.plain.Plain.{Plain}
-use Rattle.ags_run.specs.declared.script_error.ScriptKind.{ScriptKind}
-use Rattle.ags_run.specs.declared.script_error.ScriptError.TheVariants.{At}
-use Rattle.ags_run.specs.Played.{Plays}
-use Rattle.ags_run.proofs.PlayLemmas.{one_play, play_runs, some_play}
-use Rattle.ags_run.proofs.ScriptLemmas as script
+use Rattle.ags_script.specs.declared.commands.Command.{Command as ScriptCommand}
+use Rattle.ags_script.specs.declared.script_errors.ScriptKind.{ScriptKind}
+use Rattle.ags_script.specs.declared.script_errors.ScriptError.TheVariants.{At}
+use Rattle.ags_script.proofs.ScriptLemmas as script
+use Rattle.ags_play.specs.Played.{Met, Nothing}
 use Rattle.ags_top.specs.declared.status.Status.{Status}
 use Rattle.ags_top.specs.declared.status.Status.TheVariants.{Done, No, BadWords, LongFile}
 use Rattle.ags_top.specs.declared.source_texts.SourceText.{SourceText}
 use Rattle.ags_top.specs.declared.source_texts.SourceText.TheVariants as what
-use Rattle.ags_top.specs.Command.{Command, Write, Compare, Certify, Run, CommandLine, line_of}
+use Rattle.ags_top.specs.Command.{Command, Write, Compare, Certify, Run, Guard, CommandLine, line_of}
 use Rattle.ags_top.specs.Files.{Kind, MachineFile, Source, Listing, Certificate, Script, Assembly, Value, HoldsSource, Holds, Refuses, refused_status}
+use Rattle.ags_top.specs.PlayLaws.{some_shown, one_shown, some_guarded, one_guarded}
 use Rattle.ags_top.specs.Program.{program, command_plan, plan_on, asked_plan, plan_of}
 use Rattle.ags_top.specs.Status.{cause_of}
 use Rattle.ags_top.specs.Text.{words_line, certificate_fault_line, fault_line, listing_fault_line, machine_fault_line, script_fault_line, compared_line, verdict_line}
-use Rattle.ags_top.specs.Work.{Work, NoForm, WriteText, CompareImages, JudgeCertificate, PlayScript, IsTextOf, IsComparisonOf, IsJudgementOf, IsPlayOf, compared_status, verdict_status, Makes}
+use Rattle.ags_top.specs.Work.{Work, NoForm, WriteText, CompareImages, JudgeCertificate, PlayScript, GuardScript, IsTextOf, IsComparisonOf, IsJudgementOf, IsPlayedBy, compared_status, met_status, verdict_status, Makes}
 
 -- ---- files
 
@@ -159,6 +158,7 @@ IsAskedFor (WriteText text assembly) = AreWordsOfSource assembly.defined
 IsAskedFor (CompareImages defined listed) = AreWordsOfSource defined × ((bytes : List ℕ) × Reads bytes listed)
 IsAskedFor (JudgeCertificate machine assembly stated) = IsMachine machine × AreWordsOfSource assembly.defined × ((bytes : List ℕ) × IsCertOf machine.ports bytes stated)
 IsAskedFor (PlayScript machine defined commands) = IsMachine machine × AreWordsOfSource defined
+IsAskedFor (GuardScript machine defined stated commands) = IsMachine machine × AreWordsOfSource defined
 
 -- of the work that a command leads to, and it isn't the one that says that the arguments are no form
 asked_on_way : (told : Told) (machine : Machine) (command : Command) (work : Work) → IsMachine machine
@@ -171,6 +171,8 @@ asked_on_way told machine (Compare name listing) work is (assembly, (bytes, agre
 asked_on_way told machine (Certify name certificate) work is (assembly, (bytes, agrees, holds), (stated, (there, seen, has), same)) =
     (subst IsAskedFor same (is, (machine.codes, is.codes, (bytes, holds.holds.defines)), (there, has.holds)), λ none. absurd cc)
 asked_on_way told machine (Run name script) work is (assembly, (bytes, agrees, holds), (commands, seen, same)) =
+    (subst IsAskedFor same (is, (machine.codes, is.codes, (bytes, holds.holds.defines))), λ none. absurd cc)
+asked_on_way told machine (Guard name script certificate) work is (assembly, (bytes, agrees, holds), (stated, seen, (commands, found, same))) =
     (subst IsAskedFor same (is, (machine.codes, is.codes, (bytes, holds.holds.defines))), λ none. absurd cc)
 
 -- the same, of the work that a command line leads to
@@ -249,18 +251,11 @@ some_making (JudgeCertificate machine assembly stated) (is, are, (bytes, of)) =
     )
 some_making (PlayScript machine defined commands) (is, are) =
     let (image, image_is) = some_image_of defined are in
-    let (events, text, plays) = some_play machine (start_state machine image 0o4000) commands in
-    let (moments, run) = play_runs machine (start_state machine image 0o4000) commands events text plays in
-    (text, Done, (record { image = image; image_is = image_is; events = events; moments = moments; run = run; plays = plays }, refl))
-
--- a script has one play on the words of a source
-one_play_of : (machine : Machine) (defined : List (Option PlacedWord)) (commands : List Plain) (text other : List ℕ) → IsMachine machine
-    → IsPlayOf machine defined commands text → IsPlayOf machine defined commands other → text ≡ other
-one_play_of machine defined commands text other is first second =
-    let same = one_image (placed_words defined) first.image second.image first.image_is second.image_is in
-    let plays : Plays machine (start_state machine first.image 0o4000) commands second.events other =
-    subst (λ (i : List (Option ℕ)). Plays machine (start_state machine i 0o4000) commands second.events other) (sym same) second.plays in
-    (one_play machine (start_state machine first.image 0o4000) commands first.events second.events text other is first.plays plays).1
+    let (text, shown) = some_shown machine defined commands image is image_is in
+    (text, Done, (shown, refl))
+some_making (GuardScript machine defined stated commands) (is, are) =
+    let (image, image_is) = some_image_of defined are in
+    some_guarded machine defined stated commands image is image_is
 
 one_making : (work : Work) (text other : List ℕ) (status ended : Status) → IsAskedFor work → Makes work text status → Makes work other ended → (text ≡ other) × (status ≡ ended)
 unfolding IsAskedFor
@@ -269,7 +264,9 @@ one_making (WriteText what assembly) text other status ended asked first second 
 one_making (CompareImages defined listed) text other status ended asked first second = one_comparison_of defined listed text other status ended first second
 one_making (JudgeCertificate machine assembly stated) text other status ended asked first second = one_judgement_of machine assembly stated text other status ended asked.0 first second
 one_making (PlayScript machine defined commands) text other status ended asked first second =
-    (one_play_of machine defined commands text other asked.0 first.0 second.0, first.1 ∙ sym second.1)
+    (one_shown machine defined commands text other asked.0 first.0 second.0, first.1 ∙ sym second.1)
+one_making (GuardScript machine defined stated commands) text other status ended asked first second =
+    one_guarded machine defined stated commands text other status ended asked.0 first second
 
 are_doable : AreDoable program plan_of
 are_doable = record {
@@ -296,9 +293,22 @@ unfolding IsWorkStatus
 judged_work (Certified rows cases) = tt
 judged_work (Refused refusal) = tt
 
+met_work : (met : Met) → IsWorkStatus (met_status met)
+unfolding IsWorkStatus
+met_work Nothing = tt
+met_work _ = tt
+
+guarded_work : (machine : Machine) (image : List (Option ℕ)) (stated : Stated) (commands : List ScriptCommand) (verdict : Verdict Words) (text : List ℕ) (status : Status)
+    → IsPlayedBy machine image stated commands verdict text status → IsWorkStatus status
+unfolding IsWorkStatus
+guarded_work machine image stated commands (Certified rows cases) text status played = subst IsWorkStatus (sym played.status_is) (met_work played.met)
+guarded_work machine image stated commands (Refused refusal) text status played = subst IsWorkStatus (sym played.1) tt
+
 made_status : (work : Work) (text : List ℕ) (status : Status) → Makes work text status → IsWorkStatus status
 unfolding IsWorkStatus
 made_status (JudgeCertificate machine assembly stated) text status made = subst IsWorkStatus (sym made.status_is) (judged_work made.verdict)
+made_status (GuardScript machine defined stated commands) text status made =
+    guarded_work machine made.image stated commands made.verdict text status made.played
 made_status (CompareImages defined listed) text status made = subst IsWorkStatus (sym made.status_is) (compared_work made.compared)
 made_status NoForm text status made = subst IsWorkStatus (sym made.1) tt
 made_status _ text status made = subst IsWorkStatus (sym made.1) tt

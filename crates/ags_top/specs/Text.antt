@@ -1,5 +1,5 @@
 -- The lines that the program prints of its own.
-use Rattle.std.specs.Prelude.{ℕ, List, ◌++◌, Option, Some, None, codes}
+use Rattle.std.specs.Prelude.{ℕ, List, [], ◌++◌, Option, Some, None, codes}
 use Rattle.ags_text.specs.Numeral.{octal4_text, octal6_text}
 use Rattle.ags_certtext.specs.declared.cert_error.CertError.{CertError}
 use Rattle.ags_certtext.specs.FaultText as certificate
@@ -14,8 +14,10 @@ use Rattle.ags_machfile.specs.FaultText as machine
 use Rattle.ags_verdict.specs.VerdictText.{verdict_text}
 use Rattle.ags_verdict.specs.declared.verdicts.Verdict.{Verdict}
 use Rattle.ags_domain.specs.declared.values.Value.{Value}
-use Rattle.ags_run.specs.declared.script_error.ScriptError.{ScriptError}
-use Rattle.ags_run.specs.FaultText.{error_text}
+use Rattle.ags_script.specs.declared.script_errors.ScriptError.{ScriptError}
+use Rattle.ags_script.specs.FaultText.{error_text}
+use Rattle.ags_play.specs.OutsideText.{met_text}
+use Rattle.ags_play.specs.Played.{Met, Nothing}
 
 -- the arguments are none of the forms
 abbrev pub words_line : List ℕ
@@ -55,3 +57,8 @@ compared_line (Differs location left right) =
 -- the verdict of a certificate
 abbrev pub verdict_line : Verdict Value → List ℕ
 verdict_line verdict = verdict_text verdict ++ codes "\n"
+
+-- what a play met, where it met something
+abbrev pub met_line : Met → List ℕ
+met_line Nothing = []
+met_line met = met_text met ++ codes "\n"

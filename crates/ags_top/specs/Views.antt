@@ -12,7 +12,7 @@ use Rattle.ags_listing.specs.Reads.{IsFaultyListing}
 use Rattle.ags_machfile.specs.MachineFile.{machine_of}
 use Rattle.ags_plan.specs.declared.unloaded.Unloaded.{Unloaded}
 use Rattle.ags_plan.specs.declared.unloaded.Unloaded.TheVariants.{Refused, NoMemory}
-use Rattle.ags_run.specs.Playable.{IsPlayable}
+use Rattle.ags_script.specs.Script.{IsReadFor}
 use Rattle.ags_top.specs.declared.command.Command.{Command}
 use Rattle.ags_top.specs.declared.command.Command.TheVariants as named
 use Rattle.ags_top.specs.declared.command.CommandLine.{CommandLine}
@@ -34,6 +34,7 @@ command_view (named.Write text source) = asked.Write text source.now
 command_view (named.Compare source listing) = asked.Compare source.now listing.now
 command_view (named.Certify source certificate) = asked.Certify source.now certificate.now
 command_view (named.Run source script) = asked.Run source.now script.now
+command_view (named.Guard source script certificate) = asked.Guard source.now script.now certificate.now
 
 -- and a command line
 abbrev pub line_view : CommandLine → asked.CommandLine
@@ -49,7 +50,8 @@ work_of loaded.NoForm = work.NoForm
 work_of (loaded.WriteText text source) = work.WriteText text (assembly_of source)
 work_of (loaded.CompareImages made listed) = work.CompareImages (map defined made.cards.items) listed
 work_of (loaded.JudgeCertificate machine source cert) = work.JudgeCertificate machine (assembly_of source) cert
-work_of (loaded.PlayScript machine made commands) = work.PlayScript machine (map defined made.cards.items) commands.items
+work_of (loaded.PlayScript machine made script) = work.PlayScript machine (map defined made.cards.items) script
+work_of (loaded.GuardScript machine made cert script) = work.GuardScript machine (map defined made.cards.items) cert script
 
 -- the image has exactly the words of the cards
 abbrev pub HasImage : Assembled → Type 0
@@ -101,7 +103,8 @@ IsReady loaded.NoForm = Unit {0}
 IsReady (loaded.WriteText text source) = IsReadSource source
 IsReady (loaded.CompareImages made listed) = HasImage made
 IsReady (loaded.JudgeCertificate machine source cert) = IsReadSource source
-IsReady (loaded.PlayScript machine made commands) = HasImage made × IsPlayable machine commands.items
+IsReady (loaded.PlayScript machine made script) = HasImage made × IsReadFor machine script
+IsReady (loaded.GuardScript machine made cert script) = HasImage made × IsReadFor machine script
 
 -- the line of a refusal
 abbrev pub line_of : Refusal → List ℕ

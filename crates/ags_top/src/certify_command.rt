@@ -51,7 +51,7 @@ pub(crate) fn load_certification<'a, S: Shelf>(
 }
 
 /// The line of a verdict.
-fn verdict_line(alloc: Global, verdict: &Verdict<Value>) -> Result<String, AllocError>
+pub(crate) fn verdict_line(alloc: Global, verdict: &Verdict<Value>) -> Result<String, AllocError>
     ensures { IfOk result (λ line. string_bytes line ≡ verdict_line verdict.now) }
 {
     format!(in alloc; "{verdict}\n")

@@ -39,6 +39,15 @@ pub(crate) enum Command<'a> {
         /// The name of the script.
         script: &'a str,
     },
+    /// What a script shows of that machine under a certificate as its guard, where it is accepted for those words.
+    Guard {
+        /// The name of the source.
+        source: &'a str,
+        /// The name of the script.
+        script: &'a str,
+        /// The name of the certificate.
+        certificate: &'a str,
+    },
 }
 
 /// What a command line asks for.
@@ -131,6 +140,23 @@ fn read_run(names: &[String]) -> Option<CommandLine<'_>>
     }
 }
 
+/// What `guard` and these names ask for.
+fn read_guard(names: &[String]) -> Option<CommandLine<'_>>
+    ensures { option_map line_view result ≡ asked.three_names asked.Guard (map string_bytes names.now) }
+{
+    match names {
+        [source, script, certificate, behind @ ..] => line_with(
+            Command::Guard {
+                source: source.as_str(),
+                script: script.as_str(),
+                certificate: certificate.as_str(),
+            },
+            behind,
+        ),
+        _ => None,
+    }
+}
+
 /// What a verb and the names behind it ask for.
 fn read_names<'a>(verb: &str, names: &'a [String]) -> Option<CommandLine<'a>>
     ensures { option_map line_view result ≡ asked.line_named asked.forms verb.now (map string_bytes names.entry.now) }
@@ -142,6 +168,7 @@ fn read_names<'a>(verb: &str, names: &'a [String]) -> Option<CommandLine<'a>>
         "xref" => read_write(SourceText::CrossReference, names),
         "certify" => read_certify(names),
         "run" => read_run(names),
+        "guard" => read_guard(names),
         _ => None,
     }
 }

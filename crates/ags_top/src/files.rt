@@ -8,7 +8,7 @@ ghost use Rattle.ags_listing.specs.Reads.{Reads};
 ghost use Rattle.ags_machfile.specs.MachineFile.{machine_of};
 ghost use Rattle.ags_outside.specs.Count.{HasCause};
 ghost use Rattle.ags_plan.specs.Loading.{LoadsFile, end_of, is_absence, is_read_fault};
-ghost use Rattle.ags_run.specs.Playable.{IsPlayable};
+ghost use Rattle.ags_script.specs.Script.{IsReadFor};
 ghost use Rattle.ags_top.specs.Files as file;
 ghost use Rattle.ags_top.specs.Program.{program};
 ghost use Rattle.ags_top.specs.Views.{IsCertificateUnread, IsListingUnread, IsMachineUnread, IsSourceRead, IsSourceUnread, assembly_of, line_of, status_of};
@@ -25,7 +25,7 @@ use ags_machfile::{MACHINE_LIMIT, MachError};
 use ags_outside::Shelf;
 use ags_plan::{Unloaded, fetch_file};
 use ags_ports::Machine;
-use ags_run::{Plain, SCRIPT_LIMIT, ScriptError, read_plain};
+use ags_script::{SCRIPT_LIMIT, Script, ScriptError};
 use std::alloc::Global;
 
 /// A source that was read: its bytes, and what was made of them.
@@ -175,16 +175,16 @@ pub(crate) fn load_script<'a, S: Shelf>(
     machine: &Machine,
     name: &'a str,
     shelf: &mut S,
-) -> Result<Vec<Plain>, Unloaded<'a, Refusal>>
+) -> Result<Script, Unloaded<'a, Refusal>>
     ensures same { S.told shelf.new ≡ S.told shelf.old }
-    ensures loads { LoadsFile program (S.told shelf.old) (file.Script machine.now) name.entry.now (result_map_both (λ commands. commands.items) (end_of program line_of status_of) result) }
-    ensures ready { IfOk result (λ commands. IsPlayable machine.now commands.items) }
+    ensures loads { LoadsFile program (S.told shelf.old) (file.Script machine.now) name.entry.now (result_map_both (λ script. script) (end_of program line_of status_of) result) }
+    ensures ready { IfOk result (IsReadFor machine.now) }
     ensures faults { HasCause (S.faults shelf.old) (S.faults shelf.new) (is_read_fault result) }
     ensures absences { HasCause (S.absences shelf.old) (S.absences shelf.new) (is_absence result) }
 {
     let bytes = fetch_file(alloc, shelf, name, SCRIPT_LIMIT as u64)?;
-    match read_plain(alloc, &bytes, machine) {
-        Ok(commands) => Ok(commands),
+    match ags_script::read(alloc, &bytes, machine) {
+        Ok(script) => Ok(script),
         Err(ScriptError::NoMemory) => Err(Unloaded::NoMemory),
         Err(error) => Err(Unloaded::Refused(Refusal::Script(error))),
     }

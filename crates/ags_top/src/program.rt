@@ -18,6 +18,7 @@ use crate::certify_command::{judge_certificate, load_certification};
 use crate::command::{Command, CommandLine, read_line};
 use crate::compare_command::{compare_images, load_comparison};
 use crate::files::load_machine;
+use crate::guard_command::{guard_script, load_guarded};
 use crate::refusal::Refusal;
 use crate::run_command::{load_play, play_script};
 use crate::status::Status;
@@ -63,6 +64,11 @@ fn load_command<'a, S: Shelf>(
             certificate,
         } => load_certification(alloc, machine, source, certificate, shelf),
         Command::Run { source, script } => load_play(alloc, machine, source, script, shelf),
+        Command::Guard {
+            source,
+            script,
+            certificate,
+        } => load_guarded(alloc, machine, source, script, certificate, shelf),
     }
 }
 
@@ -162,8 +168,14 @@ impl Program for Ags {
             Work::PlayScript {
                 machine,
                 made,
-                commands,
-            } => play_script(alloc, machine, made, commands, out),
+                script,
+            } => play_script(alloc, machine, made, script, out),
+            Work::GuardScript {
+                machine,
+                made,
+                cert,
+                script,
+            } => guard_script(alloc, machine, made, cert, script, out),
         }
     }
 

@@ -9,7 +9,7 @@ use ags_asm::SourceError;
 use ags_certtext::CertError;
 use ags_listing::ListError;
 use ags_machfile::MachError;
-use ags_run::ScriptError;
+use ags_script::ScriptError;
 use std::alloc::{AllocError, Global};
 
 /// Why a file is refused: the first fault of its text.

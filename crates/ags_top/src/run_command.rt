@@ -8,7 +8,7 @@ ghost use Rattle.ags_outside.specs.Send.{is_write_fault};
 ghost use Rattle.ags_plan.specs.Loading.{Loads, end_of, is_absence, is_read_fault};
 ghost use Rattle.ags_plan.specs.Plan.{WorkAt};
 ghost use Rattle.ags_plan.specs.Saying.{Says};
-ghost use Rattle.ags_run.specs.Playable.{IsPlayable};
+ghost use Rattle.ags_script.specs.Script.{IsReadFor};
 ghost use Rattle.ags_top.specs.Command as command;
 ghost use Rattle.ags_top.specs.Program.{program, command_plan};
 ghost use Rattle.ags_top.specs.Views.{HasImage, IsReady, line_of, status_of, work_of};
@@ -22,7 +22,8 @@ use ags_asm::Assembled;
 use ags_outside::{SendError, Shelf, Sink};
 use ags_plan::Unloaded;
 use ags_ports::Machine;
-use ags_run::{Plain, PlayError, play_plain};
+use ags_run::{PlayError, play};
+use ags_script::Script;
 use std::alloc::Global;
 
 /// Loads the source and the script of these names, to be played on a machine.
@@ -40,11 +41,11 @@ pub(crate) fn load_play<'a, S: Shelf>(
     ensures absences { HasCause (S.absences shelf.old) (S.absences shelf.new) (is_absence result) }
 {
     let source = load_source(alloc, &machine, source, shelf)?;
-    let commands = load_script(alloc, &machine, script, shelf)?;
+    let script = load_script(alloc, &machine, script, shelf)?;
     Ok(Work::PlayScript {
         machine,
         made: source.made,
-        commands,
+        script,
     })
 }
 
@@ -53,17 +54,20 @@ pub(crate) fn play_script<K: Sink>(
     alloc: Global,
     machine: &Machine,
     made: &Assembled,
-    commands: &[Plain],
+    script: &Script,
     out: &mut K,
 ) -> Result<Status, SendError>
     requires image { HasImage made.now }
-    requires playable { IsPlayable machine.now commands.now }
-    ensures says { Says program (WorkAt (work.PlayScript machine.now (map defined made.now.cards.items) commands.now)) (K.told out.old) (K.told out.new) result }
+    requires script { IsReadFor machine.now script.now }
+    ensures says { Says program (WorkAt (work.PlayScript machine.now (map defined made.now.cards.items) script.now)) (K.told out.old) (K.told out.new) result }
     ensures faults { HasCause (K.faults out.old) (K.faults out.new) (is_write_fault result) }
 {
-    match play_plain(alloc, machine, &made.image, commands, out) {
+    match play(alloc, machine, &made.image, script, None, out) {
         Ok(_) => Ok(Status::Done),
         Err(PlayError::WriteFault) => Err(SendError::WriteFault),
         Err(PlayError::NoMemory) => Err(SendError::NoMemory),
+        // Without a guard nothing is outside.
+        Err(PlayError::StartOutside(_)) => unreachable!(),
+        Err(PlayError::InputRange { .. }) => unreachable!(),
     }
 }

@@ -8,7 +8,8 @@ ghost use Rattle.std.specs.Prelude.{◌≡◌};
 pub enum Status {
     /// The work is done.
     Done,
-    /// The answer is no: the words of a source and of a listing differ, or a certificate is refused by its verdict.
+    /// The answer is no: the words of a source and of a listing differ, a certificate is refused by its verdict, or a play meets a
+    /// start or a word that its guard doesn't declare.
     No,
     /// The source has a fault.
     BadSource,

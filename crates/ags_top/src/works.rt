@@ -6,7 +6,7 @@ use ags_asm::Assembled;
 use ags_cert::Cert;
 use ags_image::Image;
 use ags_ports::Machine;
-use ags_run::Plain;
+use ags_script::Script;
 
 /// What is loaded for a command line.
 #[derive(Drop)]
@@ -42,7 +42,18 @@ pub(crate) enum Work {
         machine: Machine,
         /// What was made of the source.
         made: Assembled,
-        /// The script's commands.
-        commands: Vec<Plain>,
+        /// The script.
+        script: Script,
+    },
+    /// A certificate is judged for a source's words, and, where it is certified, a script is played with it as the guard.
+    GuardScript {
+        /// The machine.
+        machine: Machine,
+        /// What was made of the source.
+        made: Assembled,
+        /// The certificate.
+        cert: Cert,
+        /// The script.
+        script: Script,
     },
 }

@@ -16,19 +16,19 @@ returns-in_err-source-clause-loads g c =
     (λ assembly. Read (Script c.args.machine) c.args.script.now (λ commands. Do (PlayScript c.args.machine assembly.defined commands)))
     (end_of program line_of status_of c.in_err-source.field-0.0) c.in_err-source.ensures.loads)
 
-pub returns-in_err-commands-clause-loads : goal.returns-in_err-commands-clause-loads
-returns-in_err-commands-clause-loads g c =
-    let p = err_from_is_err_and c.from_residual-in_err-commands.result c.from_residual-in_err-commands.ensures.1 in
+pub returns-in_err-script-clause-loads : goal.returns-in_err-script-clause-loads
+returns-in_err-script-clause-loads g c =
+    let p = err_from_is_err_and c.from_residual-in_err-script.result c.from_residual-in_err-script.ensures.1 in
     rw (p.1, p.2) (second_stops (g.S.Shelf.told c.args.shelf.now) (g.S.Shelf.told c.load_source.new.shelf) c.args.machine c.args.source.now c.args.script.now (Script c.args.machine)
     (λ assembly commands. PlayScript c.args.machine assembly.defined commands) (assembly_of c.in_ok-source.source) c.in_ok-source.ensures.loads c.in_ok-source.ensures.same
-    (end_of program line_of status_of c.in_err-commands.field-0.0) c.in_err-commands.ensures.loads)
+    (end_of program line_of status_of c.in_err-script.field-0.0) c.in_err-script.ensures.loads)
 
 pub returns-clause-loads : goal.returns-clause-loads
 returns-clause-loads g c =
     both_load (g.S.Shelf.told c.args.shelf.now) (g.S.Shelf.told c.load_source.new.shelf) c.args.machine c.args.source.now c.args.script.now (Script c.args.machine)
     (λ assembly commands. PlayScript c.args.machine assembly.defined commands) (assembly_of c.in_ok-source.source) c.in_ok-source.ensures.loads c.in_ok-source.ensures.same
-    c.in_ok-commands.commands.items c.in_ok-commands.ensures.loads
+    c.in_ok-script.script c.in_ok-script.ensures.loads
 
 pub returns-clause-ready : goal.returns-clause-ready
 returns-clause-ready g c =
-    (c.in_ok-source.ensures.ready.image, c.in_ok-commands.ensures.ready)
+    (c.in_ok-source.ensures.ready.image, c.in_ok-script.ensures.ready)

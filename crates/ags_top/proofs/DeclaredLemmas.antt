@@ -1,0 +1,96 @@
+-- What is played under a certificate that is certified is a run of it.
+use Rattle.std.proofs.Common.{◌≡◌, ℕ, List, ◌++◌, Option, Some, sym, ap, subst, ◌∙◌, ◌⊎◌, inl, inr}
+use Rattle.ags_outside.specs.ToldFile.{Stored}
+use Rattle.ags_plan.specs.Walk.{Told, Agrees, LeadsTo}
+use Rattle.ags_plan.proofs.WalkLemmas.{told_bytes}
+use Rattle.ags_asm.specs.Source.{Defines}
+use Rattle.ags_cert.specs.Cert.{Stated, certificate_of}
+use Rattle.ags_certread.proofs.SuitLemmas.{suits}
+use Rattle.ags_certtext.specs.Text.{IsCertOf}
+use Rattle.ags_domain.specs.Value.{value_meaning}
+use Rattle.ags_domain.specs.MeaningLaws.{value_lawful}
+use Rattle.ags_domain.specs.declared.values.Value.{Value}
+use Rattle.ags_image.specs.Image.{IsImage}
+use Rattle.ags_ports.specs.declared.machines.Machine.{Machine}
+use Rattle.ags_ports.specs.Machine.{IsMachine}
+use Rattle.ags_play.specs.Played.{Met, IsPlayOf}
+use Rattle.ags_play.proofs.RunOfLemmas.{play_is_run, nothing_is_played}
+use Rattle.ags_safe.proofs.RunLemmas.{safe}
+use Rattle.ags_script.specs.declared.commands.Command.{Command}
+use Rattle.ags_script.specs.Script.{IsScript, IsReadFor}
+use Rattle.ags_verdict.specs.Verdict.{IsVerdict}
+use Rattle.ags_verdict.specs.declared.verdicts.Verdict.{Verdict}
+use Rattle.ags_verdict.specs.declared.verdicts.Verdict.TheVariants.{Certified, Refused}
+use Rattle.ags_verdict.proofs.VerdictLemmas.{accepted_of, counted_of}
+use Rattle.ags_top.specs.declared.status.Status.{Status}
+use Rattle.ags_top.specs.Command.{Guard}
+use Rattle.ags_top.specs.Outcome.{IsGuardedOn, IsRefusedFor, IsDeclaredPlay, IsDeclaredOn}
+use Rattle.ags_top.specs.Program.{program, command_plan}
+use Rattle.ags_top.specs.Text.{met_line, verdict_line}
+use Rattle.ags_top.specs.Work.{Work, IsGuardedPlay, IsPlayedBy, Makes}
+use Rattle.ags_top.specs.Borrowed.{settable}
+
+-- the play of a told script on a told source under a told certificate
+pub guarded_told : (told : Told) (machine : Machine) (source script certificate source_bytes script_bytes certificate_bytes text : List ℕ) (status : Status) (work : Work)
+    → told source ≡ Stored source_bytes → told script ≡ Stored script_bytes → told certificate ≡ Stored certificate_bytes
+    → LeadsTo program Agrees told (command_plan machine (Guard source script certificate)) work → Makes work text status
+    → IsGuardedOn machine source_bytes script_bytes certificate_bytes text status
+guarded_told told machine source script certificate source_bytes script_bytes certificate_bytes text status work is also too
+    (assembly, (there, agrees, holds), (stated, (read, seen, has), (commands, (found, sight, suit), same))) makes = record {
+      defined = assembly.defined;
+      defines = subst (λ (b : List ℕ). Defines machine.codes b assembly.defined) (told_bytes (told source) source_bytes there is agrees) holds.holds.defines;
+      cert = stated;
+      is_cert = subst (λ (b : List ℕ). IsCertOf machine.ports b stated) (told_bytes (told certificate) certificate_bytes read too seen) has.holds;
+      commands = commands;
+      is_script = subst (λ (b : List ℕ). IsScript machine b commands) (told_bytes (told script) script_bytes found also sight) suit.holds;
+      guarded = subst (λ (w : Work). Makes w text status) (sym same) makes;
+    }
+
+module _ (machine : Machine) (image : List (Option ℕ)) (certificate : List ℕ) (cert : Stated) (commands : List Command) (text : List ℕ) (status : Status)
+    (machine_is : IsMachine machine) (image_is : IsImage image) (is_cert : IsCertOf machine.ports certificate cert) (read : IsReadFor machine commands) where
+  -- what is played where the certificate is certified
+  declared_play : (rows cases : ℕ) → IsVerdict value_meaning machine image (certificate_of cert) (Certified rows cases)
+      → IsGuardedPlay machine image cert commands (Certified rows cases) text status → IsDeclaredPlay machine image cert commands text status
+  declared_play rows cases certified played =
+      let counted = counted_of value_meaning machine image (certificate_of cert) rows cases certified in
+      let accepted = accepted_of value_meaning machine image (certificate_of cert) rows cases certified in
+      let certificate_is = is_cert.is_stated.is_cert.certificate in record {
+        accepted = accepted;
+        safe = safe value_meaning value_lawful machine image (certificate_of cert) machine_is certificate_is (suits machine certificate cert is_cert) accepted;
+        events = played.events;
+        shown = played.shown;
+        met = played.met;
+        plays = played.plays;
+        run = play_is_run machine image (certificate_of cert) commands played.events played.shown played.met image_is certificate_is.start (settable machine commands read) played.plays;
+        nothing = λ outside same. nothing_is_played machine image (certificate_of cert) commands played.events played.shown outside
+            (subst (λ (m : Met). IsPlayOf machine image (Some (certificate_of cert)) commands played.events played.shown m) same played.plays);
+        cases = cases;
+        text_is = played.text_is ∙ ap (λ (n : ℕ). verdict_line (Certified n cases) ++ played.shown ++ met_line played.met) counted.0;
+        status_is = played.status_is;
+      }
+
+  -- by the verdict
+  by_verdict : (verdict : Verdict Value) → IsVerdict value_meaning machine image (certificate_of cert) verdict → IsPlayedBy machine image cert commands verdict text status
+      → IsRefusedFor machine image cert text status ⊎ IsDeclaredPlay machine image cert commands text status
+  by_verdict (Certified rows cases) certified played = inr (declared_play rows cases certified played)
+  by_verdict (Refused refusal) refused played = inl (record { refusal = refusal; is_verdict = refused; text_is = played.0; status_is = played.1 })
+
+-- what is guarded is a run of the certificate, or refused
+pub declared_of : (machine : Machine) (source script certificate text : List ℕ) (status : Status) → IsMachine machine → IsGuardedOn machine source script certificate text status
+    → IsDeclaredOn machine source script certificate text status
+declared_of machine source script certificate text status machine_is is =
+    let guarded = is.guarded in record {
+      defined = is.defined;
+      defines = is.defines;
+      image = guarded.image;
+      image_is = guarded.image_is;
+      cert = is.cert;
+      is_cert = is.is_cert;
+      commands = is.commands;
+      is_script = is.is_script;
+      comes = by_verdict machine guarded.image certificate is.cert is.commands text status machine_is guarded.image_is.is_image is.is_cert
+          (record { text = script; is_script = is.is_script })
+          guarded.verdict
+          guarded.is_verdict
+          guarded.played;
+    }

@@ -1,0 +1,135 @@
+//! The command `guard`: what a script shows of the machine that begins with a source's words, under a certificate that is accepted
+//! for them.
+
+ghost use Rattle.std.specs.Prelude.{◌≡◌, ◌++◌, IfOk, OnOk, OnErr, codes, map};
+ghost use Rattle.std.specs.Result.{result_map_both};
+ghost use Rattle.std.specs.String.{string_bytes};
+ghost use Rattle.ags_asm.specs.Source.{defined};
+ghost use Rattle.ags_outside.specs.Count.{HasCause};
+ghost use Rattle.ags_outside.specs.Send.{is_write_fault};
+ghost use Rattle.ags_outside.specs.Sink.{WroteFront, appended};
+ghost use Rattle.ags_plan.specs.Loading.{Loads, end_of, is_absence, is_read_fault};
+ghost use Rattle.ags_plan.specs.Plan.{WorkAt};
+ghost use Rattle.ags_plan.specs.Saying.{Says};
+ghost use Rattle.ags_run.specs.ErrorText.{error_text};
+ghost use Rattle.ags_script.specs.Script.{IsReadFor};
+ghost use Rattle.ags_top.specs.Command as command;
+ghost use Rattle.ags_top.specs.Guarding.{Guards};
+ghost use Rattle.ags_top.specs.Program.{program, command_plan};
+ghost use Rattle.ags_top.specs.Views.{HasImage, IsReady, line_of, status_of, work_of};
+ghost use Rattle.ags_top.specs.Work as work;
+
+use crate::certify_command::verdict_line;
+use crate::files::{load_certificate, load_script, load_source};
+use crate::refusal::Refusal;
+use crate::status::Status;
+use crate::works::Work;
+use ags_asm::Assembled;
+use ags_cert::Cert;
+use ags_check::{Verdict, check};
+use ags_image::Image;
+use ags_outside::{SendError, Shelf, Sink, send};
+use ags_plan::Unloaded;
+use ags_ports::Machine;
+use ags_ports::laws::machine_is_made_of_tables;
+use ags_run::{PlayError, play};
+use ags_script::Script;
+use std::alloc::{AllocError, Global};
+
+/// Loads the source, the certificate and the script of these names, in this order, to be guarded on a machine.
+pub(crate) fn load_guarded<'a, S: Shelf>(
+    alloc: Global,
+    machine: Machine,
+    source: &'a str,
+    script: &'a str,
+    certificate: &'a str,
+    shelf: &mut S,
+) -> Result<Work, Unloaded<'a, Refusal>>
+    ensures loads { Loads program (S.told shelf.old) (command_plan machine (command.Guard source.entry.now script.entry.now certificate.entry.now))
+        (result_map_both work_of (end_of program line_of status_of) result) }
+    ensures ready { IfOk result IsReady }
+    ensures faults { HasCause (S.faults shelf.old) (S.faults shelf.new) (is_read_fault result) }
+    ensures absences { HasCause (S.absences shelf.old) (S.absences shelf.new) (is_absence result) }
+{
+    let source = load_source(alloc, &machine, source, shelf)?;
+    let cert = load_certificate(alloc, &machine, certificate, shelf)?;
+    let script = load_script(alloc, &machine, script, shelf)?;
+    Ok(Work::GuardScript {
+        machine,
+        made: source.made,
+        cert,
+        script,
+    })
+}
+
+/// The line of what a play met.
+fn met_line(alloc: Global, error: PlayError) -> Result<String, AllocError>
+    ensures { IfOk result (λ line. string_bytes line ≡ error_text error ++ codes "\n") }
+{
+    format!(in alloc; "{error}\n")
+}
+
+/// Says what a play met that its guard doesn't declare.
+fn say_met<K: Sink>(alloc: Global, error: PlayError, out: &mut K) -> Result<Status, SendError>
+    ensures ended { IfOk result (λ status. status ≡ Status.No) }
+    ensures sent { OnOk result (K.told out.new ≡ appended (K.told out.old) (error_text error ++ codes "\n")) }
+    ensures front { OnErr result (WroteFront (K.told out.old) (K.told out.new) (error_text error ++ codes "\n")) }
+    ensures faults { HasCause (K.faults out.old) (K.faults out.new) (is_write_fault result) }
+{
+    let Ok(line) = met_line(alloc, error) else {
+        return Err(SendError::NoMemory);
+    };
+    send(out, line.as_bytes())?;
+    Ok(Status::No)
+}
+
+/// Plays a script with a certificate as its guard, and says what the play met.
+fn play_guarded<K: Sink>(
+    alloc: Global,
+    machine: &Machine,
+    image: &Image,
+    cert: &Cert,
+    script: &Script,
+    out: &mut K,
+) -> Result<Status, SendError>
+    requires { IsReadFor machine.now script.now }
+    ensures guards { Guards machine.now image.now cert.now script.now (K.told out.old) (K.told out.new) result }
+    ensures faults { HasCause (K.faults out.old) (K.faults out.new) (is_write_fault result) }
+{
+    match play(alloc, machine, image, script, Some(cert), out) {
+        Ok(_) => Ok(Status::Done),
+        Err(error) => match error {
+            PlayError::WriteFault => Err(SendError::WriteFault),
+            PlayError::NoMemory => Err(SendError::NoMemory),
+            PlayError::StartOutside(_) => say_met(alloc, error, out),
+            PlayError::InputRange { .. } => say_met(alloc, error, out),
+        },
+    }
+}
+
+/// Says the verdict of a certificate for a source's words, and, where it is certified, plays a script on them with the certificate as
+/// its guard.
+pub(crate) fn guard_script<K: Sink>(
+    alloc: Global,
+    machine: &Machine,
+    made: &Assembled,
+    cert: &Cert,
+    script: &Script,
+    out: &mut K,
+) -> Result<Status, SendError>
+    requires image { HasImage made.now }
+    requires script { IsReadFor machine.now script.now }
+    ensures says { Says program (WorkAt (work.GuardScript machine.now (map defined made.now.cards.items) cert.now script.now)) (K.told out.old) (K.told out.new) result }
+    ensures faults { HasCause (K.faults out.old) (K.faults out.new) (is_write_fault result) }
+{
+    machine_is_made_of_tables(machine);
+    let verdict = check(machine, &made.image, cert);
+    let Ok(line) = verdict_line(alloc, &verdict) else {
+        return Err(SendError::NoMemory);
+    };
+    send(out, line.as_bytes())?;
+    match verdict {
+        Verdict::Certified { .. } => play_guarded(alloc, machine, &made.image, cert, script, out),
+        Verdict::Refused(_) => Ok(Status::No),
+    }
+}
