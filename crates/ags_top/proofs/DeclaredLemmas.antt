@@ -18,6 +18,8 @@ use Rattle.ags_play.proofs.RunOfLemmas.{play_is_run, nothing_is_played}
 use Rattle.ags_safe.proofs.RunLemmas.{safe}
 use Rattle.ags_script.specs.declared.commands.Command.{Command}
 use Rattle.ags_script.specs.Script.{IsScript, IsReadFor}
+use Rattle.ags_script.proofs.SuitingLaws.{read_suits}
+use Rattle.ags_play.specs.Begun.{AreSettable}
 use Rattle.ags_verdict.specs.Verdict.{IsVerdict}
 use Rattle.ags_verdict.specs.declared.verdicts.Verdict.{Verdict}
 use Rattle.ags_verdict.specs.declared.verdicts.Verdict.TheVariants.{Certified, Refused}
@@ -28,7 +30,6 @@ use Rattle.ags_top.specs.Outcome.{IsGuardedOn, IsRefusedFor, IsDeclaredPlay, IsD
 use Rattle.ags_top.specs.Program.{program, command_plan}
 use Rattle.ags_top.specs.Text.{met_line, verdict_line}
 use Rattle.ags_top.specs.Work.{Work, IsGuardedPlay, IsPlayedBy, Makes}
-use Rattle.ags_top.specs.Borrowed.{settable}
 
 -- the play of a told script on a told source under a told certificate
 pub guarded_told : (told : Told) (machine : Machine) (source script certificate source_bytes script_bytes certificate_bytes text : List ℕ) (status : Status) (work : Work)
@@ -45,6 +46,12 @@ guarded_told told machine source script certificate source_bytes script_bytes ce
       is_script = subst (λ (b : List ℕ). IsScript machine b commands) (told_bytes (told script) script_bytes found also sight) suit.holds;
       guarded = subst (λ (w : Work). Makes w text status) (sym same) makes;
     }
+
+-- what a script that was read sets and puts are locations and words
+settable : (machine : Machine) (commands : List Command) → IsReadFor machine commands → AreSettable commands
+settable machine commands read =
+    let suits = read_suits machine commands read in
+    record { locations = suits.locations; words = suits.words }
 
 module _ (machine : Machine) (image : List (Option ℕ)) (certificate : List ℕ) (cert : Stated) (commands : List Command) (text : List ℕ) (status : Status)
     (machine_is : IsMachine machine) (image_is : IsImage image) (is_cert : IsCertOf machine.ports certificate cert) (read : IsReadFor machine commands) where

@@ -73,7 +73,10 @@ way_of_command : (told : Told) (machine_file : Option (List ℕ)) (command : Com
 way_of_command told None command work leads = (standard_machine, refl, IsMachine-standard, leads)
 way_of_command told (Some name) command work (machine, (bytes, agrees, holds), leads) = (
   machine,
-  λ stored is. subst (λ (b : List ℕ). machine_of b ≡ Ok machine) (told_bytes (told name) stored bytes is agrees) holds.holds,
+  (
+    machine_of-IsMachine bytes machine holds.holds,
+    λ stored is. subst (λ (b : List ℕ). machine_of b ≡ Ok machine) (told_bytes (told name) stored bytes is agrees) holds.holds,
+  ),
   machine_of-IsMachine bytes machine holds.holds,
   leads,
 )

@@ -17,7 +17,7 @@ use Rattle.ags_top.specs.PlayLaws.{run_of_play}
 use Rattle.ags_top.specs.Program.{program}
 use Rattle.ags_top.specs.Views.{HasImage}
 use Rattle.ags_top.specs.Work.{PlayScript, IsShownBy}
-use Rattle.ags_top.specs.Borrowed.{unguarded}
+use Rattle.ags_play.proofs.UnguardedLemmas.{unguarded}
 
 module _ (machine : Machine) (made : Assembled) (commands : List Command) (old new : Option (List ℕ)) (image : HasImage made) where
   shown_by : (events : List Event) (text : List ℕ) → IsPlayOf machine made.image None commands events text Nothing → IsShownBy machine (map defined made.cards.items) commands text

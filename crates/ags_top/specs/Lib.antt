@@ -8,7 +8,6 @@ pub mod Status
 pub mod Text
 pub mod Work
 -- what serves inside
-pub mod Borrowed
 pub mod Guarding
 pub mod PlayLaws
 pub mod ProgramLaws

@@ -24,7 +24,7 @@ use Rattle.ags_machfile.specs.declared.reading.TheConstants.{MACHINE_LIMIT}
 use Rattle.ags_machfile.specs.MachineFile.{machine_of}
 use Rattle.ags_ports.specs.declared.events.Event.{Event}
 use Rattle.ags_ports.specs.declared.machines.Machine.{Machine}
-use Rattle.ags_ports.specs.Machine.{standard_machine}
+use Rattle.ags_ports.specs.Machine.{IsMachine, standard_machine}
 use Rattle.ags_safe.specs.Accepted.{Accepted}
 use Rattle.ags_safe.specs.Safe.{Safe}
 use Rattle.ags_verdict.specs.Verdict.{IsVerdict}
@@ -56,11 +56,11 @@ EndsWith result status = plan.EndsWith program result status
 
 -- ---- the work that is done
 
--- The machine that a command line is for: the standard one where no file is named, and else that of the file, where the shelf
--- tells it.
+-- The machine that a command line is for: the standard one where no file is named, and else one of valid tables, which is that of
+-- the file where the shelf tells it.
 abbrev pub IsMachineOf : (told : Told) → Option (List ℕ) → Machine → Type 0
 IsMachineOf told None machine = machine ≡ standard_machine
-IsMachineOf told (Some name) machine = (bytes : List ℕ) → told name ≡ Stored bytes → machine_of bytes ≡ Ok machine
+IsMachineOf told (Some name) machine = IsMachine machine × ((bytes : List ℕ) → told name ≡ Stored bytes → machine_of bytes ≡ Ok machine)
 
 -- Where a run that writes a text of a source is done, and the shelf and the sink tell, the sink took exactly that text of the words
 -- that the source defines, by the codes of the machine that the command line is for.

@@ -29,7 +29,7 @@ use Rattle.ags_top.specs.declared.status.Status.{Status}
 use Rattle.ags_top.specs.declared.status.Status.TheVariants.{No}
 use Rattle.ags_top.specs.Text.{met_line, verdict_line}
 use Rattle.ags_top.specs.Work.{IsShownBy, IsPlayedBy, IsGuardedBy, met_status}
-use Rattle.ags_top.specs.Borrowed.{unguarded}
+use Rattle.ags_play.proofs.UnguardedLemmas.{unguarded}
 
 -- ---- without a guard
 
