@@ -348,11 +348,11 @@ timed_few machine limit s (moment ∷ moments) spent is timed =
     let P : ℕ → Type 0 = λ n. Run machine s (replicate n Step) front in
     let run = subst P (sym size) (run_front machine s all count timed.run (omega arith)) in
     let goes_on = λ (n : ℕ) (within : n ≤ length front).
-        let inside : n ≤ count = omega (arith, within, size) in
-        let same : take n front ≡ take n all = take-take n count all inside in
-        let there = timed.least n (omega (arith, inside)) in
-        let Q : List Moment → Type 0 = λ ms. (last_state s ms).phase ≡ Running in
-        subst Q (sym same) there.running in
+    let inside : n ≤ count = omega (arith, within, size) in
+    let same : take n front ≡ take n all = take-take n count all inside in
+    let there = timed.least n (omega (arith, inside)) in
+    let Q : List Moment → Type 0 = λ ms. (last_state s ms).phase ≡ Running in
+    subst Q (sym same) there.running in
     omega (arith, costly machine s front is run goes_on, size, before.time)
 
 -- ---- the time of a report that names no order
