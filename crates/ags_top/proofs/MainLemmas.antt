@@ -263,29 +263,41 @@ module _ (told : Told) (arguments : List (List ℕ)) (old new : Option (List ℕ
       let (machine, machine_is, valid, way) = way_asked machine_file command work asked found in
       (machine, machine_is, valid, (text, work, way, makes, sent))
 
+  -- the same of a run that ends with Done or with No: what comes of its work, over the machine of its command line
+  work_of_either : (machine_file : Option (List ℕ)) (command : Command) (Comes : Machine → (text : List ℕ) → Status → Type 0) → (result ≡ Done) ⊎ (result ≡ No)
+      → arguments ≡ line_arguments (record { command = command; machine = machine_file })
+      → ((machine : Machine) (text : List ℕ) (status : Status) (work : Work) → IsMachine machine → LeadsTo program Agrees told (command_plan machine command) work → Makes work text status
+      → Comes machine text status)
+      → (machine : Machine) × IsMachineOf told machine_file machine × ((text : List ℕ) × Comes machine text result × (new ≡ appended old text))
+  unfolding IsWorkStatus
+  work_of_either machine_file command Comes is asked comes = elim is [
+    | inl done ↦ with_status Done tt done
+    | inr refused ↦ with_status No tt refused
+  ]
+    where
+      with_status : (status : Status) → IsWorkStatus status → result ≡ status
+          → (machine : Machine) × IsMachineOf told machine_file machine × ((text : List ℕ) × Comes machine text result × (new ≡ appended old text))
+      with_status status answers ended =
+          let (machine, machine_is, valid, (text, work, way, makes, sent)) = work_with status machine_file command answers ended asked in
+          (machine, machine_is, (text, subst (Comes machine text) (sym ended) (comes machine text status work valid way makes), sent))
+
+  -- what the sink took where it tells
+  took : (held text : List ℕ) → old ≡ Some held → new ≡ appended old text → new ≡ Some (held ++ text)
+  took held text holds sent = sent ∙ ap (λ (o : Option (List ℕ)). appended o text) holds
+
   pub writes_what_is_defined : (what : SourceText) → WritesWhatIsDefined what told arguments old new result
   unfolding IsWorkStatus
   writes_what_is_defined what name bytes held machine_file is asked known holds =
       let (machine, machine_is, valid, (text, work, way, makes, sent)) = work_with Done machine_file (Write what name) tt is asked in
       let (defined, defines, text_is) = text_told told machine what name bytes text work known way makes in
-      (machine, machine_is, (defined, defines, (text, text_is, sent ∙ ap (λ (o : Option (List ℕ)). appended o text) holds)))
+      (machine, machine_is, (defined, defines, (text, text_is, took held text holds sent)))
 
   pub compares_what_is_defined : ComparesWhatIsDefined told arguments old new result
-  unfolding IsWorkStatus
-  compares_what_is_defined source listing source_bytes listing_bytes held machine_file is asked known too holds = elim is [
-    | inl done ↦ with_status Done tt done
-    | inr differ ↦ with_status No tt differ
-  ]
-    where
-      with_status : (status : Status) → IsWorkStatus status → result ≡ status → (machine : Machine) × IsMachineOf told machine_file machine
-          × ((text : List ℕ) × IsComparedOn machine source_bytes listing_bytes text result × (new ≡ Some (held ++ text)))
-      with_status status answers ended =
-          let (machine, machine_is, valid, (text, work, way, makes, sent)) = work_with status machine_file (Compare source listing) answers ended asked in
-          let compared = comparison_told told machine source listing source_bytes listing_bytes text status work known too way makes in (
-            machine,
-            machine_is,
-            (text, subst (IsComparedOn machine source_bytes listing_bytes text) (sym ended) compared, sent ∙ ap (λ (o : Option (List ℕ)). appended o text) holds),
-          )
+  compares_what_is_defined source listing source_bytes listing_bytes held machine_file is asked known too holds =
+      let (machine, machine_is, (text, compared, sent)) =
+      work_of_either machine_file (Compare source listing) (λ machine text status. IsComparedOn machine source_bytes listing_bytes text status) is asked
+      (λ machine text status work valid way makes. comparison_told told machine source listing source_bytes listing_bytes text status work known too way makes) in
+      (machine, machine_is, (text, compared, took held text holds sent))
 
   pub equals_what_is_defined : EqualsWhatIsDefined told arguments result
   unfolding IsWorkStatus
@@ -294,21 +306,11 @@ module _ (told : Told) (arguments : List (List ℕ)) (old new : Option (List ℕ
       (machine, machine_is, one_image_of machine source_bytes listing_bytes text (comparison_told told machine source listing source_bytes listing_bytes text Done work known too way makes))
 
   pub judges_what_is_defined : JudgesWhatIsDefined told arguments old new result
-  unfolding IsWorkStatus
-  judges_what_is_defined source certificate source_bytes certificate_bytes held machine_file is asked known too holds = elim is [
-    | inl done ↦ with_status Done tt done
-    | inr refused ↦ with_status No tt refused
-  ]
-    where
-      with_status : (status : Status) → IsWorkStatus status → result ≡ status → (machine : Machine) × IsMachineOf told machine_file machine
-          × ((text : List ℕ) × IsJudgedOn machine source_bytes certificate_bytes text result × (new ≡ Some (held ++ text)))
-      with_status status answers ended =
-          let (machine, machine_is, valid, (text, work, way, makes, sent)) = work_with status machine_file (Certify source certificate) answers ended asked in
-          let judged = judgement_told told machine source certificate source_bytes certificate_bytes text status work known too way makes in (
-            machine,
-            machine_is,
-            (text, subst (IsJudgedOn machine source_bytes certificate_bytes text) (sym ended) judged, sent ∙ ap (λ (o : Option (List ℕ)). appended o text) holds),
-          )
+  judges_what_is_defined source certificate source_bytes certificate_bytes held machine_file is asked known too holds =
+      let (machine, machine_is, (text, judged, sent)) =
+      work_of_either machine_file (Certify source certificate) (λ machine text status. IsJudgedOn machine source_bytes certificate_bytes text status) is asked
+      (λ machine text status work valid way makes. judgement_told told machine source certificate source_bytes certificate_bytes text status work known too way makes) in
+      (machine, machine_is, (text, judged, took held text holds sent))
 
   pub certifies_what_is_safe : CertifiesWhatIsSafe told arguments old new result
   unfolding IsWorkStatus
@@ -323,44 +325,22 @@ module _ (told : Told) (arguments : List (List ℕ)) (old new : Option (List ℕ
       let (machine, machine_is, valid, (text, work, way, makes, sent)) = work_with Done machine_file (Run source script) tt is asked in (
         machine,
         machine_is,
-        (text, play_told told machine source script source_bytes script_bytes text work known too way makes, sent ∙ ap (λ (o : Option (List ℕ)). appended o text) holds),
+        (text, play_told told machine source script source_bytes script_bytes text work known too way makes, took held text holds sent),
       )
 
   pub guards_what_is_defined : GuardsWhatIsDefined told arguments old new result
-  unfolding IsWorkStatus
-  guards_what_is_defined source script certificate source_bytes script_bytes certificate_bytes held machine_file is asked known also too holds = elim is [
-    | inl done ↦ with_status Done tt done
-    | inr met ↦ with_status No tt met
-  ]
-    where
-      with_status : (status : Status) → IsWorkStatus status → result ≡ status → (machine : Machine) × IsMachineOf told machine_file machine
-          × ((text : List ℕ) × IsGuardedOn machine source_bytes script_bytes certificate_bytes text result × (new ≡ Some (held ++ text)))
-      with_status status answers ended =
-          let (machine, machine_is, valid, (text, work, way, makes, sent)) = work_with status machine_file (Guard source script certificate) answers ended asked in
-          let guarded = guarded_told told machine source script certificate source_bytes script_bytes certificate_bytes text status work known also too way makes in (
-            machine,
-            machine_is,
-            (
-              text,
-              subst (IsGuardedOn machine source_bytes script_bytes certificate_bytes text) (sym ended) guarded,
-              sent ∙ ap (λ (o : Option (List ℕ)). appended o text) holds,
-            ),
-          )
+  guards_what_is_defined source script certificate source_bytes script_bytes certificate_bytes held machine_file is asked known also too holds =
+      let (machine, machine_is, (text, guarded, sent)) =
+      work_of_either machine_file (Guard source script certificate) (λ machine text status. IsGuardedOn machine source_bytes script_bytes certificate_bytes text status) is asked
+      (λ machine text status work valid way makes. guarded_told told machine source script certificate source_bytes script_bytes certificate_bytes text status work known also too way makes) in
+      (machine, machine_is, (text, guarded, took held text holds sent))
 
   pub plays_what_is_declared : PlaysWhatIsDeclared told arguments old new result
-  unfolding IsWorkStatus
-  plays_what_is_declared source script certificate source_bytes script_bytes certificate_bytes machine_file is asked known also too = elim is [
-    | inl done ↦ with_status Done tt done
-    | inr met ↦ with_status No tt met
-  ]
-    where
-      with_status : (status : Status) → IsWorkStatus status → result ≡ status → (machine : Machine) × IsMachineOf told machine_file machine
-          × ((text : List ℕ) × IsDeclaredOn machine source_bytes script_bytes certificate_bytes text result × (new ≡ appended old text))
-      with_status status answers ended =
-          let (machine, machine_is, valid, (text, work, way, makes, sent)) = work_with status machine_file (Guard source script certificate) answers ended asked in
-          let guarded = guarded_told told machine source script certificate source_bytes script_bytes certificate_bytes text status work known also too way makes in
-          let declared = declared_of machine source_bytes script_bytes certificate_bytes text status valid guarded in
-          (machine, machine_is, (text, subst (IsDeclaredOn machine source_bytes script_bytes certificate_bytes text) (sym ended) declared, sent))
+  plays_what_is_declared source script certificate source_bytes script_bytes certificate_bytes machine_file is asked known also too =
+      work_of_either machine_file (Guard source script certificate) (λ machine text status. IsDeclaredOn machine source_bytes script_bytes certificate_bytes text status) is asked
+      (λ machine text status work valid way makes.
+          declared_of machine source_bytes script_bytes certificate_bytes text status valid
+          (guarded_told told machine source script certificate source_bytes script_bytes certificate_bytes text status work known also too way makes))
 
   -- what is exact of a status is so of the run's end
   exactly_with : (text : List ℕ) (status : Status) → EndsExactly program old new result text status → EndsWith result status
