@@ -339,8 +339,8 @@ module _ (told : Told) (arguments : List (List ℕ)) (old new : Option (List ℕ
   plays_what_is_declared source script certificate source_bytes script_bytes certificate_bytes machine_file is asked known also too =
       work_of_either machine_file (Guard source script certificate) (λ machine text status. IsDeclaredOn machine source_bytes script_bytes certificate_bytes text status) is asked
       (λ machine text status work valid way makes.
-          declared_of machine source_bytes script_bytes certificate_bytes text status valid
-          (guarded_told told machine source script certificate source_bytes script_bytes certificate_bytes text status work known also too way makes))
+      declared_of machine source_bytes script_bytes certificate_bytes text status valid
+      (guarded_told told machine source script certificate source_bytes script_bytes certificate_bytes text status work known also too way makes))
 
   -- what is exact of a status is so of the run's end
   exactly_with : (text : List ℕ) (status : Status) → EndsExactly program old new result text status → EndsWith result status
