@@ -1,5 +1,5 @@
 //! That there is an answer. Each law is what a function that does nothing ensures, so that it is proved with the crate. Machines and
-//! images are the valid ones, which is what each has that a program holds; of limits and rows nothing is asked.
+//! images are the valid ones, as each one that a program holds is; of limits and rows nothing is asked.
 
 ghost use Rattle.std.specs.Prelude.{◌≡◌, ℕ, ◌<◌, ◌^◌, List, Option};
 ghost use Rattle.ags_domain.specs.Value.{value_meaning};

@@ -12,7 +12,7 @@ use Rattle.ags_safe.specs.Start.{IsStart, AreDeclared}
 use Rattle.ags_script.specs.declared.commands.Command.{Command}
 use Rattle.ags_script.specs.Suiting.{NamesLocation, NamesWord}
 
--- each address that is named is one of a location, of an erasable cell for CELL, and each word that is set or put is a word
+-- each address that is named is below 4096, and for CELL below 2048, and each word that is set or put is a word
 pub record AreSettable (commands : List Command) : Type 0 where
   pub locations : All NamesLocation commands
   pub words : All NamesWord commands

@@ -1,6 +1,6 @@
 //! The program as a process: `ags_main` over real files and standard output, and the number that it ends with. Its two
 //! adapters are the trusted edge: they tell nothing of what a file holds or of what was written, and meet the traits of
-//! `ags_outside`. It stands on `ags_outside` and `ags_top`; the programs above are one line each.
+//! `ags_outside`. It stands on `ags_outside`, `ags_plan` and `ags_top`; the programs above are one line each.
 #![tactic(auto)]
 
 mod file_shelf;

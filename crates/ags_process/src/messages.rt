@@ -58,13 +58,20 @@ pub(crate) fn tell<R: Eprint>(rt: &R, message: Message<'_>) {
     }
 }
 
-/// Says why a run couldn't be begun, in one line, where it couldn't.
+/// Says why a run couldn't be begun, in one line, where it couldn't: for want of memory, or since an argument isn't UTF-8.
 pub(crate) fn tell_unrun<R: Eprint>(rt: &R, ended: &io::Result<Status>) {
     if let Err(error) = ended {
-        let _ = if error.kind() == ErrorKind::OutOfMemory {
-            eprintln!(rt; "ags: memory ran out")
+        let status = if error.kind() == ErrorKind::OutOfMemory {
+            Status::NoMemory
         } else {
-            eprintln!(rt; "ags: an argument isn't UTF-8")
+            Status::BadWords
         };
+        tell(
+            rt,
+            Message {
+                status,
+                unread: None,
+            },
+        );
     }
 }

@@ -1,4 +1,4 @@
-//! The acts that no guard can stop: steps, pulses, presses and cycles.
+//! The acts that no guard can stop: steps, pulses, presses, and the steps of a cycle.
 
 ghost use Rattle.std.specs.Prelude.{◌≡◌, ◌-◌, ◌≤◌};
 ghost use Rattle.ags_ports.specs.declared.events.Phase.{Phase};
@@ -27,7 +27,7 @@ fn carry_in(phase: Phase, had: u64, spent: u64) -> u64
 }
 
 impl Bench {
-    /// What is counted is a number of 64 bits.
+    /// Does nothing: its contract tells the proofs that what is counted is a number of 64 bits.
     pub(crate) fn counts_fit(&self)
         ensures { CountsFit self.now }
     {

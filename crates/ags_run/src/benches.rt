@@ -3,7 +3,7 @@
 use crate::listeners::Listener;
 use ags_core::Core;
 
-/// The machine, its panel, and what the last cycle's last order passed its end by.
+/// The machine, its panel, and the carry.
 #[derive(Drop)]
 pub(crate) struct Bench {
     /// The machine.

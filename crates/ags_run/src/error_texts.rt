@@ -87,8 +87,8 @@ impl fmt::Display for Outside {
     }
 }
 
-/// Prints what the certificate doesn't declare, without a line feed, and nothing where the output failed or the memory didn't
-/// suffice.
+/// Prints what the certificate doesn't declare, without a line feed. A fault of the output and want of memory have no line, so that
+/// nothing is printed of them.
 impl fmt::Display for PlayError {
     ghost use Rattle.std.specs.Prelude.{Some};
     ghost use Rattle.ags_run.specs.ErrorText.{error_text};

@@ -1,4 +1,4 @@
-//! What of a start is outside of a certificate.
+//! The first thing of a start that a certificate doesn't declare.
 
 ghost use Rattle.std.specs.Prelude.{◌≡◌, ◌<◌, ◌↔◌, ℕ, IsTrue, IfSome, None, length, option_map, slice_index_or};
 ghost use Rattle.ags_cert.specs.Cert.{certificate_of};
@@ -84,7 +84,7 @@ fn find_input(machine: &Machine, cert: &Cert, core: &Core) -> Option<usize>
     None
 }
 
-/// What is outside of the words of a state, of which the location isn't.
+/// The first cell or input register that is outside, where the location isn't.
 fn find_word(machine: &Machine, image: &Image, cert: &Cert, core: &Core) -> Option<Outside>
     requires inputs { length core.now.inputs ≡ length machine.now.ports.inputs }
     requires location { core.now.location ≡ cert.now.start }

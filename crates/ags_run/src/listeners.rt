@@ -43,6 +43,7 @@ impl Watcher for Listener {
     fn saw(&mut self, report: &Report) {
         self.steps = self.steps.wrapping_add(1);
         if let Some(digit) = self.heard(report) {
+            // it is at most 15
             let _ = self.panel.shown(digit);
         }
     }

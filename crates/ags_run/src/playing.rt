@@ -36,7 +36,7 @@ pub struct Played {
     pub puts: u64,
 }
 
-/// What is so of an image, of a script and of a certificate by their types.
+/// Does nothing: its contract tells the proofs what is so of an image, of a script and of a certificate by their types.
 fn types_are_kept(image: &Image, script: &Script, guard: Option<&Cert>)
     ensures image { IsImage image.now }
     ensures commands { length script.now < 2 ^ 63 }
@@ -47,7 +47,8 @@ fn types_are_kept(image: &Image, script: &Script, guard: Option<&Cert>)
     let _ = usual_location(guard);
 }
 
-/// What is so of a machine, of a script that was read for it, and of each play of the script under a certificate.
+/// Does nothing: its contract tells the proofs what is so of a machine, of a script that was read for it, and of each play of the
+/// script under a certificate.
 fn plays_are_sound(machine: &Machine, image: &Image, script: &Script, guard: Option<&Cert>)
     requires { IsReadFor machine.now script.now }
     ensures machine { IsMachine machine.now }
@@ -78,7 +79,8 @@ pub fn play<K: Sink>(
     // The script has one play over the image, under the certificate or none: this is how far it came, with its text.
     ensures played { IfOk result (PlayedWhole machine.now image.now (guard_of (option_map (λ cert. cert.now) guard.entry)) script.now (K.told out.old) (K.told out.new)) }
     ensures unplayed { IfErr result (IsUnplayed machine.now image.now (guard_of (option_map (λ cert. cert.now) guard.entry)) script.now (K.told out.old) (K.told out.new)) }
-    // Under a certificate the events of the play are a run from a start that it declares, with each word that is put declared.
+    // Under a certificate, where no start outside is met, the events of the play are a run from a start that it declares, with each
+    // word that is put declared.
     ensures declared { (cert : Certificate Value) (events : List Event) (text : List ℕ) (met : Met)
         → guard_of (option_map (λ cert. cert.now) guard.entry) ≡ Some cert → IsPlayOf machine.now image.now (Some cert) script.now events text met
         → ((outside : outside_start.Outside) → met ≡ OutsideStart outside → ⊥)

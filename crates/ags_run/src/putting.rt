@@ -19,8 +19,8 @@ use ags_ports::laws::machine_is_made_of_tables;
 use ags_ports::{Event, Machine};
 use ags_word::Word;
 
-/// What a digit of the panel is put above, 20 octal.
-const DIGIT_BASE: u32 = 16;
+/// What is added to a digit of the panel.
+const DIGIT_BASE: u32 = 0o20;
 
 /// Whether a certificate lets a word be put.
 fn cert_lets_through(machine: &Machine, cert: &Cert, address: u16, word: Word) -> bool

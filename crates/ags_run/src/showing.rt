@@ -55,6 +55,7 @@ fn send_line<K: Sink>(out: &mut K, line: &[u8]) -> Result<(), PlayError>
     ensures front { IfErr result (IsFrontSent (K.told out.old) (K.told out.new) (line.now ++ codes "\n")) }
     ensures faults { HasCause (K.faults out.old) (K.faults out.new) (is_play_fault result) }
 {
+    // the longest line has room, with its line feed
     let mut whole: ArrayVec<u8, 35> = ArrayVec::new();
     let _ = whole.try_extend_from_slice(line);
     let _ = whole.try_push(b'\n');

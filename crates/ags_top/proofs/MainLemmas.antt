@@ -370,15 +370,19 @@ module _ (told : Told) (arguments : List (List ℕ)) (old new : Option (List ℕ
       let (text, makes) = accepted_makes told machine source certificate tells in
       exactly_with text Done (work_exactly program plan_of lawful_program told arguments old new result ends work text Done found makes)
 
-  pub bad_words_exactly : BadWordsExactly arguments result
+  pub bad_words_exactly : BadWordsExactly arguments old new result
   unfolding IsWorkStatus
   bad_words_exactly = record {
     only = λ is.
         let (text, work, found, makes, sent) = ended_with BadWords tt (answer_with BadWords is) in
-        let none : EndsAt program Agrees told (plan_of arguments) (WorkAt NoForm) =
-        subst (λ (w : Work). EndsAt program Agrees told (plan_of arguments) (WorkAt w)) (no_form_work work text makes) found in
-        λ line asked. comes_to_no_form told line
-        (subst (λ (a : Option CommandLine). EndsAt program Agrees told (asked_plan a) (WorkAt NoForm)) (ap line_of asked ∙ line_of-line_arguments line) none);
+        let same = no_form_work work text makes in
+        let none : EndsAt program Agrees told (plan_of arguments) (WorkAt NoForm) = subst (λ (w : Work). EndsAt program Agrees told (plan_of arguments) (WorkAt w)) same found in
+        let made : Makes NoForm text BadWords = subst (λ (w : Work). Makes w text BadWords) same makes in
+        record {
+          none = λ line asked. comes_to_no_form told line
+              (subst (λ (a : Option CommandLine). EndsAt program Agrees told (asked_plan a) (WorkAt NoForm)) (ap line_of asked ∙ line_of-line_arguments line) none);
+          sent = sent ∙ ap (appended old) made.0;
+        };
     always = λ none. exactly_with words_line BadWords
         (work_exactly program plan_of lawful_program told arguments old new result ends NoForm words_line BadWords (no_line (line_of arguments) refl none) (refl, refl));
   }

@@ -46,7 +46,7 @@ use Rattle.ags_top.specs.Command as command
 use Rattle.ags_top.specs.Command.{line_arguments, AreNoForm}
 use Rattle.ags_top.specs.Files as file
 use Rattle.ags_top.specs.Program.{program, plan_of}
-use Rattle.ags_top.specs.Text.{certificate_fault_line, fault_line, listing_fault_line, machine_fault_line, met_line, script_fault_line, verdict_line}
+use Rattle.ags_top.specs.Text.{certificate_fault_line, fault_line, listing_fault_line, machine_fault_line, met_line, script_fault_line, verdict_line, words_line}
 use Rattle.ags_top.specs.Work.{Work, IsTextOf, IsComparisonOf, IsJudgementOf, IsShownBy, IsGuardedBy, met_status, Makes}
 use Rattle.ags_listing.specs.Listing.{listing}
 
@@ -218,8 +218,8 @@ pub record IsRefusedFor (machine : Machine) (image : List (Option ℕ)) (cert : 
   pub status_is : status ≡ No
 
 -- The certificate is accepted for the image, so that every run is safe, over every list of events that it declares; and the script's
--- play under it is such a run: its events are declared, and lead from a start of the certificate. Only where the script sets a start
--- that isn't one is there no event, and nothing shown. The text says that the certificate is certified, then what the play shows along
+-- play under it is such a run: its events are declared, and lead from a start of the certificate. Where the script sets a start
+-- that isn't one there is no event, and nothing shown. The text says that the certificate is certified, then what the play shows along
 -- that very run, and then what it met.
 pub record IsDeclaredPlay (machine : Machine) (image : List (Option ℕ)) (cert : Stated) (commands : List Command) (text : List ℕ) (status : Status) : Type 0 where
   pub accepted : Accepted value_meaning machine image (certificate_of cert)
@@ -279,9 +279,14 @@ pub record NoExactly (told : Told) (arguments : List (List ℕ)) (old new : Opti
   pub only : result ≡ No → AnswersNo told arguments old new
   pub always : (work : Work) (text : List ℕ) → EndsAt program Tells told (plan_of arguments) (WorkAt work) → Makes work text No → EndsWith result No
 
--- BadWords comes exactly where the arguments are none of the forms
-pub record BadWordsExactly (arguments : List (List ℕ)) (result : Status) : Type 0 where
-  pub only : result ≡ BadWords → AreNoForm arguments
+-- The arguments are none of the forms, and the sink took the line that says so.
+pub record SaysNoForm (arguments : List (List ℕ)) (old new : Option (List ℕ)) : Type 0 where
+  pub none : AreNoForm arguments
+  pub sent : new ≡ appended old words_line
+
+-- BadWords comes exactly where the arguments are none of the forms, which is printed
+pub record BadWordsExactly (arguments : List (List ℕ)) (old new : Option (List ℕ)) (result : Status) : Type 0 where
+  pub only : result ≡ BadWords → SaysNoForm arguments old new
   pub always : AreNoForm arguments → EndsWith result BadWords
 
 -- Over files that agree with what the shelf tells, the walk comes to a machine file that fails that test, and the sink took its

@@ -1,9 +1,10 @@
 //! The program's one call: from the arguments of a command line to a status and the bytes that are written, over any shelf
 //! and any sink. It stands on `ags_plan` for the walk along files, on `ags_machfile` for machine files, on `ags_asm` for
-//! sources, on `ags_listing`, `ags_compare`, `ags_tape` and `ags_xref` for their words and symbols, on `ags_certread` and
-//! `ags_check` for certificates and their verdicts, on `ags_ports` and `ags_core` for the machine, on `ags_script`, `ags_play`
-//! and `ags_run` for scripts and what they show, with a certificate as their guard or without, on `ags_text` for digits and on
-//! `ags_outside` for the traits. `ags_main` answers exactly what the definitions in `specs/` say of the arguments and the files.
+//! sources, on `ags_listing`, `ags_compare`, `ags_tape` and `ags_xref` for their words and symbols, on `ags_cert`,
+//! `ags_certread` and `ags_check` for certificates and their verdicts over `ags_domain`, on `ags_ports` and `ags_image` for the machine
+//! and its words, on `ags_script`, `ags_play` and `ags_run` for scripts and what they show, with a certificate as their guard or
+//! without, on `ags_text` and `ags_word` for digits and on `ags_outside` for the traits. `ags_main` answers exactly what the definitions
+//! in `specs/` say of the arguments and the files.
 #![tactic(auto)]
 
 mod answer_laws;

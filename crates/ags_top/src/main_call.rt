@@ -51,7 +51,7 @@ pub fn ags_main<S: Shelf, K: Sink>(
 
     // Status by status.
     ensures no { NoExactly (S.told shelf.old) (map string_bytes arguments.now) (K.told out.old) (K.told out.new) result }
-    ensures bad_words { BadWordsExactly (map string_bytes arguments.now) result }
+    ensures bad_words { BadWordsExactly (map string_bytes arguments.now) (K.told out.old) (K.told out.new) result }
     ensures bad_machine { BadMachineExactly (S.told shelf.old) (map string_bytes arguments.now) (K.told out.old) (K.told out.new) result }
     ensures bad_source { BadSourceExactly (S.told shelf.old) (map string_bytes arguments.now) (K.told out.old) (K.told out.new) result }
     ensures bad_cert { BadCertExactly (S.told shelf.old) (map string_bytes arguments.now) (K.told out.old) (K.told out.new) result }
