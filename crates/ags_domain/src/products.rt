@@ -7,7 +7,7 @@ ghost use Rattle.ags_domain.specs.Candidates.{operands, product_candidates};
 ghost use Rattle.ags_domain.specs.Range.{range_ends, range_meaning};
 
 use crate::hulls::around_tries;
-use crate::operands::Operands;
+use crate::operands::{Operands, one_try};
 use crate::ranges::Range;
 use ags_word::Word;
 
@@ -16,15 +16,7 @@ fn product_high_at(a: Word, m: Word) -> Result<Word, Operands>
     ensures { result ≡ tried product_high_of (operands a 0 m) }
 {
     let (high, _low, overflows) = a.multiply(m);
-    if overflows {
-        Err(Operands {
-            a,
-            q: Word::ZERO,
-            m,
-        })
-    } else {
-        Ok(high)
-    }
+    one_try(high, overflows, a, Word::ZERO, m)
 }
 
 /// The A of the products of the words of two ranges.
@@ -44,15 +36,7 @@ fn product_rounded_at(a: Word, m: Word) -> Result<Word, Operands>
     ensures { result ≡ tried product_rounded_of (operands a 0 m) }
 {
     let (rounded, _low, overflows) = a.multiply_round(m);
-    if overflows {
-        Err(Operands {
-            a,
-            q: Word::ZERO,
-            m,
-        })
-    } else {
-        Ok(rounded)
-    }
+    one_try(rounded, overflows, a, Word::ZERO, m)
 }
 
 /// The rounded products of the words of two ranges.

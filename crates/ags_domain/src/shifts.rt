@@ -8,7 +8,7 @@ ghost use Rattle.ags_domain.specs.Range.{range_ends, range_meaning};
 
 use crate::hulls::spanned;
 use crate::named_words::low_bits;
-use crate::operands::Operands;
+use crate::operands::{Operands, one_try};
 use crate::ranges::Range;
 use ags_word::{Long, Word};
 
@@ -18,15 +18,7 @@ fn left_shift_at(a: Word, count: u32) -> Result<Word, Operands>
     ensures { result ≡ tried (left_shift_by count) (operands a 0 0) }
 {
     let (word, overflows) = a.als(count);
-    if overflows {
-        Err(Operands {
-            a,
-            q: Word::ZERO,
-            m: Word::ZERO,
-        })
-    } else {
-        Ok(word)
-    }
+    one_try(word, overflows, a, Word::ZERO, Word::ZERO)
 }
 
 /// The words of a range shifted to the left.
@@ -46,16 +38,8 @@ fn long_left_at(a: Word, q: Word, count: u32) -> Result<Word, Operands>
     ensures { result ≡ tried (long_left_by count) (operands a q 0) }
 {
     let (long, overflows) = Long::of(a, q).lls(count);
-    if overflows {
-        Err(Operands {
-            a,
-            q,
-            m: Word::ZERO,
-        })
-    } else {
-        let (high, _low) = long.split();
-        Ok(high)
-    }
+    let (high, _low) = long.split();
+    one_try(high, overflows, a, q, Word::ZERO)
 }
 
 /// The A of pairs, of the words of a range and any Q, shifted to the left.

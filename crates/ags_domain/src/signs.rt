@@ -8,7 +8,7 @@ ghost use Rattle.ags_domain.specs.Candidates.{operands, sign_candidates};
 ghost use Rattle.ags_domain.specs.Range.{range_ends, range_meaning};
 
 use crate::hulls::{from_zero, spanned};
-use crate::operands::Operands;
+use crate::operands::{Operands, one_try};
 use crate::ranges::Range;
 use ags_word::Word;
 
@@ -17,15 +17,7 @@ fn negative_at(a: Word) -> Result<Word, Operands>
     ensures { result ≡ tried negative_of (operands a 0 0) }
 {
     let (word, overflows) = a.com();
-    if overflows {
-        Err(Operands {
-            a,
-            q: Word::ZERO,
-            m: Word::ZERO,
-        })
-    } else {
-        Ok(word)
-    }
+    one_try(word, overflows, a, Word::ZERO, Word::ZERO)
 }
 
 /// The negatives of the words of a range.
@@ -40,15 +32,7 @@ fn size_at(a: Word) -> Result<Word, Operands>
     ensures { result ≡ tried size_of (operands a 0 0) }
 {
     let (word, overflows) = a.abs();
-    if overflows {
-        Err(Operands {
-            a,
-            q: Word::ZERO,
-            m: Word::ZERO,
-        })
-    } else {
-        Ok(word)
-    }
+    one_try(word, overflows, a, Word::ZERO, Word::ZERO)
 }
 
 /// The absolute values of a range that has no word of negative value.

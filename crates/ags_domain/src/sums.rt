@@ -7,7 +7,7 @@ ghost use Rattle.ags_domain.specs.Candidates.{operands, sum_candidates, differen
 ghost use Rattle.ags_domain.specs.Range.{range_ends, range_meaning};
 
 use crate::hulls::spanned;
-use crate::operands::Operands;
+use crate::operands::{Operands, one_try};
 use crate::ranges::Range;
 use ags_word::Word;
 
@@ -16,15 +16,7 @@ fn sum_at(a: Word, m: Word) -> Result<Word, Operands>
     ensures { result ≡ tried sum_of (operands a 0 m) }
 {
     let (word, overflows) = a.add(m);
-    if overflows {
-        Err(Operands {
-            a,
-            q: Word::ZERO,
-            m,
-        })
-    } else {
-        Ok(word)
-    }
+    one_try(word, overflows, a, Word::ZERO, m)
 }
 
 /// The sums of the words of two ranges.
@@ -39,15 +31,7 @@ fn difference_at(a: Word, m: Word) -> Result<Word, Operands>
     ensures { result ≡ tried difference_of (operands a 0 m) }
 {
     let (word, overflows) = a.sub(m);
-    if overflows {
-        Err(Operands {
-            a,
-            q: Word::ZERO,
-            m,
-        })
-    } else {
-        Ok(word)
-    }
+    one_try(word, overflows, a, Word::ZERO, m)
 }
 
 /// The words of one range less those of another.

@@ -124,8 +124,27 @@ fn intervals_of_values(rt: HostRuntime) {
     }
 }
 
+/// Asserts that an operation on two ranges overflows, and tells the words of these numbers: of A, of Q and of the cell.
+fn assert_overflow(
+    rt: &impl Abort,
+    operation: Operation,
+    a: (i32, i32),
+    m: (i32, i32),
+    numbers: (u32, u32, u32),
+) {
+    let told = Operands {
+        a: word(rt, numbers.0),
+        q: word(rt, numbers.1),
+        m: word(rt, numbers.2),
+    };
+    assert_eq!(rt;
+        answer(rt, operation, &range(rt, a), &range(rt, m)),
+        Err(told)
+    );
+}
+
 #[test]
-fn operands_that_overflow(rt: HostRuntime) {
+fn sums_and_differences_that_overflow(rt: HostRuntime) {
     for (operation, a, m, numbers) in [
         (Operation::Add, (100, 131071), (1, 1), (0o377777, 0, 1)),
         (
@@ -147,17 +166,26 @@ fn operands_that_overflow(rt: HostRuntime) {
             (0o377777, 0, 0o777777),
         ),
         (Operation::Sub, (-131072, -100), (1, 1), (0o400000, 0, 1)),
+    ] {
+        assert_overflow(&rt, operation, a, m, numbers);
+    }
+}
+
+#[test]
+fn negatives_and_sizes_that_overflow(rt: HostRuntime) {
+    for (operation, a, m, numbers) in [
         (Operation::Com, (-131072, 5), (0, 0), (0o400000, 0, 0)),
         (Operation::Abs, (-131072, -131072), (0, 0), (0o400000, 0, 0)),
+    ] {
+        assert_overflow(&rt, operation, a, m, numbers);
+    }
+}
+
+#[test]
+fn shifts_that_overflow(rt: HostRuntime) {
+    for (operation, a, m, numbers) in [
         (Operation::Als(1), (-65537, 0), (0, 0), (0o577777, 0, 0)),
         (Operation::Als(17), (2, 2), (0, 0), (2, 0, 0)),
-        (Operation::High, FULL, FULL, (0o400000, 0, 0o400000)),
-        (
-            Operation::Round,
-            FULL,
-            (-131072, -100),
-            (0o400000, 0, 0o400000),
-        ),
         (
             Operation::Lls(1),
             (0, 65536),
@@ -165,20 +193,35 @@ fn operands_that_overflow(rt: HostRuntime) {
             (0o200000, 0o377777, 0),
         ),
         (Operation::Lls(1), (-65537, 0), (0, 0), (0o577777, 0, 0)),
+    ] {
+        assert_overflow(&rt, operation, a, m, numbers);
+    }
+}
+
+#[test]
+fn products_that_overflow(rt: HostRuntime) {
+    for (operation, a, m, numbers) in [
+        (Operation::High, FULL, FULL, (0o400000, 0, 0o400000)),
+        (
+            Operation::Round,
+            FULL,
+            (-131072, -100),
+            (0o400000, 0, 0o400000),
+        ),
+    ] {
+        assert_overflow(&rt, operation, a, m, numbers);
+    }
+}
+
+#[test]
+fn quotients_that_overflow(rt: HostRuntime) {
+    for (operation, a, m, numbers) in [
         (Operation::Over, (100, 131071), (-1, 1), (100, 0, 0)),
         (Operation::Over, (1, 1), (1, 4), (1, 0, 1)),
         (Operation::Over, (0, 1), (1, 4), (1, 0o377777, 1)),
         (Operation::Over, (-3, 0), (-4, -1), (0o777775, 0, 0o777777)),
     ] {
-        let told = Operands {
-            a: word(&rt, numbers.0),
-            q: word(&rt, numbers.1),
-            m: word(&rt, numbers.2),
-        };
-        assert_eq!(rt;
-            answer(&rt, operation, &range(&rt, a), &range(&rt, m)),
-            Err(told)
-        );
+        assert_overflow(&rt, operation, a, m, numbers);
     }
 }
 
