@@ -5,14 +5,16 @@ use Rattle.std.specs.List.{find}
 use Rattle.std.proofs.lemmas.Int.{ints}
 use Rattle.ags_word.specs.Word.{val}
 use Rattle.ags_word.specs.Operation.{Operation}
+use Rattle.ags_domain.specs.LowBits.{all_ones}
 use Rattle.ags_domain.specs.Domain.{Ends, IsBetween}
-use Rattle.ags_domain.specs.Hull.{IsOperands, IsCorner, IsReached, IsHull, IsFirstOverflow, IsInterval, Answers, tried, overflows_at}
+use Rattle.ags_domain.specs.Hull.{IsOperands, IsCorner, IsReached, IsFirstOverflow, IsInterval, Answers, tried, overflows_at}
 use Rattle.ags_domain.specs.Candidates.{operands}
 use Rattle.ags_domain.specs.Range.{range_ends, range_meaning, lesser, greater}
 use Rattle.ags_domain.specs.Corners.{IsAround, ends_of_four}
 use Rattle.ags_domain.specs.declared.operands.Operands.{Operands}
 use Rattle.ags_domain.specs.declared.ranges.Range.{Range}
-use Rattle.ags_domain.proofs.HullLaws.{IsExact, IsFine, IsRimmed, none_over, hull_inside, tried_fine, tried_word, told_first, told_later}
+use Rattle.ags_domain.proofs.IntLaws.{IsAmid}
+use Rattle.ags_domain.proofs.HullLaws.{IsExact, IsFine, AreEnds, word_of, rimmed_interval, fine_of, reached_at, end_operands, end_corner, told_first, told_later, told_answer}
 
 -- ---- of two words the lesser and the greater
 
@@ -45,50 +47,26 @@ IsBelow first second third fourth n = (n ≤ℤ first) ⊎ ((n ≤ℤ second) �
 abbrev pub IsOneOf : (first second third fourth word : ℕ) → Type 0
 IsOneOf first second third fourth word = (word ≡ first) ⊎ ((word ≡ second) ⊎ ((word ≡ third) ⊎ (word ≡ fourth)))
 
-least_one : (first second third fourth : ℕ) → IsOneOf first second third fourth (lesser (lesser first second) (lesser third fourth))
-least_one first second third fourth = ⊎_elim
-    (λ e. ⊎_elim (λ f. inl (e ∙ f)) (λ f. inr (inl (e ∙ f))) (lesser_one first second))
-    (λ e. ⊎_elim (λ f. inr (inr (inl (e ∙ f)))) (λ f. inr (inr (inr (e ∙ f)))) (lesser_one third fourth))
-    (lesser_one (lesser first second) (lesser third fourth))
+-- one of four, kept of two by two
+chosen_one : (f : ℕ → ℕ → ℕ) → ((x y : ℕ) → (f x y ≡ x) ⊎ (f x y ≡ y)) → (first second third fourth : ℕ)
+    → IsOneOf first second third fourth (f (f first second) (f third fourth))
+chosen_one f one first second third fourth = ⊎_elim
+    (λ e. ⊎_elim (λ g. inl (e ∙ g)) (λ g. inr (inl (e ∙ g))) (one first second))
+    (λ e. ⊎_elim (λ g. inr (inr (inl (e ∙ g)))) (λ g. inr (inr (inr (e ∙ g)))) (one third fourth))
+    (one (f first second) (f third fourth))
 
-greatest_one : (first second third fourth : ℕ) → IsOneOf first second third fourth (greater (greater first second) (greater third fourth))
-greatest_one first second third fourth = ⊎_elim
-    (λ e. ⊎_elim (λ f. inl (e ∙ f)) (λ f. inr (inl (e ∙ f))) (greater_one first second))
-    (λ e. ⊎_elim (λ f. inr (inr (inl (e ∙ f)))) (λ f. inr (inr (inr (e ∙ f)))) (greater_one third fourth))
-    (greater_one (greater first second) (greater third fourth))
+pair_holds : (x y w : ℕ) → (w ≡ x) ⊎ (w ≡ y) → (val (lesser x y) ≤ℤ val w) × (val w ≤ℤ val (greater x y))
+pair_holds x y w one = (grind (arith, ints), grind (arith, ints))
 
-module _ (first second third fourth : ℕ) where
-  holds_first : first < 2 ^ 18 → IsBetween (ends_of_four first second third fourth) first
-  holds_first is =
-      let a = lesser_left first second in
-      let b = lesser_left (lesser first second) (lesser third fourth) in
-      let c = greater_left first second in
-      let d = greater_left (greater first second) (greater third fourth) in
-      record { is_word = is; from = omega (arith, ints); to = omega (arith, ints) }
+holds_one : (first second third fourth w : ℕ) → IsOneOf first second third fourth w → w < 2 ^ 18 → IsBetween (ends_of_four first second third fourth) w
+holds_one first second third fourth w one is = record { is_word = is; from = grind (arith, ints); to = grind (arith, ints) }
 
-  holds_second : second < 2 ^ 18 → IsBetween (ends_of_four first second third fourth) second
-  holds_second is =
-      let a = lesser_right first second in
-      let b = lesser_left (lesser first second) (lesser third fourth) in
-      let c = greater_right first second in
-      let d = greater_left (greater first second) (greater third fourth) in
-      record { is_word = is; from = omega (arith, ints); to = omega (arith, ints) }
+-- a number between two, of which each lies between two of four
+amid_above : (first second third fourth low high n : ℤ) → IsAmid first low second → IsAmid third high fourth → IsAmid low n high → IsAbove first second third fourth n
+amid_above first second third fourth low high n a b c = grind (arith, ints)
 
-  holds_third : third < 2 ^ 18 → IsBetween (ends_of_four first second third fourth) third
-  holds_third is =
-      let a = lesser_left third fourth in
-      let b = lesser_right (lesser first second) (lesser third fourth) in
-      let c = greater_left third fourth in
-      let d = greater_right (greater first second) (greater third fourth) in
-      record { is_word = is; from = omega (arith, ints); to = omega (arith, ints) }
-
-  holds_fourth : fourth < 2 ^ 18 → IsBetween (ends_of_four first second third fourth) fourth
-  holds_fourth is =
-      let a = lesser_right third fourth in
-      let b = lesser_right (lesser first second) (lesser third fourth) in
-      let c = greater_right third fourth in
-      let d = greater_right (greater first second) (greater third fourth) in
-      record { is_word = is; from = omega (arith, ints); to = omega (arith, ints) }
+amid_below : (first second third fourth low high n : ℤ) → IsAmid first low second → IsAmid third high fourth → IsAmid low n high → IsBelow first second third fourth n
+amid_below first second third fourth low high n a b c = grind (arith, ints)
 
 -- ---- four corners: the number of each operands lies above one of theirs and below one
 
@@ -104,66 +82,72 @@ pub record IsCornered (number : Operands → ℤ) (a_ends m_ends : Ends) (c1 c2 
   pub from : (o : Operands) → IsOperands a_ends m_ends o → IsAbove (number c1) (number c2) (number c3) (number c4) (number o)
   pub to : (o : Operands) → IsOperands a_ends m_ends o → IsBelow (number c1) (number c2) (number c3) (number c4) (number o)
 
-pub fine_of : (operation : Operation) (a_ends m_ends ends : Ends) (c : Operands) (w : ℕ) → IsOperands a_ends m_ends c → tried operation c ≡ Ok w
-    → IsBetween ends w → IsFine operation a_ends m_ends ends c
-fine_of operation a_ends m_ends ends c w is ok inside = record {
-  operands = is;
-  fine = tried_fine operation c w ok;
-  inside = subst (λ v. IsBetween ends v) (sym (tried_word operation c w ok)) inside;
-}
+-- the corners at the ends of two intervals, with a Q beside the greatest A: along each interval the number lies between those of its ends
+module _ (number : Operands → ℤ) (a m : Ends) (q : ℕ) (is_a : AreEnds a) (is_m : AreEnds m) (low_part : (q ≡ 0) ⊎ (q ≡ all_ones))
+    (along_a : (o : Operands) → IsOperands a m o → IsAmid (number (operands a.least 0 o.m)) (number o) (number (operands a.greatest q o.m)))
+    (along_m : (x r y : ℕ) → IsBetween m y → IsAmid (number (operands x r m.least)) (number (operands x r y)) (number (operands x r m.greatest))) where
+  abbrev c1 : Operands
+  c1 = operands a.least 0 m.least
 
-word_of : (operation : Operation) (number : Operands → ℤ) (a_ends m_ends : Ends) (c : Operands) (w : ℕ) → IsExact operation number a_ends m_ends
-    → IsOperands a_ends m_ends c → tried operation c ≡ Ok w → w < 2 ^ 18
-word_of operation number a_ends m_ends c w is_exact is ok = subst (λ (v : ℕ). v < 2 ^ 18) (tried_word operation c w ok) (is_exact.word c is)
+  abbrev c2 : Operands
+  c2 = operands a.least 0 m.greatest
 
-pub reached_at : (operation : Operation) (a_ends m_ends : Ends) (c : Operands) (w v : ℕ) → IsOperands a_ends m_ends c → IsCorner a_ends m_ends c
-    → tried operation c ≡ Ok w → v ≡ w → IsReached operation a_ends m_ends v
-reached_at operation a_ends m_ends c w v is corner ok e = record { at = c; operands = is; corner = corner; given = tried_word operation c w ok ∙ sym e }
+  abbrev c3 : Operands
+  c3 = operands a.greatest q m.least
+
+  abbrev c4 : Operands
+  c4 = operands a.greatest q m.greatest
+
+  pub cornered_of : IsCornered number a m c1 c2 c3 c4
+  cornered_of = record {
+    is1 = end_operands a m c1 is_a is_m (inl refl, inl refl, inl refl);
+    is2 = end_operands a m c2 is_a is_m (inl refl, inl refl, inr refl);
+    is3 = end_operands a m c3 is_a is_m (inr refl, low_part, inl refl);
+    is4 = end_operands a m c4 is_a is_m (inr refl, low_part, inr refl);
+    corner1 = end_corner a m c1 (inl refl, inl refl, inl refl);
+    corner2 = end_corner a m c2 (inl refl, inl refl, inr refl);
+    corner3 = end_corner a m c3 (inr refl, low_part, inl refl);
+    corner4 = end_corner a m c4 (inr refl, low_part, inr refl);
+    from = λ o is. amid_above _ _ _ _ _ _ _ (along_m a.least 0 o.m is.m_between) (along_m a.greatest q o.m is.m_between) (along_a o is);
+    to = λ o is. amid_below _ _ _ _ _ _ _ (along_m a.least 0 o.m is.m_between) (along_m a.greatest q o.m is.m_between) (along_a o is);
+  }
 
 module _ (operation : Operation) (number : Operands → ℤ) (a_ends m_ends : Ends) (c1 c2 c3 c4 : Operands)
     (is_exact : IsExact operation number a_ends m_ends) (cornered : IsCornered number a_ends m_ends c1 c2 c3 c4)
     (w1 w2 w3 w4 : ℕ) (ok1 : tried operation c1 ≡ Ok w1) (ok2 : tried operation c2 ≡ Ok w2)
     (ok3 : tried operation c3 ≡ Ok w3) (ok4 : tried operation c4 ≡ Ok w4) where
+  fine_at : (c : Operands) (w : ℕ) → IsOperands a_ends m_ends c → tried operation c ≡ Ok w → IsOneOf w1 w2 w3 w4 w
+      → IsFine operation a_ends m_ends (ends_of_four w1 w2 w3 w4) c
+  fine_at c w is ok one = fine_of operation a_ends m_ends (ends_of_four w1 w2 w3 w4) c w is ok
+      (holds_one w1 w2 w3 w4 w one (word_of operation number a_ends m_ends is_exact c w is ok))
+
   fine1 : IsFine operation a_ends m_ends (ends_of_four w1 w2 w3 w4) c1
-  fine1 = fine_of operation a_ends m_ends (ends_of_four w1 w2 w3 w4) c1 w1 cornered.is1 ok1
-      (holds_first w1 w2 w3 w4 (word_of operation number a_ends m_ends c1 w1 is_exact cornered.is1 ok1))
+  fine1 = fine_at c1 w1 cornered.is1 ok1 (inl refl)
 
   fine2 : IsFine operation a_ends m_ends (ends_of_four w1 w2 w3 w4) c2
-  fine2 = fine_of operation a_ends m_ends (ends_of_four w1 w2 w3 w4) c2 w2 cornered.is2 ok2
-      (holds_second w1 w2 w3 w4 (word_of operation number a_ends m_ends c2 w2 is_exact cornered.is2 ok2))
+  fine2 = fine_at c2 w2 cornered.is2 ok2 (inr (inl refl))
 
   fine3 : IsFine operation a_ends m_ends (ends_of_four w1 w2 w3 w4) c3
-  fine3 = fine_of operation a_ends m_ends (ends_of_four w1 w2 w3 w4) c3 w3 cornered.is3 ok3
-      (holds_third w1 w2 w3 w4 (word_of operation number a_ends m_ends c3 w3 is_exact cornered.is3 ok3))
+  fine3 = fine_at c3 w3 cornered.is3 ok3 (inr (inr (inl refl)))
 
   fine4 : IsFine operation a_ends m_ends (ends_of_four w1 w2 w3 w4) c4
-  fine4 = fine_of operation a_ends m_ends (ends_of_four w1 w2 w3 w4) c4 w4 cornered.is4 ok4
-      (holds_fourth w1 w2 w3 w4 (word_of operation number a_ends m_ends c4 w4 is_exact cornered.is4 ok4))
-
-  corners_rim : IsRimmed operation number a_ends m_ends (ends_of_four w1 w2 w3 w4) is_exact
-  corners_rim = record {
-    lower = λ o is. ⊎_elim (λ h. (c1, fine1, h)) (⊎_elim (λ h. (c2, fine2, h)) (⊎_elim (λ h. (c3, fine3, h)) (λ h. (c4, fine4, h)))) (cornered.from o is);
-    upper = λ o is. ⊎_elim (λ h. (c1, fine1, h)) (⊎_elim (λ h. (c2, fine2, h)) (⊎_elim (λ h. (c3, fine3, h)) (λ h. (c4, fine4, h)))) (cornered.to o is);
-  }
+  fine4 = fine_at c4 w4 cornered.is4 ok4 (inr (inr (inr refl)))
 
   reached_one : (v : ℕ) → IsOneOf w1 w2 w3 w4 v → IsReached operation a_ends m_ends v
-  reached_one v one = ⊎_elim
+  reached_one v = ⊎_elim
       (reached_at operation a_ends m_ends c1 w1 v cornered.is1 cornered.corner1 ok1)
       (⊎_elim (reached_at operation a_ends m_ends c2 w2 v cornered.is2 cornered.corner2 ok2)
       (⊎_elim (reached_at operation a_ends m_ends c3 w3 v cornered.is3 cornered.corner3 ok3)
       (reached_at operation a_ends m_ends c4 w4 v cornered.is4 cornered.corner4 ok4)))
-      one
 
   corners_interval : (range : Range) → range_ends range ≡ ends_of_four w1 w2 w3 w4 → IsInterval range_meaning operation a_ends m_ends range
-  corners_interval range ends_are = record {
-    none = none_over operation number a_ends m_ends (ends_of_four w1 w2 w3 w4) is_exact corners_rim;
-    hull = subst (λ ends. IsHull operation a_ends m_ends ends) (sym ends_are) (record {
-      each = hull_inside operation number a_ends m_ends (ends_of_four w1 w2 w3 w4) is_exact corners_rim;
-      least = reached_one (lesser (lesser w1 w2) (lesser w3 w4)) (least_one w1 w2 w3 w4);
-      greatest = reached_one (greater (greater w1 w2) (greater w3 w4)) (greatest_one w1 w2 w3 w4);
-    });
-    kept = refl;
-  }
+  corners_interval = rimmed_interval operation number a_ends m_ends is_exact (ends_of_four w1 w2 w3 w4)
+      (record {
+        lower = λ o is. ⊎_elim (λ h. (c1, fine1, h)) (⊎_elim (λ h. (c2, fine2, h)) (⊎_elim (λ h. (c3, fine3, h)) (λ h. (c4, fine4, h)))) (cornered.from o is);
+        upper = λ o is. ⊎_elim (λ h. (c1, fine1, h)) (⊎_elim (λ h. (c2, fine2, h)) (⊎_elim (λ h. (c3, fine3, h)) (λ h. (c4, fine4, h)))) (cornered.to o is);
+      })
+      (reached_one (lesser (lesser w1 w2) (lesser w3 w4)) (chosen_one lesser lesser_one w1 w2 w3 w4))
+      (reached_one (greater (greater w1 w2) (greater w3 w4)) (chosen_one greater greater_one w1 w2 w3 w4))
 
 module _ (operation : Operation) (number : Operands → ℤ) (a_ends m_ends : Ends) (c1 c2 c3 c4 : Operands)
     (is_exact : IsExact operation number a_ends m_ends) (cornered : IsCornered number a_ends m_ends c1 c2 c3 c4) where
@@ -171,17 +155,17 @@ module _ (operation : Operation) (number : Operands → ℤ) (a_ends m_ends : En
       → tried operation c4 ≡ t4 → (answer : Result Range Operands) → IsAround t1 t2 t3 t4 answer
       → Answers range_meaning operation (λ a m. c1 ∷ c2 ∷ c3 ∷ c4 ∷ []) a_ends m_ends answer
   around_answers (Err e) t2 t3 t4 h1 h2 h3 h4 answer is =
-      subst (λ (r : Result Range Operands). Answers range_meaning operation (λ a m. c1 ∷ c2 ∷ c3 ∷ c4 ∷ []) a_ends m_ends r) (sym is)
+      told_answer operation a_ends m_ends (c1 ∷ c2 ∷ c3 ∷ c4 ∷ []) e answer is
       (told_first operation a_ends m_ends c1 e (c2 ∷ c3 ∷ c4 ∷ []) cornered.is1 h1)
   around_answers (Ok w1) (Err e) t3 t4 h1 h2 h3 h4 answer is =
-      subst (λ (r : Result Range Operands). Answers range_meaning operation (λ a m. c1 ∷ c2 ∷ c3 ∷ c4 ∷ []) a_ends m_ends r) (sym is)
+      told_answer operation a_ends m_ends (c1 ∷ c2 ∷ c3 ∷ c4 ∷ []) e answer is
       (told_later operation a_ends m_ends c1 e w1 (c2 ∷ c3 ∷ c4 ∷ []) h1 (told_first operation a_ends m_ends c2 e (c3 ∷ c4 ∷ []) cornered.is2 h2))
   around_answers (Ok w1) (Ok w2) (Err e) t4 h1 h2 h3 h4 answer is =
-      subst (λ (r : Result Range Operands). Answers range_meaning operation (λ a m. c1 ∷ c2 ∷ c3 ∷ c4 ∷ []) a_ends m_ends r) (sym is)
+      told_answer operation a_ends m_ends (c1 ∷ c2 ∷ c3 ∷ c4 ∷ []) e answer is
       (told_later operation a_ends m_ends c1 e w1 (c2 ∷ c3 ∷ c4 ∷ []) h1
       (told_later operation a_ends m_ends c2 e w2 (c3 ∷ c4 ∷ []) h2 (told_first operation a_ends m_ends c3 e (c4 ∷ []) cornered.is3 h3)))
   around_answers (Ok w1) (Ok w2) (Ok w3) (Err e) h1 h2 h3 h4 answer is =
-      subst (λ (r : Result Range Operands). Answers range_meaning operation (λ a m. c1 ∷ c2 ∷ c3 ∷ c4 ∷ []) a_ends m_ends r) (sym is)
+      told_answer operation a_ends m_ends (c1 ∷ c2 ∷ c3 ∷ c4 ∷ []) e answer is
       (told_later operation a_ends m_ends c1 e w1 (c2 ∷ c3 ∷ c4 ∷ []) h1
       (told_later operation a_ends m_ends c2 e w2 (c3 ∷ c4 ∷ []) h2
       (told_later operation a_ends m_ends c3 e w3 (c4 ∷ []) h3 (told_first operation a_ends m_ends c4 e [] cornered.is4 h4))))

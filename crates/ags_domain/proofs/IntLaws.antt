@@ -2,7 +2,7 @@
 --     mul_up, mul_down                the product with a factor keeps the order, or turns it round where the factor is negative
 --     shifted_right_up                a right shift keeps the order
 --     div_up, div_down                the quotient by a divisor, cut off toward zero, keeps the order or turns it round
-use Rattle.std.proofs.Common.{◌≢◌, ℕ, zero, suc, ◌/◌, ◌≤◌, refl, ◌⊎◌, inl, inr, arith, ℤ, pos, negsuc, ◌*ℤ◌, ◌≤ℤ◌, ◌<ℤ◌}
+use Rattle.std.proofs.Common.{◌≢◌, ℕ, zero, suc, ◌/◌, ◌≤◌, refl, ◌⊎◌, inl, inr, ⊎_elim, arith, ℤ, pos, negsuc, ◌*ℤ◌, ◌≤ℤ◌, ◌<ℤ◌}
 use Rattle.std.specs.Prelude.{int_div}
 use Rattle.std.proofs.lemmas.Int.{ints}
 use Rattle.std.proofs.lemmas.Nat.{mul-le, le-div}
@@ -26,24 +26,22 @@ mul_down (pos m) (negsuc n) c h = absurd (omega (arith, ints))
 mul_down (negsuc m) (pos n) c h = omega (arith, ints)
 mul_down (negsuc m) (negsuc n) c h = omega (arith, ints, mul-le (suc n) (suc c) (suc m) (suc c) (omega (arith, ints)) (nat_le_refl (suc c)))
 
-pub at_most_along : (a b c : ℤ) → a ≤ℤ b → b ≤ℤ c → a ≤ℤ c
-at_most_along a b c h k = omega (arith, ints)
+-- a number lies between two others, of which either may be the lesser
+abbrev pub IsAmid : (first n second : ℤ) → Type 0
+IsAmid first n second = ((first ≤ℤ n) × (n ≤ℤ second)) ⊎ ((second ≤ℤ n) × (n ≤ℤ first))
 
--- ---- one factor goes over an interval: an end of it gives the least product and an end the greatest
+-- a function that keeps the order
+pub amid_along : (f : ℤ → ℤ) → ((m n : ℤ) → m ≤ℤ n → f m ≤ℤ f n) → (first n second : ℤ) → IsAmid first n second → IsAmid (f first) (f n) (f second)
+amid_along f up first n second = ⊎_elim (λ h. inl (up first n h.0, up n second h.1)) (λ h. inr (up second n h.0, up n first h.1))
 
-pub column_least : (least most x factor : ℤ) → least ≤ℤ x → x ≤ℤ most → ((least *ℤ factor) ≤ℤ (x *ℤ factor)) ⊎ ((most *ℤ factor) ≤ℤ (x *ℤ factor))
-column_least least most x (pos c) h k = inl (mul_up least x c h)
-column_least least most x (negsuc c) h k = inr (mul_down x most c k)
+-- ---- one factor goes over an interval: the product lies between those of the ends
 
-pub column_most : (least most x factor : ℤ) → least ≤ℤ x → x ≤ℤ most → ((x *ℤ factor) ≤ℤ (least *ℤ factor)) ⊎ ((x *ℤ factor) ≤ℤ (most *ℤ factor))
-column_most least most x (pos c) h k = inr (mul_up x most c k)
-column_most least most x (negsuc c) h k = inl (mul_down least x c h)
+pub column_amid : (least most x factor : ℤ) → least ≤ℤ x → x ≤ℤ most → IsAmid (least *ℤ factor) (x *ℤ factor) (most *ℤ factor)
+column_amid least most x (pos c) h k = inl (mul_up least x c h, mul_up x most c k)
+column_amid least most x (negsuc c) h k = inr (mul_down x most c k, mul_down least x c h)
 
-pub row_least : (least most x factor : ℤ) → least ≤ℤ x → x ≤ℤ most → ((factor *ℤ least) ≤ℤ (factor *ℤ x)) ⊎ ((factor *ℤ most) ≤ℤ (factor *ℤ x))
-row_least least most x factor h k = rw (*ℤ_comm factor least, *ℤ_comm factor most, *ℤ_comm factor x) (column_least least most x factor h k)
-
-pub row_most : (least most x factor : ℤ) → least ≤ℤ x → x ≤ℤ most → ((factor *ℤ x) ≤ℤ (factor *ℤ least)) ⊎ ((factor *ℤ x) ≤ℤ (factor *ℤ most))
-row_most least most x factor h k = rw (*ℤ_comm factor least, *ℤ_comm factor most, *ℤ_comm factor x) (column_most least most x factor h k)
+pub row_amid : (least most x factor : ℤ) → least ≤ℤ x → x ≤ℤ most → IsAmid (factor *ℤ least) (factor *ℤ x) (factor *ℤ most)
+row_amid least most x factor h k = rw (*ℤ_comm factor least, *ℤ_comm factor most, *ℤ_comm factor x) (column_amid least most x factor h k)
 
 -- ---- right shifts
 
@@ -77,68 +75,33 @@ div_down (negsuc m) (negsuc n) d h = omega (arith, ints, nat_div_up (suc n) (suc
 
 -- the divisor goes over an interval that has positive numbers alone, or negative ones alone
 
-by_positive_least : (n : ℤ) (e d f : ℕ) → e ≤ d → d ≤ f
-    → (int_div n (pos (suc e)) ≤ℤ int_div n (pos (suc d))) ⊎ (int_div n (pos (suc f)) ≤ℤ int_div n (pos (suc d)))
-by_positive_least (pos n) e d f h k = inr (omega (arith, ints, nat_div_down n d f k))
-by_positive_least (negsuc n) e d f h k = inl (omega (arith, ints, nat_div_down (suc n) e d h))
+by_positive : (n : ℤ) (e d f : ℕ) → e ≤ d → d ≤ f → IsAmid (int_div n (pos (suc e))) (int_div n (pos (suc d))) (int_div n (pos (suc f)))
+by_positive (pos n) e d f h k = inr (omega (arith, ints, nat_div_down n d f k), omega (arith, ints, nat_div_down n e d h))
+by_positive (negsuc n) e d f h k = inl (omega (arith, ints, nat_div_down (suc n) e d h), omega (arith, ints, nat_div_down (suc n) d f k))
 
-by_positive_most : (n : ℤ) (e d f : ℕ) → e ≤ d → d ≤ f
-    → (int_div n (pos (suc d)) ≤ℤ int_div n (pos (suc e))) ⊎ (int_div n (pos (suc d)) ≤ℤ int_div n (pos (suc f)))
-by_positive_most (pos n) e d f h k = inl (omega (arith, ints, nat_div_down n e d h))
-by_positive_most (negsuc n) e d f h k = inr (omega (arith, ints, nat_div_down (suc n) d f k))
-
-by_negative_least : (n : ℤ) (e d f : ℕ) → d ≤ e → f ≤ d
-    → (int_div n (negsuc e) ≤ℤ int_div n (negsuc d)) ⊎ (int_div n (negsuc f) ≤ℤ int_div n (negsuc d))
-by_negative_least (pos n) e d f h k = inr (omega (arith, ints, nat_div_down n f d k))
-by_negative_least (negsuc n) e d f h k = inl (omega (arith, ints, nat_div_down (suc n) d e h))
-
-by_negative_most : (n : ℤ) (e d f : ℕ) → d ≤ e → f ≤ d
-    → (int_div n (negsuc d) ≤ℤ int_div n (negsuc e)) ⊎ (int_div n (negsuc d) ≤ℤ int_div n (negsuc f))
-by_negative_most (pos n) e d f h k = inl (omega (arith, ints, nat_div_down n d e h))
-by_negative_most (negsuc n) e d f h k = inr (omega (arith, ints, nat_div_down (suc n) f d k))
+by_negative : (n : ℤ) (e d f : ℕ) → d ≤ e → f ≤ d → IsAmid (int_div n (negsuc e)) (int_div n (negsuc d)) (int_div n (negsuc f))
+by_negative (pos n) e d f h k = inr (omega (arith, ints, nat_div_down n f d k), omega (arith, ints, nat_div_down n d e h))
+by_negative (negsuc n) e d f h k = inl (omega (arith, ints, nat_div_down (suc n) d e h), omega (arith, ints, nat_div_down (suc n) f d k))
 
 -- all numbers of the interval are positive, or all are negative
 abbrev pub IsOneSided : (least most : ℤ) → Type 0
 IsOneSided least most = (pos 0 <ℤ least) ⊎ (most <ℤ pos 0)
 
-pub divisor_least : (n least y most : ℤ) → least ≤ℤ y → y ≤ℤ most → IsOneSided least most
-    → (int_div n least ≤ℤ int_div n y) ⊎ (int_div n most ≤ℤ int_div n y)
-divisor_least n (pos zero) y most h k (inl some) = absurd (omega (arith, ints))
-divisor_least n (pos (suc e)) (pos zero) most h k (inl some) = absurd (omega (arith, ints))
-divisor_least n (pos (suc e)) (pos (suc d)) (pos zero) h k (inl some) = absurd (omega (arith, ints))
-divisor_least n (pos (suc e)) (pos (suc d)) (pos (suc f)) h k (inl some) = by_positive_least n e d f (omega (arith, ints)) (omega (arith, ints))
-divisor_least n (pos (suc e)) (pos (suc d)) (negsuc f) h k (inl some) = absurd (omega (arith, ints))
-divisor_least n (pos (suc e)) (negsuc d) most h k (inl some) = absurd (omega (arith, ints))
-divisor_least n (negsuc e) y most h k (inl some) = absurd (omega (arith, ints))
-divisor_least n least y (pos f) h k (inr some) = absurd (omega (arith, ints))
-divisor_least n least (pos d) (negsuc f) h k (inr some) = absurd (omega (arith, ints))
-divisor_least n (pos e) (negsuc d) (negsuc f) h k (inr some) = absurd (omega (arith, ints))
-divisor_least n (negsuc e) (negsuc d) (negsuc f) h k (inr some) = by_negative_least n e d f (omega (arith, ints)) (omega (arith, ints))
-
-pub divisor_most : (n least y most : ℤ) → least ≤ℤ y → y ≤ℤ most → IsOneSided least most
-    → (int_div n y ≤ℤ int_div n least) ⊎ (int_div n y ≤ℤ int_div n most)
-divisor_most n (pos zero) y most h k (inl some) = absurd (omega (arith, ints))
-divisor_most n (pos (suc e)) (pos zero) most h k (inl some) = absurd (omega (arith, ints))
-divisor_most n (pos (suc e)) (pos (suc d)) (pos zero) h k (inl some) = absurd (omega (arith, ints))
-divisor_most n (pos (suc e)) (pos (suc d)) (pos (suc f)) h k (inl some) = by_positive_most n e d f (omega (arith, ints)) (omega (arith, ints))
-divisor_most n (pos (suc e)) (pos (suc d)) (negsuc f) h k (inl some) = absurd (omega (arith, ints))
-divisor_most n (pos (suc e)) (negsuc d) most h k (inl some) = absurd (omega (arith, ints))
-divisor_most n (negsuc e) y most h k (inl some) = absurd (omega (arith, ints))
-divisor_most n least y (pos f) h k (inr some) = absurd (omega (arith, ints))
-divisor_most n least (pos d) (negsuc f) h k (inr some) = absurd (omega (arith, ints))
-divisor_most n (pos e) (negsuc d) (negsuc f) h k (inr some) = absurd (omega (arith, ints))
-divisor_most n (negsuc e) (negsuc d) (negsuc f) h k (inr some) = by_negative_most n e d f (omega (arith, ints)) (omega (arith, ints))
+pub divisor_amid : (n least y most : ℤ) → least ≤ℤ y → y ≤ℤ most → IsOneSided least most → IsAmid (int_div n least) (int_div n y) (int_div n most)
+divisor_amid n (pos zero) y most h k (inl some) = absurd (omega (arith, ints))
+divisor_amid n (pos (suc e)) (pos zero) most h k (inl some) = absurd (omega (arith, ints))
+divisor_amid n (pos (suc e)) (pos (suc d)) (pos zero) h k (inl some) = absurd (omega (arith, ints))
+divisor_amid n (pos (suc e)) (pos (suc d)) (pos (suc f)) h k (inl some) = by_positive n e d f (omega (arith, ints)) (omega (arith, ints))
+divisor_amid n (pos (suc e)) (pos (suc d)) (negsuc f) h k (inl some) = absurd (omega (arith, ints))
+divisor_amid n (pos (suc e)) (negsuc d) most h k (inl some) = absurd (omega (arith, ints))
+divisor_amid n (negsuc e) y most h k (inl some) = absurd (omega (arith, ints))
+divisor_amid n least y (pos f) h k (inr some) = absurd (omega (arith, ints))
+divisor_amid n least (pos d) (negsuc f) h k (inr some) = absurd (omega (arith, ints))
+divisor_amid n (pos e) (negsuc d) (negsuc f) h k (inr some) = absurd (omega (arith, ints))
+divisor_amid n (negsuc e) (negsuc d) (negsuc f) h k (inr some) = by_negative n e d f (omega (arith, ints)) (omega (arith, ints))
 
 -- the number that is divided goes over an interval
-
-pub divided_least : (d least n most : ℤ) → d ≢ pos 0 → least ≤ℤ n → n ≤ℤ most
-    → (int_div least d ≤ℤ int_div n d) ⊎ (int_div most d ≤ℤ int_div n d)
-divided_least (pos zero) least n most some h k = absurd (some refl)
-divided_least (pos (suc d)) least n most some h k = inl (div_up least n d h)
-divided_least (negsuc d) least n most some h k = inr (div_down n most d k)
-
-pub divided_most : (d least n most : ℤ) → d ≢ pos 0 → least ≤ℤ n → n ≤ℤ most
-    → (int_div n d ≤ℤ int_div least d) ⊎ (int_div n d ≤ℤ int_div most d)
-divided_most (pos zero) least n most some h k = absurd (some refl)
-divided_most (pos (suc d)) least n most some h k = inr (div_up n most d k)
-divided_most (negsuc d) least n most some h k = inl (div_down least n d h)
+pub divided_amid : (d least n most : ℤ) → d ≢ pos 0 → least ≤ℤ n → n ≤ℤ most → IsAmid (int_div least d) (int_div n d) (int_div most d)
+divided_amid (pos zero) least n most some h k = absurd (some refl)
+divided_amid (pos (suc d)) least n most some h k = inl (div_up least n d h, div_up n most d k)
+divided_amid (negsuc d) least n most some h k = inr (div_down n most d k, div_down least n d h)

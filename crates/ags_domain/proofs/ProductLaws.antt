@@ -3,7 +3,7 @@ use Rattle.std.proofs.Common.{◌≡◌, ℕ, ◌-◌, ◌*◌, ◌<◌, ◌≤�
 use Rattle.std.specs.Prelude.{neg_ℤ, not, unsigned_abs}
 use Rattle.std.proofs.lemmas.Int.{ints, unsigned_abs-mul}
 use Rattle.std.proofs.lemmas.Bool.Decides.{nat_tests}
-use Rattle.std.proofs.lemmas.Bool.{cases_lt}
+use Rattle.std.proofs.lemmas.Bool.{cases_lt, not-true}
 use Rattle.std.proofs.lemmas.Nat.{mul-le}
 use Rattle.ags_word.specs.Word.{val, fits}
 use Rattle.ags_word.specs.Long.{pair, fits_long, shifted_right}
@@ -14,9 +14,9 @@ use Rattle.ags_domain.specs.Domain.{Ends}
 use Rattle.ags_domain.specs.Hull.{IsFirstOverflow, overflows_at}
 use Rattle.ags_domain.specs.Candidates.{operands, product_candidates}
 use Rattle.ags_domain.specs.declared.operands.Operands.{Operands}
-use Rattle.ags_domain.proofs.IntLaws.{at_most_along, column_least, column_most, row_least, row_most, shifted_right_up}
-use Rattle.ags_domain.proofs.HullLaws.{IsExact, AreEnds, least_between, greatest_between}
-use Rattle.ags_domain.proofs.CornerLaws.{IsAbove, IsBelow, IsCornered, found_is, told_alone}
+use Rattle.ags_domain.proofs.IntLaws.{amid_along, column_amid, row_amid, shifted_right_up}
+use Rattle.ags_domain.proofs.HullLaws.{IsExact, AreEnds}
+use Rattle.ags_domain.proofs.CornerLaws.{IsCornered, cornered_of, found_is, told_alone}
 
 -- ---- the numbers
 
@@ -111,47 +111,16 @@ rounded_exact a_ends m_ends = record {
 
 -- ---- corners
 
-module _ (l h p k x y : ℤ) (xl : l ≤ℤ x) (xh : x ≤ℤ h) (yl : p ≤ℤ y) (yh : y ≤ℤ k) where
-  pub product_above : IsAbove (l *ℤ p) (l *ℤ k) (h *ℤ p) (h *ℤ k) (x *ℤ y)
-  product_above = ⊎_elim
-      (λ c. ⊎_elim (λ r. inl (at_most_along (l *ℤ p) (l *ℤ y) (x *ℤ y) r c)) (λ r. inr (inl (at_most_along (l *ℤ k) (l *ℤ y) (x *ℤ y) r c))) (row_least p k y l yl yh))
-      (λ c. ⊎_elim (λ r. inr (inr (inl (at_most_along (h *ℤ p) (h *ℤ y) (x *ℤ y) r c)))) (λ r. inr (inr (inr (at_most_along (h *ℤ k) (h *ℤ y) (x *ℤ y) r c)))) (row_least p k y h yl yh))
-      (column_least l h x y xl xh)
-
-  pub product_below : IsBelow (l *ℤ p) (l *ℤ k) (h *ℤ p) (h *ℤ k) (x *ℤ y)
-  product_below = ⊎_elim
-      (λ c. ⊎_elim (λ r. inl (at_most_along (x *ℤ y) (l *ℤ y) (l *ℤ p) c r)) (λ r. inr (inl (at_most_along (x *ℤ y) (l *ℤ y) (l *ℤ k) c r))) (row_most p k y l yl yh))
-      (λ c. ⊎_elim (λ r. inr (inr (inl (at_most_along (x *ℤ y) (h *ℤ y) (h *ℤ p) c r)))) (λ r. inr (inr (inr (at_most_along (x *ℤ y) (h *ℤ y) (h *ℤ k) c r)))) (row_most p k y h yl yh))
-      (column_most l h x y xl xh)
-
--- a function that keeps the order carries the corners along
-module _ (f : ℤ → ℤ) (up : (m n : ℤ) → m ≤ℤ n → f m ≤ℤ f n) (n1 n2 n3 n4 n : ℤ) where
-  pub above_along : IsAbove n1 n2 n3 n4 n → IsAbove (f n1) (f n2) (f n3) (f n4) (f n)
-  above_along = ⊎_elim (λ h. inl (up n1 n h)) (⊎_elim (λ h. inr (inl (up n2 n h))) (⊎_elim (λ h. inr (inr (inl (up n3 n h)))) (λ h. inr (inr (inr (up n4 n h))))))
-
-  pub below_along : IsBelow n1 n2 n3 n4 n → IsBelow (f n1) (f n2) (f n3) (f n4) (f n)
-  below_along = ⊎_elim (λ h. inl (up n n1 h)) (⊎_elim (λ h. inr (inl (up n n2 h))) (⊎_elim (λ h. inr (inr (inl (up n n3 h)))) (λ h. inr (inr (inr (up n n4 h))))))
-
 nearest_up : (m n : ℤ) → m ≤ℤ n → shifted_right (m +ℤ pos (2 ^ 16)) 17 ≤ℤ shifted_right (n +ℤ pos (2 ^ 16)) 17
 nearest_up m n h = shifted_right_up (m +ℤ pos (2 ^ 16)) (n +ℤ pos (2 ^ 16)) 17 (omega (arith, ints))
 
 module _ (a m : Ends) (is_a : AreEnds a) (is_m : AreEnds m) where
+  -- of what a function that keeps the order makes of the product
   corners_of : (f : ℤ → ℤ) → ((i j : ℤ) → i ≤ℤ j → f i ≤ℤ f j) → IsCornered (λ o. f (product o.a o.m)) a m
       (operands a.least 0 m.least) (operands a.least 0 m.greatest) (operands a.greatest 0 m.least) (operands a.greatest 0 m.greatest)
-  corners_of f up = record {
-    is1 = record { a_between = least_between a is_a; q_word = omega arith; m_between = least_between m is_m };
-    is2 = record { a_between = least_between a is_a; q_word = omega arith; m_between = greatest_between m is_m };
-    is3 = record { a_between = greatest_between a is_a; q_word = omega arith; m_between = least_between m is_m };
-    is4 = record { a_between = greatest_between a is_a; q_word = omega arith; m_between = greatest_between m is_m };
-    corner1 = record { a_corner = inl refl; q_corner = inl refl; m_corner = inl refl };
-    corner2 = record { a_corner = inl refl; q_corner = inl refl; m_corner = inr refl };
-    corner3 = record { a_corner = inr (inl refl); q_corner = inl refl; m_corner = inl refl };
-    corner4 = record { a_corner = inr (inl refl); q_corner = inl refl; m_corner = inr refl };
-    from = λ o is. above_along f up _ _ _ _ _
-        (product_above (val a.least) (val a.greatest) (val m.least) (val m.greatest) (val o.a) (val o.m) is.a_between.from is.a_between.to is.m_between.from is.m_between.to);
-    to = λ o is. below_along f up _ _ _ _ _
-        (product_below (val a.least) (val a.greatest) (val m.least) (val m.greatest) (val o.a) (val o.m) is.a_between.from is.a_between.to is.m_between.from is.m_between.to);
-  }
+  corners_of f up = cornered_of (λ o. f (product o.a o.m)) a m 0 is_a is_m (inl refl)
+      (λ o is. amid_along f up _ _ _ (column_amid (val a.least) (val a.greatest) (val o.a) (val o.m) is.a_between.from is.a_between.to))
+      (λ x r y between. amid_along f up _ _ _ (row_amid (val m.least) (val m.greatest) (val y) (val x) between.from between.to))
 
   pub high_corners : IsCornered high_number a m
       (operands a.least 0 m.least) (operands a.least 0 m.greatest) (operands a.greatest 0 m.least) (operands a.greatest 0 m.greatest)
@@ -163,10 +132,6 @@ module _ (a m : Ends) (is_a : AreEnds a) (is_m : AreEnds m) where
 
 -- ---- what is told
 
-not_true : (b : Bool) → not b ≡ true → b ≡ false
-not_true true h = absurd cc
-not_true false h = refl
-
 -- operands of a list without Q that overflow are twice the least word
 pub product_told : (operation : Operation) → ((o : Operands) → overflows_at operation o ≡ not (fits_long (product o.a o.m)))
     → (a m : Ends) (l1 l2 l3 l4 r1 r2 r3 r4 : ℕ) (e : Operands)
@@ -175,6 +140,6 @@ pub product_told : (operation : Operation) → ((o : Operands) → overflows_at 
 product_told operation is_over a m l1 l2 l3 l4 r1 r2 r3 r4 e is =
     let found = found_is (overflows_at operation) (λ o. o.q ≡ 0)
     (operands l1 0 r1 ∷ operands l2 0 r2 ∷ operands l3 0 r3 ∷ operands l4 0 r4 ∷ []) e (refl, (refl, (refl, (refl, tt)))) is.first in
-    let over = not_true (fits_long (product e.a e.m)) (sym (is_over e) ∙ found.1) in
+    let over = not-true (fits_long (product e.a e.m)) (sym (is_over e) ∙ found.1) in
     let both = product_over e.a e.m is.operands.a_between.is_word is.operands.m_between.is_word over in
     told_alone operation a m e (2 ^ 17) 0 (2 ^ 17) both.0 found.0 both.1 found.1 is.operands

@@ -14,9 +14,9 @@ use Rattle.ags_domain.specs.Domain.{Ends, IsBetween}
 use Rattle.ags_domain.specs.Hull.{IsOperands, IsFirstOverflow, overflows_at}
 use Rattle.ags_domain.specs.Candidates.{operands, has_zero, quotient_candidates}
 use Rattle.ags_domain.specs.declared.operands.Operands.{Operands}
-use Rattle.ags_domain.proofs.IntLaws.{at_most_along, IsOneSided, divisor_least, divisor_most, divided_least, divided_most}
-use Rattle.ags_domain.proofs.HullLaws.{IsExact, AreEnds, least_between, greatest_between}
-use Rattle.ags_domain.proofs.CornerLaws.{IsAbove, IsBelow, IsCornered}
+use Rattle.ags_domain.proofs.IntLaws.{IsOneSided, divisor_amid, divided_amid}
+use Rattle.ags_domain.proofs.HullLaws.{IsExact, AreEnds, least_between}
+use Rattle.ags_domain.proofs.CornerLaws.{IsCornered, cornered_of}
 use Rattle.ags_domain.proofs.ShiftLaws.{long_from, long_to}
 use Rattle.ags_domain.proofs.SignLaws.{val_zero}
 
@@ -58,51 +58,12 @@ module _ (a m : Ends) (is_a : AreEnds a) (is_m : AreEnds m) (no_zero : has_zero 
     exact = λ o is h. quotient_value (long o.a o.q) o.m o.a (some_divisor o is) h;
   }
 
-  module _ (n : ℤ) (y : ℕ) (some : val y ≢ pos 0) (from : long a.least 0 ≤ℤ n) (to : n ≤ℤ long a.greatest all_ones) (y_from : val m.least ≤ℤ val y) (y_to : val y ≤ℤ val m.greatest) where
-    quotient_above : IsAbove (int_div (long a.least 0) (val m.least)) (int_div (long a.least 0) (val m.greatest))
-        (int_div (long a.greatest all_ones) (val m.least)) (int_div (long a.greatest all_ones) (val m.greatest)) (int_div n (val y))
-    quotient_above =
-        let low = long a.least 0 in
-        let high = long a.greatest all_ones in
-        ⊎_elim
-        (λ c. ⊎_elim (λ r. inl (at_most_along (int_div low (val m.least)) (int_div low (val y)) (int_div n (val y)) r c))
-        (λ r. inr (inl (at_most_along (int_div low (val m.greatest)) (int_div low (val y)) (int_div n (val y)) r c)))
-        (divisor_least low (val m.least) (val y) (val m.greatest) y_from y_to (one_sided m no_zero)))
-        (λ c. ⊎_elim (λ r. inr (inr (inl (at_most_along (int_div high (val m.least)) (int_div high (val y)) (int_div n (val y)) r c))))
-        (λ r. inr (inr (inr (at_most_along (int_div high (val m.greatest)) (int_div high (val y)) (int_div n (val y)) r c))))
-        (divisor_least high (val m.least) (val y) (val m.greatest) y_from y_to (one_sided m no_zero)))
-        (divided_least (val y) low n high some from to)
-
-    quotient_below : IsBelow (int_div (long a.least 0) (val m.least)) (int_div (long a.least 0) (val m.greatest))
-        (int_div (long a.greatest all_ones) (val m.least)) (int_div (long a.greatest all_ones) (val m.greatest)) (int_div n (val y))
-    quotient_below =
-        let low = long a.least 0 in
-        let high = long a.greatest all_ones in
-        ⊎_elim
-        (λ c. ⊎_elim (λ r. inl (at_most_along (int_div n (val y)) (int_div low (val y)) (int_div low (val m.least)) c r))
-        (λ r. inr (inl (at_most_along (int_div n (val y)) (int_div low (val y)) (int_div low (val m.greatest)) c r)))
-        (divisor_most low (val m.least) (val y) (val m.greatest) y_from y_to (one_sided m no_zero)))
-        (λ c. ⊎_elim (λ r. inr (inr (inl (at_most_along (int_div n (val y)) (int_div high (val y)) (int_div high (val m.least)) c r))))
-        (λ r. inr (inr (inr (at_most_along (int_div n (val y)) (int_div high (val y)) (int_div high (val m.greatest)) c r))))
-        (divisor_most high (val m.least) (val y) (val m.greatest) y_from y_to (one_sided m no_zero)))
-        (divided_most (val y) low n high some from to)
-
   pub quotient_corners : IsCornered quotient_number a m
       (operands a.least 0 m.least) (operands a.least 0 m.greatest) (operands a.greatest all_ones m.least) (operands a.greatest all_ones m.greatest)
-  quotient_corners = record {
-    is1 = record { a_between = least_between a is_a; q_word = omega arith; m_between = least_between m is_m };
-    is2 = record { a_between = least_between a is_a; q_word = omega arith; m_between = greatest_between m is_m };
-    is3 = record { a_between = greatest_between a is_a; q_word = omega arith; m_between = least_between m is_m };
-    is4 = record { a_between = greatest_between a is_a; q_word = omega arith; m_between = greatest_between m is_m };
-    corner1 = record { a_corner = inl refl; q_corner = inl refl; m_corner = inl refl };
-    corner2 = record { a_corner = inl refl; q_corner = inl refl; m_corner = inr refl };
-    corner3 = record { a_corner = inr (inl refl); q_corner = inr refl; m_corner = inl refl };
-    corner4 = record { a_corner = inr (inl refl); q_corner = inr refl; m_corner = inr refl };
-    from = λ o is. quotient_above (long o.a o.q) o.m (some_divisor o is)
-        (long_from a.least o.a o.q is.a_between.from) (long_to a.greatest o.a o.q is.a_between.to) is.m_between.from is.m_between.to;
-    to = λ o is. quotient_below (long o.a o.q) o.m (some_divisor o is)
-        (long_from a.least o.a o.q is.a_between.from) (long_to a.greatest o.a o.q is.a_between.to) is.m_between.from is.m_between.to;
-  }
+  quotient_corners = cornered_of quotient_number a m all_ones is_a is_m (inr refl)
+      (λ o is. divided_amid (val o.m) (long a.least 0) (long o.a o.q) (long a.greatest all_ones) (some_divisor o is)
+      (long_from a.least o.a o.q is.a_between.from) (long_to a.greatest o.a o.q is.a_between.to))
+      (λ x r y between. divisor_amid (long x r) (val m.least) (val y) (val m.greatest) between.from between.to (one_sided m no_zero))
 
   pub candidates_are : quotient_candidates a m
       ≡ operands a.least 0 m.least ∷ operands a.least 0 m.greatest ∷ operands a.greatest all_ones m.least ∷ operands a.greatest all_ones m.greatest ∷ []

@@ -12,10 +12,9 @@ use Rattle.ags_domain.specs.Hull.{IsOperands, no_cell}
 use Rattle.ags_domain.specs.Candidates.{operands}
 use Rattle.ags_domain.specs.declared.operands.Operands.{Operands}
 use Rattle.ags_domain.proofs.IntLaws.{mul_up, shifted_right_up}
-use Rattle.ags_domain.proofs.HullLaws.{IsExact, IsSpan, AreEnds}
+use Rattle.ags_domain.proofs.HullLaws.{IsExact, IsSpan, AreEnds, AreEnds-no_cell, span_of}
 use Rattle.ags_domain.proofs.SumLaws.{settled_exact}
 use Rattle.ags_domain.proofs.ProductLaws.{fits_high, high_value}
-use Rattle.ags_domain.proofs.SignLaws.{at_least, at_greatest}
 
 -- ---- A alone
 
@@ -26,14 +25,10 @@ pub left_exact : (count : ℕ) (a_ends m_ends : Ends) → IsExact (left_shift co
 left_exact count = settled_exact (λ a q m. val a *ℤ pos (2 ^ count))
 
 pub left_span : (count : ℕ) (a : Ends) → AreEnds a → IsSpan (left_number count) a no_cell (operands a.least 0 0) (operands a.greatest 0 0)
-left_span count a is_a = record {
-  low_is = at_least a is_a 0 (omega arith);
-  high_is = at_greatest a is_a 0 (omega arith);
-  low_corner = record { a_corner = inl refl; q_corner = inl refl; m_corner = inl refl };
-  high_corner = record { a_corner = inr (inl refl); q_corner = inl refl; m_corner = inl refl };
-  from = λ o is. mul_up (val a.least) (val o.a) (2 ^ count) is.a_between.from;
-  to = λ o is. mul_up (val o.a) (val a.greatest) (2 ^ count) is.a_between.to;
-}
+left_span count a is_a = span_of (left_number count) a no_cell (operands a.least 0 0) (operands a.greatest 0 0) is_a AreEnds-no_cell
+    (inl refl, inl refl, inl refl) (inr refl, inl refl, inl refl)
+    (λ o is. mul_up (val a.least) (val o.a) (2 ^ count) is.a_between.from)
+    (λ o is. mul_up (val o.a) (val a.greatest) (2 ^ count) is.a_between.to)
 
 -- ---- pairs
 
@@ -74,26 +69,16 @@ long_right_exact count a_ends m_ends = record {
     right_fits o is = sym (fits_high (shifted_right (long o.a o.q) count)) ∙ fits_long-shifted_right (long o.a o.q) count (fits_long-long o.a o.q is.a_between.is_word)
 
 module _ (count : ℕ) (a : Ends) (is_a : AreEnds a) where
+  -- of what a function that keeps the order makes of the pair
+  pair_span : (f : ℤ → ℤ) → ((i j : ℤ) → i ≤ℤ j → f i ≤ℤ f j)
+      → IsSpan (λ o. shifted_right (f (long o.a o.q)) 17) a no_cell (operands a.least 0 0) (operands a.greatest all_ones 0)
+  pair_span f up = span_of (λ o. shifted_right (f (long o.a o.q)) 17) a no_cell (operands a.least 0 0) (operands a.greatest all_ones 0) is_a AreEnds-no_cell
+      (inl refl, inl refl, inl refl) (inr refl, inr refl, inl refl)
+      (λ o is. shifted_right_up _ _ 17 (up (long a.least 0) (long o.a o.q) (long_from a.least o.a o.q is.a_between.from)))
+      (λ o is. shifted_right_up _ _ 17 (up (long o.a o.q) (long a.greatest all_ones) (long_to a.greatest o.a o.q is.a_between.to)))
+
   pub long_left_span : IsSpan (long_left_number count) a no_cell (operands a.least 0 0) (operands a.greatest all_ones 0)
-  long_left_span = record {
-    low_is = at_least a is_a 0 (omega arith);
-    high_is = at_greatest a is_a all_ones (omega arith);
-    low_corner = record { a_corner = inl refl; q_corner = inl refl; m_corner = inl refl };
-    high_corner = record { a_corner = inr (inl refl); q_corner = inr refl; m_corner = inl refl };
-    from = λ o is. shifted_right_up (long a.least 0 *ℤ pos (2 ^ count)) (long o.a o.q *ℤ pos (2 ^ count)) 17
-        (mul_up (long a.least 0) (long o.a o.q) (2 ^ count) (long_from a.least o.a o.q is.a_between.from));
-    to = λ o is. shifted_right_up (long o.a o.q *ℤ pos (2 ^ count)) (long a.greatest all_ones *ℤ pos (2 ^ count)) 17
-        (mul_up (long o.a o.q) (long a.greatest all_ones) (2 ^ count) (long_to a.greatest o.a o.q is.a_between.to));
-  }
+  long_left_span = pair_span (λ n. n *ℤ pos (2 ^ count)) (λ i j h. mul_up i j (2 ^ count) h)
 
   pub long_right_span : IsSpan (long_right_number count) a no_cell (operands a.least 0 0) (operands a.greatest all_ones 0)
-  long_right_span = record {
-    low_is = at_least a is_a 0 (omega arith);
-    high_is = at_greatest a is_a all_ones (omega arith);
-    low_corner = record { a_corner = inl refl; q_corner = inl refl; m_corner = inl refl };
-    high_corner = record { a_corner = inr (inl refl); q_corner = inr refl; m_corner = inl refl };
-    from = λ o is. shifted_right_up (shifted_right (long a.least 0) count) (shifted_right (long o.a o.q) count) 17
-        (shifted_right_up (long a.least 0) (long o.a o.q) count (long_from a.least o.a o.q is.a_between.from));
-    to = λ o is. shifted_right_up (shifted_right (long o.a o.q) count) (shifted_right (long a.greatest all_ones) count) 17
-        (shifted_right_up (long o.a o.q) (long a.greatest all_ones) count (long_to a.greatest o.a o.q is.a_between.to));
-  }
+  long_right_span = pair_span (λ n. shifted_right n count) (λ i j h. shifted_right_up i j count h)

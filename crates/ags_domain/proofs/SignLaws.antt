@@ -2,18 +2,19 @@
 use Rattle.std.proofs.Common.{◌≡◌, ℕ, ◌<◌, ◌^◌, Bool, true, false, refl, sym, subst, ◌⊎◌, inl, inr, ⊎_elim, arith, ℤ, pos, negsuc, ◌≤ℤ◌, [], ◌∷◌}
 use Rattle.std.specs.Prelude.{neg_ℤ, not, unsigned_abs, Result, Ok, Err}
 use Rattle.std.proofs.lemmas.Int.{ints}
+use Rattle.std.proofs.lemmas.Bool.{not-true}
 use Rattle.ags_word.specs.Word.{val, fits, wrap}
 use Rattle.ags_word.specs.Operation.{negative, size}
 use Rattle.ags_word.proofs.WordLaws.{negative_over, size_over}
 use Rattle.ags_domain.specs.Domain.{Ends, IsBetween}
-use Rattle.ags_domain.specs.Hull.{IsOperands, IsCorner, IsHull, IsFirstOverflow, IsInterval, Answers, overflows_at, tried, no_cell}
+use Rattle.ags_domain.specs.Hull.{IsOperands, IsFirstOverflow, IsInterval, Answers, overflows_at, tried, no_cell}
 use Rattle.ags_domain.specs.Candidates.{operands, sign_candidates}
 use Rattle.ags_domain.specs.Range.{range_ends, range_meaning, greater, ends_of}
 use Rattle.ags_domain.specs.Corners.{IsFromZero}
 use Rattle.ags_domain.specs.declared.operands.Operands.{Operands}
 use Rattle.ags_domain.specs.declared.ranges.Range.{Range}
-use Rattle.ags_domain.proofs.HullLaws.{IsExact, IsFine, IsSpan, IsRimmed, AreEnds, AreEnds-no_cell, least_between, greatest_between, none_over, hull_inside, value_is, tried_fine, tried_word, told_first, told_later}
-use Rattle.ags_domain.proofs.CornerLaws.{found_is, told_alone, fine_of, reached_at, greater_one, greater_left, greater_right}
+use Rattle.ags_domain.proofs.HullLaws.{IsExact, IsFine, IsSpan, AreEnds, AreEnds-no_cell, least_between, greatest_between, rimmed_interval, word_of, value_of, fine_of, reached_at, end_corner, span_of, told_first, told_later, told_answer}
+use Rattle.ags_domain.proofs.CornerLaws.{found_is, told_alone, greater_one, greater_left, greater_right}
 use Rattle.ags_domain.proofs.SumLaws.{settled_exact}
 
 abbrev pub negative_number : Operands → ℤ
@@ -38,59 +39,37 @@ at_least a is_a q h = record { a_between = least_between a is_a; q_word = h; m_b
 pub at_greatest : (a : Ends) → AreEnds a → (q : ℕ) → q < 2 ^ 18 → IsOperands a no_cell (operands a.greatest q 0)
 at_greatest a is_a q h = record { a_between = greatest_between a is_a; q_word = h; m_between = zero_between }
 
-least_corner : (a : Ends) → IsCorner a no_cell (operands a.least 0 0)
-least_corner a = record { a_corner = inl refl; q_corner = inl refl; m_corner = inl refl }
-
-greatest_corner : (a : Ends) → IsCorner a no_cell (operands a.greatest 0 0)
-greatest_corner a = record { a_corner = inr (inl refl); q_corner = inl refl; m_corner = inl refl }
-
 pub negative_span : (a : Ends) → AreEnds a → IsSpan negative_number a no_cell (operands a.greatest 0 0) (operands a.least 0 0)
-negative_span a is_a = record {
-  low_is = at_greatest a is_a 0 (omega arith);
-  high_is = at_least a is_a 0 (omega arith);
-  low_corner = greatest_corner a;
-  high_corner = least_corner a;
-  from = λ o is. let to = is.a_between.to in omega (arith, ints);
-  to = λ o is. let from = is.a_between.from in omega (arith, ints);
-}
+negative_span a is_a = span_of negative_number a no_cell (operands a.greatest 0 0) (operands a.least 0 0) is_a AreEnds-no_cell
+    (inr refl, inl refl, inl refl) (inl refl, inl refl, inl refl)
+    (λ o is. let to = is.a_between.to in omega (arith, ints))
+    (λ o is. let from = is.a_between.from in omega (arith, ints))
 
 pub size_span_above : (a : Ends) → AreEnds a → pos 0 ≤ℤ val a.least → IsSpan size_number a no_cell (operands a.least 0 0) (operands a.greatest 0 0)
-size_span_above a is_a above = record {
-  low_is = at_least a is_a 0 (omega arith);
-  high_is = at_greatest a is_a 0 (omega arith);
-  low_corner = least_corner a;
-  high_corner = greatest_corner a;
-  from = λ o is. let from = is.a_between.from in omega (arith, ints);
-  to = λ o is. let from = is.a_between.from in let to = is.a_between.to in omega (arith, ints);
-}
+size_span_above a is_a above = span_of size_number a no_cell (operands a.least 0 0) (operands a.greatest 0 0) is_a AreEnds-no_cell
+    (inl refl, inl refl, inl refl) (inr refl, inl refl, inl refl)
+    (λ o is. let from = is.a_between.from in omega (arith, ints))
+    (λ o is. let from = is.a_between.from in let to = is.a_between.to in omega (arith, ints))
 
 pub size_span_below : (a : Ends) → AreEnds a → val a.greatest ≤ℤ pos 0 → IsSpan size_number a no_cell (operands a.greatest 0 0) (operands a.least 0 0)
-size_span_below a is_a below = record {
-  low_is = at_greatest a is_a 0 (omega arith);
-  high_is = at_least a is_a 0 (omega arith);
-  low_corner = greatest_corner a;
-  high_corner = least_corner a;
-  from = λ o is. let to = is.a_between.to in omega (arith, ints);
-  to = λ o is. let from = is.a_between.from in let to = is.a_between.to in omega (arith, ints);
-}
+size_span_below a is_a below = span_of size_number a no_cell (operands a.greatest 0 0) (operands a.least 0 0) is_a AreEnds-no_cell
+    (inr refl, inl refl, inl refl) (inl refl, inl refl, inl refl)
+    (λ o is. let to = is.a_between.to in omega (arith, ints))
+    (λ o is. let from = is.a_between.from in let to = is.a_between.to in omega (arith, ints))
 
 -- ---- what is told
-
-not_true : (b : Bool) → not b ≡ true → b ≡ false
-not_true true h = absurd cc
-not_true false h = refl
 
 module _ (a : Ends) (x y : ℕ) (e : Operands) where
   pub negative_told : IsFirstOverflow negative a no_cell (operands x 0 0 ∷ operands y 0 0 ∷ []) e → IsFirstOverflow negative a no_cell (sign_candidates a no_cell) e
   negative_told is =
       let found = found_is (overflows_at negative) (λ o. (o.q ≡ 0) × (o.m ≡ 0)) (operands x 0 0 ∷ operands y 0 0 ∷ []) e ((refl, refl), ((refl, refl), tt)) is.first in
-      let least = negative_over e.a is.operands.a_between.is_word (not_true (fits (neg_ℤ (val e.a))) found.1) in
+      let least = negative_over e.a is.operands.a_between.is_word (not-true (fits (neg_ℤ (val e.a))) found.1) in
       told_alone negative a no_cell e (2 ^ 17) 0 0 least found.0.0 found.0.1 found.1 is.operands
 
   pub size_told : IsFirstOverflow size a no_cell (operands x 0 0 ∷ operands y 0 0 ∷ []) e → IsFirstOverflow size a no_cell (sign_candidates a no_cell) e
   size_told is =
       let found = found_is (overflows_at size) (λ o. (o.q ≡ 0) × (o.m ≡ 0)) (operands x 0 0 ∷ operands y 0 0 ∷ []) e ((refl, refl), ((refl, refl), tt)) is.first in
-      let least = size_over e.a is.operands.a_between.is_word (not_true (fits (pos (unsigned_abs (val e.a)))) found.1) in
+      let least = size_over e.a is.operands.a_between.is_word (not-true (fits (pos (unsigned_abs (val e.a)))) found.1) in
       told_alone size a no_cell e (2 ^ 17) 0 0 least found.0.0 found.0.1 found.1 is.operands
 
 -- ---- sizes of an interval that has 0
@@ -114,45 +93,31 @@ module _ (a : Ends) (is_a : AreEnds a) (from_below : val a.least ≤ℤ pos 0) (
       }
 
   module _ (w1 w2 : ℕ) (ok1 : tried size (operands a.least 0 0) ≡ Ok w1) (ok2 : tried size (operands a.greatest 0 0) ≡ Ok w2) where
-    first_value : val w1 ≡ pos (unsigned_abs (val a.least))
-    first_value = subst (λ w. val w ≡ pos (unsigned_abs (val a.least))) (tried_word size (operands a.least 0 0) w1 ok1)
-        (value_is size size_number a no_cell a (size_exact a no_cell) (operands a.least 0 0) (at_least a is_a 0 (omega arith)) (tried_fine size (operands a.least 0 0) w1 ok1))
-
-    second_value : val w2 ≡ pos (unsigned_abs (val a.greatest))
-    second_value = subst (λ w. val w ≡ pos (unsigned_abs (val a.greatest))) (tried_word size (operands a.greatest 0 0) w2 ok2)
-        (value_is size size_number a no_cell a (size_exact a no_cell) (operands a.greatest 0 0) (at_greatest a is_a 0 (omega arith)) (tried_fine size (operands a.greatest 0 0) w2 ok2))
+    size_is : (o : Operands) (w : ℕ) → IsOperands a no_cell o → tried size o ≡ Ok w → val w ≡ size_number o
+    size_is = value_of size size_number a no_cell (size_exact a no_cell)
 
     pub zero_below : pos 0 ≤ℤ val (greater w1 w2)
-    zero_below = let value = first_value in let left = greater_left w1 w2 in omega (arith, ints)
+    zero_below =
+        let value = size_is (operands a.least 0 0) w1 (at_least a is_a 0 (omega arith)) ok1 in
+        let left = greater_left w1 w2 in
+        omega (arith, ints)
+
+    fine_at : (o : Operands) (w : ℕ) → IsOperands a no_cell o → tried size o ≡ Ok w → val w ≤ℤ val (greater w1 w2)
+        → IsFine size a no_cell (ends_of 0 (greater w1 w2)) o
+    fine_at o w is ok to =
+        let zero = val_zero in
+        let value = size_is o w is ok in
+        fine_of size a no_cell (ends_of 0 (greater w1 w2)) o w is ok
+        (record { is_word = word_of size size_number a no_cell (size_exact a no_cell) o w is ok; from = omega (arith, ints); to = to })
 
     zero_fine : IsFine size a no_cell (ends_of 0 (greater w1 w2)) (operands 0 0 0)
-    zero_fine =
-        let zero = val_zero in
-        let below = zero_below in
-        fine_of size a no_cell (ends_of 0 (greater w1 w2)) (operands 0 0 0) 0 zero_is zero_tried
-        (record { is_word = omega arith; from = omega (arith, ints); to = omega (arith, ints) })
+    zero_fine = fine_at (operands 0 0 0) 0 zero_is zero_tried (let zero = val_zero in let below = zero_below in omega (arith, ints))
 
     first_fine : IsFine size a no_cell (ends_of 0 (greater w1 w2)) (operands a.least 0 0)
-    first_fine =
-        let zero = val_zero in
-        let value = first_value in
-        fine_of size a no_cell (ends_of 0 (greater w1 w2)) (operands a.least 0 0) w1 (at_least a is_a 0 (omega arith)) ok1
-        (record {
-          is_word = subst (λ (w : ℕ). w < 2 ^ 18) (tried_word size (operands a.least 0 0) w1 ok1) ((size_exact a no_cell).word (operands a.least 0 0) (at_least a is_a 0 (omega arith)));
-          from = omega (arith, ints);
-          to = greater_left w1 w2;
-        })
+    first_fine = fine_at (operands a.least 0 0) w1 (at_least a is_a 0 (omega arith)) ok1 (greater_left w1 w2)
 
     second_fine : IsFine size a no_cell (ends_of 0 (greater w1 w2)) (operands a.greatest 0 0)
-    second_fine =
-        let zero = val_zero in
-        let value = second_value in
-        fine_of size a no_cell (ends_of 0 (greater w1 w2)) (operands a.greatest 0 0) w2 (at_greatest a is_a 0 (omega arith)) ok2
-        (record {
-          is_word = subst (λ (w : ℕ). w < 2 ^ 18) (tried_word size (operands a.greatest 0 0) w2 ok2) ((size_exact a no_cell).word (operands a.greatest 0 0) (at_greatest a is_a 0 (omega arith)));
-          from = omega (arith, ints);
-          to = greater_right w1 w2;
-        })
+    second_fine = fine_at (operands a.greatest 0 0) w2 (at_greatest a is_a 0 (omega arith)) ok2 (greater_right w1 w2)
 
     bounded : (o : Operands) → IsOperands a no_cell o → (size_number o ≤ℤ size_number (operands a.least 0 0)) ⊎ (size_number o ≤ℤ size_number (operands a.greatest 0 0))
     bounded o is = by_sign (val o.a) is.a_between.from is.a_between.to
@@ -161,34 +126,28 @@ module _ (a : Ends) (is_a : AreEnds a) (from_below : val a.least ≤ℤ pos 0) (
         by_sign (pos n) h k = inr (omega (arith, ints))
         by_sign (negsuc n) h k = inl (omega (arith, ints))
 
-    across_rim : IsRimmed size size_number a no_cell (ends_of 0 (greater w1 w2)) (size_exact a no_cell)
-    across_rim = record {
-      lower = λ o is. (operands 0 0 0, zero_fine, (let zero = val_zero in omega (arith, ints)));
-      upper = λ o is. ⊎_elim (λ h. (operands a.least 0 0, first_fine, h)) (λ h. (operands a.greatest 0 0, second_fine, h)) (bounded o is);
-    }
-
     pub across_interval : (range : Range) → range_ends range ≡ ends_of 0 (greater w1 w2) → IsInterval range_meaning size a no_cell range
-    across_interval range ends_are = record {
-      none = none_over size size_number a no_cell (ends_of 0 (greater w1 w2)) (size_exact a no_cell) across_rim;
-      hull = subst (λ ends. IsHull size a no_cell ends) (sym ends_are) (record {
-        each = hull_inside size size_number a no_cell (ends_of 0 (greater w1 w2)) (size_exact a no_cell) across_rim;
-        least = reached_at size a no_cell (operands 0 0 0) 0 0 zero_is (record { a_corner = inr (inr refl); q_corner = inl refl; m_corner = inl refl }) zero_tried refl;
-        greatest = ⊎_elim
-            (reached_at size a no_cell (operands a.least 0 0) w1 (greater w1 w2) (at_least a is_a 0 (omega arith)) (least_corner a) ok1)
-            (reached_at size a no_cell (operands a.greatest 0 0) w2 (greater w1 w2) (at_greatest a is_a 0 (omega arith)) (greatest_corner a) ok2)
-            (greater_one w1 w2);
-      });
-      kept = refl;
-    }
+    across_interval = rimmed_interval size size_number a no_cell (size_exact a no_cell) (ends_of 0 (greater w1 w2))
+        (record {
+          lower = λ o is. (operands 0 0 0, zero_fine, (let zero = val_zero in omega (arith, ints)));
+          upper = λ o is. ⊎_elim (λ h. (operands a.least 0 0, first_fine, h)) (λ h. (operands a.greatest 0 0, second_fine, h)) (bounded o is);
+        })
+        (reached_at size a no_cell (operands 0 0 0) 0 0 zero_is (record { a_corner = inr (inr refl); q_corner = inl refl; m_corner = inl refl }) zero_tried refl)
+        (⊎_elim
+        (reached_at size a no_cell (operands a.least 0 0) w1 (greater w1 w2) (at_least a is_a 0 (omega arith))
+        (end_corner a no_cell (operands a.least 0 0) (inl refl, inl refl, inl refl)) ok1)
+        (reached_at size a no_cell (operands a.greatest 0 0) w2 (greater w1 w2) (at_greatest a is_a 0 (omega arith))
+        (end_corner a no_cell (operands a.greatest 0 0) (inr refl, inl refl, inl refl)) ok2)
+        (greater_one w1 w2))
 
   pub across_answers : (t1 t2 : Result ℕ Operands) → tried size (operands a.least 0 0) ≡ t1 → tried size (operands a.greatest 0 0) ≡ t2
       → (answer : Result Range Operands) → IsFromZero t1 t2 answer
       → Answers range_meaning size (λ a m. operands a.least 0 0 ∷ operands a.greatest 0 0 ∷ []) a no_cell answer
   across_answers (Err e) t2 h1 h2 answer is =
-      subst (λ (r : Result Range Operands). Answers range_meaning size (λ a m. operands a.least 0 0 ∷ operands a.greatest 0 0 ∷ []) a no_cell r) (sym is)
+      told_answer size a no_cell (operands a.least 0 0 ∷ operands a.greatest 0 0 ∷ []) e answer is
       (told_first size a no_cell (operands a.least 0 0) e (operands a.greatest 0 0 ∷ []) (at_least a is_a 0 (omega arith)) h1)
   across_answers (Ok w1) (Err e) h1 h2 answer is =
-      subst (λ (r : Result Range Operands). Answers range_meaning size (λ a m. operands a.least 0 0 ∷ operands a.greatest 0 0 ∷ []) a no_cell r) (sym is)
+      told_answer size a no_cell (operands a.least 0 0 ∷ operands a.greatest 0 0 ∷ []) e answer is
       (told_later size a no_cell (operands a.least 0 0) e w1 (operands a.greatest 0 0 ∷ []) h1
       (told_first size a no_cell (operands a.greatest 0 0) e [] (at_greatest a is_a 0 (omega arith)) h2))
   across_answers (Ok w1) (Ok w2) h1 h2 (Ok range) is = across_interval w1 w2 h1 h2 range is
