@@ -10,11 +10,11 @@ use Rattle.ags_domain.specs.Domain.{Ends, IsBetween}
 use Rattle.ags_domain.specs.Hull.{IsOperands, IsCorner, IsReached, IsFirstOverflow, IsInterval, Answers, tried, overflows_at}
 use Rattle.ags_domain.specs.Candidates.{operands}
 use Rattle.ags_domain.specs.Range.{range_ends, range_meaning, lesser, greater}
-use Rattle.ags_domain.specs.Corners.{IsAround, ends_of_four}
+use Rattle.ags_domain.specs.Corners.{IsSpanned, IsAround, ends_of_four}
 use Rattle.ags_domain.specs.declared.operands.Operands.{Operands}
 use Rattle.ags_domain.specs.declared.ranges.Range.{Range}
 use Rattle.ags_domain.proofs.IntLaws.{IsAmid}
-use Rattle.ags_domain.proofs.HullLaws.{IsExact, IsFine, AreEnds, word_of, rimmed_interval, fine_of, reached_at, end_operands, end_corner, told_first, told_later, told_answer}
+use Rattle.ags_domain.proofs.HullLaws.{IsExact, IsSpan, IsFine, AreEnds, spanned_ordered, spanned_answers, word_of, rimmed_interval, fine_of, reached_at, end_operands, end_corner, told_first, told_later, told_answer}
 
 -- ---- of two words the lesser and the greater
 
@@ -47,16 +47,11 @@ IsBelow first second third fourth n = (n ≤ℤ first) ⊎ ((n ≤ℤ second) �
 abbrev pub IsOneOf : (first second third fourth word : ℕ) → Type 0
 IsOneOf first second third fourth word = (word ≡ first) ⊎ ((word ≡ second) ⊎ ((word ≡ third) ⊎ (word ≡ fourth)))
 
--- one of four, kept of two by two
-chosen_one : (f : ℕ → ℕ → ℕ) → ((x y : ℕ) → (f x y ≡ x) ⊎ (f x y ≡ y)) → (first second third fourth : ℕ)
-    → IsOneOf first second third fourth (f (f first second) (f third fourth))
-chosen_one f one first second third fourth = ⊎_elim
-    (λ e. ⊎_elim (λ g. inl (e ∙ g)) (λ g. inr (inl (e ∙ g))) (one first second))
-    (λ e. ⊎_elim (λ g. inr (inr (inl (e ∙ g)))) (λ g. inr (inr (inr (e ∙ g)))) (one third fourth))
-    (one (f first second) (f third fourth))
+least_one : (first second third fourth : ℕ) → IsOneOf first second third fourth (lesser (lesser first second) (lesser third fourth))
+least_one first second third fourth = grind (arith, ints)
 
-pair_holds : (x y w : ℕ) → (w ≡ x) ⊎ (w ≡ y) → (val (lesser x y) ≤ℤ val w) × (val w ≤ℤ val (greater x y))
-pair_holds x y w one = (grind (arith, ints), grind (arith, ints))
+greatest_one : (first second third fourth : ℕ) → IsOneOf first second third fourth (greater (greater first second) (greater third fourth))
+greatest_one first second third fourth = grind (arith, ints)
 
 holds_one : (first second third fourth w : ℕ) → IsOneOf first second third fourth w → w < 2 ^ 18 → IsBetween (ends_of_four first second third fourth) w
 holds_one first second third fourth w one is = record { is_word = is; from = grind (arith, ints); to = grind (arith, ints) }
@@ -146,8 +141,8 @@ module _ (operation : Operation) (number : Operands → ℤ) (a_ends m_ends : En
         lower = λ o is. ⊎_elim (λ h. (c1, fine1, h)) (⊎_elim (λ h. (c2, fine2, h)) (⊎_elim (λ h. (c3, fine3, h)) (λ h. (c4, fine4, h)))) (cornered.from o is);
         upper = λ o is. ⊎_elim (λ h. (c1, fine1, h)) (⊎_elim (λ h. (c2, fine2, h)) (⊎_elim (λ h. (c3, fine3, h)) (λ h. (c4, fine4, h)))) (cornered.to o is);
       })
-      (reached_one (lesser (lesser w1 w2) (lesser w3 w4)) (chosen_one lesser lesser_one w1 w2 w3 w4))
-      (reached_one (greater (greater w1 w2) (greater w3 w4)) (chosen_one greater greater_one w1 w2 w3 w4))
+      (reached_one (lesser (lesser w1 w2) (lesser w3 w4)) (least_one w1 w2 w3 w4))
+      (reached_one (greater (greater w1 w2) (greater w3 w4)) (greatest_one w1 w2 w3 w4))
 
 module _ (operation : Operation) (number : Operands → ℤ) (a_ends m_ends : Ends) (c1 c2 c3 c4 : Operands)
     (is_exact : IsExact operation number a_ends m_ends) (cornered : IsCornered number a_ends m_ends c1 c2 c3 c4) where
@@ -207,3 +202,20 @@ pub answers_along : (operation : Operation) (a_ends m_ends : Ends) (old new : En
     → (answer : Result Range Operands) → Answers range_meaning operation old a_ends m_ends answer → Answers range_meaning operation new a_ends m_ends answer
 answers_along operation a_ends m_ends old new along (Ok range) is = is
 answers_along operation a_ends m_ends old new along (Err e) is = along e is
+
+-- ---- two tries in hand
+
+-- the one of greater value is tried first: their words are in order, and what is made of them is the operation's answer
+pub record AreTried (operation : Operation) (candidates : Ends → Ends → List Operands) (a_ends m_ends : Ends) (greatest least : Result ℕ Operands) : Type 0 where
+  pub ordered : (l g : ℕ) → least ≡ Ok l → greatest ≡ Ok g → val l ≤ℤ val g
+  pub answers : (answer : Result Range Operands) → IsSpanned greatest least answer → Answers range_meaning operation candidates a_ends m_ends answer
+
+pub tried_of : (operation : Operation) (number : Operands → ℤ) (candidates : Ends → Ends → List Operands) (a_ends m_ends : Ends) (low high : Operands)
+    → IsExact operation number a_ends m_ends → IsSpan number a_ends m_ends low high
+    → ((e : Operands) → IsFirstOverflow operation a_ends m_ends (high ∷ low ∷ []) e → IsFirstOverflow operation a_ends m_ends (candidates a_ends m_ends) e)
+    → (greatest least : Result ℕ Operands) → greatest ≡ tried operation high → least ≡ tried operation low → AreTried operation candidates a_ends m_ends greatest least
+tried_of operation number candidates a_ends m_ends low high is_exact is_span along greatest least h k = record {
+  ordered = λ l g p q. spanned_ordered operation number a_ends m_ends low high is_exact is_span l g (sym k ∙ p) (sym h ∙ q);
+  answers = λ answer is. answers_along operation a_ends m_ends (λ a m. high ∷ low ∷ []) candidates along answer
+      (spanned_answers operation number a_ends m_ends low high is_exact is_span greatest least (sym h) (sym k) answer is);
+}

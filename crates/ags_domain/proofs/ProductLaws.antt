@@ -1,6 +1,6 @@
 -- The numbers of products, and the corners between which they lie.
 use Rattle.std.proofs.Common.{◌≡◌, ℕ, ◌-◌, ◌*◌, ◌<◌, ◌≤◌, ◌^◌, Bool, true, false, refl, sym, ap, subst, ◌∙◌, inl, inr, ⊎_elim, arith, ℤ, pos, negsuc, ◌+ℤ◌, ◌*ℤ◌, ◌≤ℤ◌, ◌<ℤ◌, [], ◌∷◌}
-use Rattle.std.specs.Prelude.{neg_ℤ, not, unsigned_abs}
+use Rattle.std.specs.Prelude.{neg_ℤ, not, unsigned_abs, Result}
 use Rattle.std.proofs.lemmas.Int.{ints, unsigned_abs-mul}
 use Rattle.std.proofs.lemmas.Bool.Decides.{nat_tests}
 use Rattle.std.proofs.lemmas.Bool.{cases_lt, not-true}
@@ -11,12 +11,15 @@ use Rattle.ags_word.specs.Operation.{Operation, product, product_high, product_r
 use Rattle.ags_word.proofs.WordLaws.{val-wrap, wrap_below, val_least, val_most, val-low, val-high, fits_in}
 use Rattle.ags_word.proofs.LongLaws.{pair_a_below, product_over, over-product}
 use Rattle.ags_domain.specs.Domain.{Ends}
-use Rattle.ags_domain.specs.Hull.{IsFirstOverflow, overflows_at}
+use Rattle.ags_domain.specs.Hull.{IsFirstOverflow, Answers, tried, overflows_at}
 use Rattle.ags_domain.specs.Candidates.{operands, product_candidates}
+use Rattle.ags_domain.specs.Range.{range_ends, range_meaning}
+use Rattle.ags_domain.specs.Corners.{IsAround}
 use Rattle.ags_domain.specs.declared.operands.Operands.{Operands}
+use Rattle.ags_domain.specs.declared.ranges.Range.{Range}
 use Rattle.ags_domain.proofs.IntLaws.{amid_along, column_amid, row_amid, shifted_right_up}
 use Rattle.ags_domain.proofs.HullLaws.{IsExact, AreEnds}
-use Rattle.ags_domain.proofs.CornerLaws.{IsCornered, cornered_of, found_is, told_alone}
+use Rattle.ags_domain.proofs.CornerLaws.{IsCornered, cornered_of, around_answers, answers_along, found_is, told_alone}
 
 -- ---- the numbers
 
@@ -143,3 +146,28 @@ product_told operation is_over a m l1 l2 l3 l4 r1 r2 r3 r4 e is =
     let over = not-true (fits_long (product e.a e.m)) (sym (is_over e) ∙ found.1) in
     let both = product_over e.a e.m is.operands.a_between.is_word is.operands.m_between.is_word over in
     told_alone operation a m e (2 ^ 17) 0 (2 ^ 17) both.0 found.0 both.1 found.1 is.operands
+
+-- of four tries at the ends of two ranges
+module _ (operation : Operation) (number : Operands → ℤ) (a m : Range) (is_exact : IsExact operation number (range_ends a) (range_ends m))
+    (is_over : (o : Operands) → overflows_at operation o ≡ not (fits_long (product o.a o.m))) where
+  abbrev c1 : Operands
+  c1 = operands a.least 0 m.least
+
+  abbrev c2 : Operands
+  c2 = operands a.least 0 m.greatest
+
+  abbrev c3 : Operands
+  c3 = operands a.greatest 0 m.least
+
+  abbrev c4 : Operands
+  c4 = operands a.greatest 0 m.greatest
+
+  pub product_answers : IsCornered number (range_ends a) (range_ends m) c1 c2 c3 c4 → (t1 t2 t3 t4 : Result ℕ Operands) → t1 ≡ tried operation c1
+      → t2 ≡ tried operation c2 → t3 ≡ tried operation c3 → t4 ≡ tried operation c4 → (answer : Result Range Operands) → IsAround t1 t2 t3 t4 answer
+      → Answers range_meaning operation product_candidates (range_ends a) (range_ends m) answer
+  product_answers cornered t1 t2 t3 t4 h1 h2 h3 h4 answer is =
+      answers_along operation (range_ends a) (range_ends m) (λ a_ends m_ends. c1 ∷ c2 ∷ c3 ∷ c4 ∷ []) product_candidates
+      (product_told operation is_over (range_ends a) (range_ends m) a.least a.least a.greatest a.greatest m.least m.greatest m.least m.greatest)
+      answer
+      (around_answers operation number (range_ends a) (range_ends m) c1 c2 c3 c4 is_exact cornered
+      t1 t2 t3 t4 (sym h1) (sym h2) (sym h3) (sym h4) answer is)

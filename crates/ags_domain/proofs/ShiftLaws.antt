@@ -1,6 +1,6 @@
 -- The numbers of shifts, and the corners between which they lie.
 use Rattle.std.proofs.Common.{◌≡◌, ℕ, ◌^◌, true, refl, sym, ap, ◌∙◌, inl, inr, arith, ℤ, pos, ◌*ℤ◌, ◌≤ℤ◌}
-use Rattle.std.specs.Prelude.{not}
+use Rattle.std.specs.Prelude.{not, Result}
 use Rattle.std.proofs.lemmas.Int.{ints}
 use Rattle.ags_word.specs.Word.{val, fits}
 use Rattle.ags_word.specs.Long.{long, pair, wrap_long, shifted_right}
@@ -8,11 +8,14 @@ use Rattle.ags_word.specs.Operation.{left_shift, long_left_high, long_right_high
 use Rattle.ags_word.proofs.LongLaws.{pair_a_below, fits_long-long, fits_long-shifted_right, wrap_long-fits}
 use Rattle.ags_domain.specs.LowBits.{all_ones}
 use Rattle.ags_domain.specs.Domain.{Ends}
-use Rattle.ags_domain.specs.Hull.{IsOperands, no_cell}
-use Rattle.ags_domain.specs.Candidates.{operands}
+use Rattle.ags_domain.specs.Hull.{IsOperands, tried, no_cell}
+use Rattle.ags_domain.specs.Candidates.{operands, left_shift_candidates, long_left_candidates}
+use Rattle.ags_domain.specs.Range.{range_ends}
 use Rattle.ags_domain.specs.declared.operands.Operands.{Operands}
+use Rattle.ags_domain.specs.declared.ranges.Range.{Range}
 use Rattle.ags_domain.proofs.IntLaws.{mul_up, shifted_right_up}
-use Rattle.ags_domain.proofs.HullLaws.{IsExact, IsSpan, AreEnds, AreEnds-no_cell, span_of}
+use Rattle.ags_domain.proofs.HullLaws.{IsExact, IsSpan, AreEnds, AreEnds-range, AreEnds-no_cell, span_of}
+use Rattle.ags_domain.proofs.CornerLaws.{AreTried, tried_of}
 use Rattle.ags_domain.proofs.SumLaws.{settled_exact}
 use Rattle.ags_domain.proofs.ProductLaws.{fits_high, high_value}
 
@@ -82,3 +85,21 @@ module _ (count : ℕ) (a : Ends) (is_a : AreEnds a) where
 
   pub long_right_span : IsSpan (long_right_number count) a no_cell (operands a.least 0 0) (operands a.greatest all_ones 0)
   long_right_span = pair_span (λ n. shifted_right n count) (λ i j h. shifted_right_up i j count h)
+
+-- ---- tries at the ends of a range
+
+module _ (count : ℕ) (a : Range) (first second : Result ℕ Operands) where
+  pub lefts_tried : first ≡ tried (left_shift count) (operands a.greatest 0 0) → second ≡ tried (left_shift count) (operands a.least 0 0)
+      → AreTried (left_shift count) left_shift_candidates (range_ends a) no_cell first second
+  lefts_tried =
+      let ends = range_ends a in
+      tried_of (left_shift count) (left_number count) left_shift_candidates ends no_cell (operands a.least 0 0) (operands a.greatest 0 0)
+      (left_exact count ends no_cell) (left_span count ends (AreEnds-range a)) (λ e is. is) first second
+
+  pub long_lefts_tried : (q : ℕ) → q ≡ all_ones → first ≡ tried (long_left_high count) (operands a.greatest q 0)
+      → second ≡ tried (long_left_high count) (operands a.least 0 0) → AreTried (long_left_high count) long_left_candidates (range_ends a) no_cell first second
+  long_lefts_tried q ones h =
+      let ends = range_ends a in
+      tried_of (long_left_high count) (long_left_number count) long_left_candidates ends no_cell (operands a.least 0 0) (operands a.greatest all_ones 0)
+      (long_left_exact count ends no_cell) (long_left_span count ends (AreEnds-range a)) (λ e is. is) first second
+      (h ∙ ap (λ q. tried (long_left_high count) (operands a.greatest q 0)) ones)

@@ -13,8 +13,8 @@ use Rattle.ags_domain.specs.Range.{range_ends, range_meaning, greater, ends_of}
 use Rattle.ags_domain.specs.Corners.{IsFromZero}
 use Rattle.ags_domain.specs.declared.operands.Operands.{Operands}
 use Rattle.ags_domain.specs.declared.ranges.Range.{Range}
-use Rattle.ags_domain.proofs.HullLaws.{IsExact, IsFine, IsSpan, AreEnds, AreEnds-no_cell, least_between, greatest_between, rimmed_interval, word_of, value_of, fine_of, reached_at, end_corner, span_of, told_first, told_later, told_answer}
-use Rattle.ags_domain.proofs.CornerLaws.{found_is, told_alone, greater_one, greater_left, greater_right}
+use Rattle.ags_domain.proofs.HullLaws.{IsExact, IsFine, IsSpan, AreEnds, AreEnds-range, AreEnds-no_cell, least_between, greatest_between, rimmed_interval, word_of, value_of, fine_of, reached_at, end_corner, span_of, told_first, told_later, told_answer}
+use Rattle.ags_domain.proofs.CornerLaws.{AreTried, tried_of, found_is, told_alone, greater_one, greater_left, greater_right}
 use Rattle.ags_domain.proofs.SumLaws.{settled_exact}
 
 abbrev pub negative_number : Operands → ℤ
@@ -71,6 +71,23 @@ module _ (a : Ends) (x y : ℕ) (e : Operands) where
       let found = found_is (overflows_at size) (λ o. (o.q ≡ 0) × (o.m ≡ 0)) (operands x 0 0 ∷ operands y 0 0 ∷ []) e ((refl, refl), ((refl, refl), tt)) is.first in
       let least = size_over e.a is.operands.a_between.is_word (not-true (fits (pos (unsigned_abs (val e.a)))) found.1) in
       told_alone size a no_cell e (2 ^ 17) 0 0 least found.0.0 found.0.1 found.1 is.operands
+
+-- ---- tries at the ends of a range
+
+module _ (a : Range) (first second : Result ℕ Operands) where
+  pub negatives_tried : first ≡ tried negative (operands a.least 0 0) → second ≡ tried negative (operands a.greatest 0 0)
+      → AreTried negative sign_candidates (range_ends a) no_cell first second
+  negatives_tried =
+      let ends = range_ends a in
+      tried_of negative negative_number sign_candidates ends no_cell (operands a.greatest 0 0) (operands a.least 0 0)
+      (negative_exact ends no_cell) (negative_span ends (AreEnds-range a)) (negative_told ends a.least a.greatest) first second
+
+  pub sizes_tried : (low high : ℕ) → IsSpan size_number (range_ends a) no_cell (operands low 0 0) (operands high 0 0)
+      → first ≡ tried size (operands high 0 0) → second ≡ tried size (operands low 0 0) → AreTried size sign_candidates (range_ends a) no_cell first second
+  sizes_tried low high is_span =
+      let ends = range_ends a in
+      tried_of size size_number sign_candidates ends no_cell (operands low 0 0) (operands high 0 0)
+      (size_exact ends no_cell) is_span (size_told ends high low) first second
 
 -- ---- sizes of an interval that has 0
 

@@ -1,25 +1,16 @@
-use Rattle.std.proofs.Common.{sym, ◌∙◌, [], ◌∷◌}
-use Rattle.ags_word.specs.Operation.{size}
-use Rattle.ags_domain.specs.Hull.{no_cell}
-use Rattle.ags_domain.specs.Candidates.{operands, sign_candidates}
 use Rattle.ags_domain.specs.Range.{range_ends}
-use Rattle.ags_domain.proofs.HullLaws.{spanned_ordered, spanned_answers, AreEnds-range}
-use Rattle.ags_domain.proofs.CornerLaws.{answers_along}
-use Rattle.ags_domain.proofs.SignLaws.{size_number, size_exact, size_span_below, size_told}
+use Rattle.ags_domain.proofs.HullLaws.{AreEnds-range}
+use Rattle.ags_domain.proofs.SignLaws.{size_span_below, sizes_tried}
 use Rattle.ags_domain.proofs.signs.sizes_below.Goals as goal
 
 pub spanned-requires : goal.spanned-requires
 spanned-requires c =
     let a = c.args.a.now in
-    λ l g k h. spanned_ordered size size_number (range_ends a) no_cell (operands a.greatest 0 0) (operands a.least 0 0)
-    (size_exact (range_ends a) no_cell) (size_span_below (range_ends a) (AreEnds-range a) c.requires)
-    l g (sym c.size_at-2.ensures ∙ k) (sym c.size_at.ensures ∙ h)
+    (sizes_tried a c.size_at.result c.size_at-2.result a.greatest a.least (size_span_below (range_ends a) (AreEnds-range a) c.requires)
+    c.size_at.ensures c.size_at-2.ensures).ordered
 
 pub returns : goal.returns
 returns c =
     let a = c.args.a.now in
-    answers_along size (range_ends a) no_cell (λ a_ends m_ends. operands a.least 0 0 ∷ operands a.greatest 0 0 ∷ []) sign_candidates
-    (size_told (range_ends a) a.least a.greatest) c.spanned.result
-    (spanned_answers size size_number (range_ends a) no_cell (operands a.greatest 0 0) (operands a.least 0 0)
-    (size_exact (range_ends a) no_cell) (size_span_below (range_ends a) (AreEnds-range a) c.requires)
-    c.size_at.result c.size_at-2.result (sym c.size_at.ensures) (sym c.size_at-2.ensures) c.spanned.result c.spanned.ensures)
+    (sizes_tried a c.size_at.result c.size_at-2.result a.greatest a.least (size_span_below (range_ends a) (AreEnds-range a) c.requires)
+    c.size_at.ensures c.size_at-2.ensures).answers c.spanned.result c.spanned.ensures
