@@ -42,20 +42,20 @@ at_greatest a is_a q h = record { a_between = greatest_between a is_a; q_word = 
 pub negative_span : (a : Ends) → AreEnds a → IsSpan negative_number a no_cell (operands a.greatest 0 0) (operands a.least 0 0)
 negative_span a is_a = span_of negative_number a no_cell (operands a.greatest 0 0) (operands a.least 0 0) is_a AreEnds-no_cell
     (inr refl, inl refl, inl refl) (inl refl, inl refl, inl refl)
-    (λ o is. let to = is.a_between.to in omega (arith, ints))
-    (λ o is. let from = is.a_between.from in omega (arith, ints))
+    (λ o is. omega (arith, ints))
+    (λ o is. omega (arith, ints))
 
 pub size_span_above : (a : Ends) → AreEnds a → pos 0 ≤ℤ val a.least → IsSpan size_number a no_cell (operands a.least 0 0) (operands a.greatest 0 0)
 size_span_above a is_a above = span_of size_number a no_cell (operands a.least 0 0) (operands a.greatest 0 0) is_a AreEnds-no_cell
     (inl refl, inl refl, inl refl) (inr refl, inl refl, inl refl)
-    (λ o is. let from = is.a_between.from in omega (arith, ints))
-    (λ o is. let from = is.a_between.from in let to = is.a_between.to in omega (arith, ints))
+    (λ o is. omega (arith, ints))
+    (λ o is. omega (arith, ints))
 
 pub size_span_below : (a : Ends) → AreEnds a → val a.greatest ≤ℤ pos 0 → IsSpan size_number a no_cell (operands a.greatest 0 0) (operands a.least 0 0)
 size_span_below a is_a below = span_of size_number a no_cell (operands a.greatest 0 0) (operands a.least 0 0) is_a AreEnds-no_cell
     (inr refl, inl refl, inl refl) (inl refl, inl refl, inl refl)
-    (λ o is. let to = is.a_between.to in omega (arith, ints))
-    (λ o is. let from = is.a_between.from in let to = is.a_between.to in omega (arith, ints))
+    (λ o is. omega (arith, ints))
+    (λ o is. omega (arith, ints))
 
 -- ---- what is told
 
