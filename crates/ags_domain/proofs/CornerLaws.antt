@@ -11,30 +11,11 @@ use Rattle.ags_domain.specs.Hull.{IsOperands, IsCorner, IsReached, IsFirstOverfl
 use Rattle.ags_domain.specs.Candidates.{operands}
 use Rattle.ags_domain.specs.Range.{range_ends, range_meaning, lesser, greater}
 use Rattle.ags_domain.specs.Corners.{IsSpanned, IsAround, ends_of_four}
+pub use Rattle.ags_domain.specs.ListLaws.{lesser_left, lesser_right, greater_left, greater_right, lesser_one, greater_one}
 use Rattle.ags_domain.specs.declared.operands.Operands.{Operands}
 use Rattle.ags_domain.specs.declared.ranges.Range.{Range}
 use Rattle.ags_domain.proofs.IntLaws.{IsAmid}
 use Rattle.ags_domain.proofs.HullLaws.{IsExact, IsSpan, IsFine, AreEnds, spanned_ordered, spanned_answers, word_of, rimmed_interval, fine_of, reached_at, end_operands, end_corner, told_first, told_later, told_answer}
-
--- ---- of two words the lesser and the greater
-
-pub lesser_left : (x y : ℕ) → val (lesser x y) ≤ℤ val x
-lesser_left x y = grind (arith, ints)
-
-pub lesser_right : (x y : ℕ) → val (lesser x y) ≤ℤ val y
-lesser_right x y = grind (arith, ints)
-
-pub greater_left : (x y : ℕ) → val x ≤ℤ val (greater x y)
-greater_left x y = grind (arith, ints)
-
-pub greater_right : (x y : ℕ) → val y ≤ℤ val (greater x y)
-greater_right x y = grind (arith, ints)
-
-pub lesser_one : (x y : ℕ) → (lesser x y ≡ x) ⊎ (lesser x y ≡ y)
-lesser_one x y = grind (arith, ints)
-
-pub greater_one : (x y : ℕ) → (greater x y ≡ x) ⊎ (greater x y ≡ y)
-greater_one x y = grind (arith, ints)
 
 -- ---- one of four
 

@@ -72,8 +72,6 @@ module _ (operation : Operation) (number : Operands → ℤ) (a_ends m_ends : En
         let value = is_exact.exact o is (fits_along o low high is is_low is_high h k) in
         let low_value = value_is low is_low.operands is_low.fine in
         let high_value = value_is high is_high.operands is_high.fine in
-        let from = is_low.inside.from in
-        let to = is_high.inside.to in
         record { is_word = is_exact.word o is; from = omega (arith, ints); to = omega (arith, ints) }
 
     -- each number lies between those of two operands that are fine
@@ -129,10 +127,10 @@ pub AreEnds-no_cell : AreEnds no_cell
 AreEnds-no_cell = record { least_word = omega arith; greatest_word = omega arith; ordered = omega (arith, ints) }
 
 pub least_between : (ends : Ends) → AreEnds ends → IsBetween ends ends.least
-least_between ends are = let ordered = are.ordered in record { is_word = are.least_word; from = omega (arith, ints); to = are.ordered }
+least_between ends are = record { is_word = are.least_word; from = omega (arith, ints); to = are.ordered }
 
 pub greatest_between : (ends : Ends) → AreEnds ends → IsBetween ends ends.greatest
-greatest_between ends are = let ordered = are.ordered in record { is_word = are.greatest_word; from = are.ordered; to = omega (arith, ints) }
+greatest_between ends are = record { is_word = are.greatest_word; from = are.ordered; to = omega (arith, ints) }
 
 -- ---- operands of which A and the cell are at ends of their intervals, and the low part of Q has no bit set, or all
 

@@ -1,5 +1,5 @@
 -- The numbers of quotients by an interval that hasn't 0, and the corners between which they lie.
-use Rattle.std.proofs.Common.{◌≡◌, ◌≢◌, ℕ, ◌<◌, ◌^◌, Bool, true, false, refl, sym, subst, inl, inr, ⊎_elim, arith, ℤ, pos, ◌≤ℤ◌, [], ◌∷◌}
+use Rattle.std.proofs.Common.{◌≡◌, ◌≢◌, ℕ, ◌<◌, ◌^◌, Bool, true, false, refl, sym, subst, inl, inr, arith, ℤ, pos, ◌≤ℤ◌, [], ◌∷◌}
 use Rattle.std.specs.Prelude.{not, int_div, Some, is_none, unwrap_or, ◌&&◌}
 use Rattle.std.specs.Int.RustNames.{int_le}
 use Rattle.std.specs.List.{find}

@@ -1,6 +1,6 @@
 -- The numbers of negatives and sizes, and the corners between which they lie.
-use Rattle.std.proofs.Common.{◌≡◌, ℕ, ◌<◌, ◌^◌, Bool, true, false, refl, sym, subst, ◌⊎◌, inl, inr, ⊎_elim, arith, ℤ, pos, negsuc, ◌≤ℤ◌, [], ◌∷◌}
-use Rattle.std.specs.Prelude.{neg_ℤ, not, unsigned_abs, Result, Ok, Err}
+use Rattle.std.proofs.Common.{◌≡◌, ℕ, ◌<◌, ◌^◌, refl, ◌⊎◌, inl, inr, ⊎_elim, arith, ℤ, pos, negsuc, ◌≤ℤ◌, [], ◌∷◌}
+use Rattle.std.specs.Prelude.{neg_ℤ, unsigned_abs, Result, Ok, Err}
 use Rattle.std.proofs.lemmas.Int.{ints}
 use Rattle.std.proofs.lemmas.Bool.{not-true}
 use Rattle.ags_word.specs.Word.{val, fits, wrap}

@@ -4,6 +4,7 @@ use Rattle.std.specs.Prelude.{◌&&◌, ◌||◌, eqb, Some, None, Result, Ok, E
 use Rattle.std.specs.List.{list_all, filter}
 use Rattle.std.proofs.lemmas.Int.{ints}
 use Rattle.std.proofs.lemmas.Bool.{eqb-true}
+use Rattle.std.proofs.Math.Bool.{and-false, or-true, or_self}
 use Rattle.ags_word.specs.Word.{val}
 use Rattle.ags_word.specs.Operation.{Operation}
 use Rattle.ags_domain.specs.WordSet.{lists, HoldsMore}
@@ -15,37 +16,30 @@ use Rattle.ags_domain.specs.SetOf.{IsFiltered}
 use Rattle.ags_domain.specs.Gathering.{AreGathered}
 use Rattle.ags_domain.specs.Inclusion.{AreAllIn}
 use Rattle.ags_domain.specs.Ranged.{IsRangedAnswer}
-use Rattle.ags_domain.specs.ListLaws.{lists_word, lists_head, lists_rest, one_of}
+use Rattle.ags_domain.specs.ListLaws.{and_left, and_right, lesser_left, lesser_right, greater_left, greater_right, lists_word, lists_head, lists_rest, one_of}
 use Rattle.ags_domain.specs.MeaningLaws.{value_lawful, lies_inside, lies_from, lies_to, set_few}
 use Rattle.ags_domain.specs.declared.operands.Operands.{Operands}
 use Rattle.ags_domain.specs.declared.ranges.Range.{Range}
 use Rattle.ags_domain.specs.declared.word_sets.WordSet.{WordSet}
 use Rattle.ags_domain.specs.declared.values.Value.{Value}
 use Rattle.ags_domain.specs.declared.values.Value.TheVariants.{Range as ByEnds, Words}
-use Rattle.ags_domain.proofs.CornerLaws.{lesser_left, lesser_right, greater_left, greater_right}
 
 pub value_ordered : (v : Value) → val (value_ends v).least ≤ℤ val (value_ends v).greatest
 value_ordered v = (value_lawful.between v (value_ends v).least (value_lawful.least_word v) (value_lawful.least_held v)).to
 
 -- ---- inclusion
 
-and_left : (a b : Bool) → (a && b) ≡ true → a ≡ true
-and_left true b h = refl
-and_left false b h = h
-
-and_right : (a b : Bool) → (a && b) ≡ true → b ≡ true
-and_right true b h = h
-and_right false b h = absurd cc
+-- a word between two ends lies between wider ones too
+lies_wider : (ends wider : Ends) (w : ℕ) → val wider.least ≤ℤ val ends.least → val ends.greatest ≤ℤ val wider.greatest → IsBetween ends w
+    → lies_between wider w ≡ true
+lies_wider ends wider w low high between = lies_inside wider w (omega (arith, ints)) (omega (arith, ints))
 
 pub in_range : (v : Value) (ends : Ends) → (lies_between ends (value_ends v).least && lies_between ends (value_ends v).greatest) ≡ true
     → AreAllIn (value_held v) (lies_between ends)
-in_range v ends h w is held =
-    let between = value_lawful.between v w is held in
-    let low = lies_from ends (value_ends v).least (and_left (lies_between ends (value_ends v).least) (lies_between ends (value_ends v).greatest) h) in
-    let high = lies_to ends (value_ends v).greatest (and_right (lies_between ends (value_ends v).least) (lies_between ends (value_ends v).greatest) h) in
-    let from = between.from in
-    let to = between.to in
-    lies_inside ends w (omega (arith, ints)) (omega (arith, ints))
+in_range v ends h w is held = lies_wider (value_ends v) ends w
+    (lies_from ends (value_ends v).least (and_left (lies_between ends (value_ends v).least) (lies_between ends (value_ends v).greatest) h))
+    (lies_to ends (value_ends v).greatest (and_right (lies_between ends (value_ends v).least) (lies_between ends (value_ends v).greatest) h))
+    (value_lawful.between v w is held)
 
 pub ends_in_range : (v : Value) (ends : Ends) → AreAllIn (value_held v) (lies_between ends)
     → (lies_between ends (value_ends v).least && lies_between ends (value_ends v).greatest) ≡ true
@@ -71,12 +65,8 @@ more_along count p q along more = record {
   more = more.more;
 }
 
-or_same : (b : Bool) → (b || b) ≡ b
-or_same true = refl
-or_same false = refl
-
 pub held_by_both : (v : Value) (w : ℕ) → held_by_either value_meaning v v w ≡ value_held v w
-held_by_both v w = or_same (value_held v w)
+held_by_both v w = or_self (value_held v w)
 
 pub set_in : (v : Value) (words outer : WordSet) → AreGathered (held_by_either value_meaning v v) (Some words)
     → list_all (lists outer.list) words.list ≡ true → AreAllIn (value_held v) (lists outer.list)
@@ -101,10 +91,6 @@ lists_filter : (p : ℕ → Bool) (words : List ℕ) (w : ℕ) → lists (filter
 lists_filter p [] w = refl
 lists_filter p (x ∷ xs) w = by (p x) refl (eqb x w) refl (lists_filter p xs w)
   where
-    and_false : (b : Bool) → (b && false) ≡ false
-    and_false true = refl
-    and_false false = refl
-
     by : (b : Bool) → p x ≡ b → (e : Bool) → eqb x w ≡ e → lists (filter p xs) w ≡ (lists xs w && p w)
         → lists (filter p (x ∷ xs)) w ≡ (lists (x ∷ xs) w && p w)
     by true is true same rest =
@@ -113,7 +99,7 @@ lists_filter p (x ∷ xs) w = by (p x) refl (eqb x w) refl (lists_filter p xs w)
     by true is false same rest = rw (is, same, rest) refl
     by false is true same rest =
         let chosen : p w ≡ false = subst (λ v. p v ≡ false) (eqb-true x w same) is in
-        rw (is, same, rest, chosen) (and_false (lists xs w))
+        rw (is, same, rest, chosen) (and-false (lists xs w))
     by false is false same rest = rw (is, same, rest) refl
 
 pub words_part : (chosen : ℕ → Bool) (set : WordSet) (part : WordSet) → IsFiltered chosen set.list (Some part)
@@ -131,17 +117,13 @@ pub joined_few : (left right : Value) (set : WordSet) → AreGathered (held_by_e
     → IsJoin value_meaning left right (Words set)
 joined_few left right set gathered = record {
   left_within = λ w is h. sym (gathered w is) ∙ rw h refl;
-  right_within = λ w is h. sym (gathered w is) ∙ rw h (or_true (value_held left w));
+  right_within = λ w is h. sym (gathered w is) ∙ rw h (or-true (value_held left w));
   least = λ other h k w is held. either (value_held left w) w refl (h w is) (k w is) (gathered w is ∙ held);
   few = λ _. refl;
   many = λ more. absurd (set_few set (more_along 16 (held_by_either value_meaning left right) (lists set.list) (λ w is h. sym (gathered w is) ∙ h) more));
   just = λ _ w is. sym (gathered w is);
 }
   where
-    or_true : (b : Bool) → (b || true) ≡ true
-    or_true true = refl
-    or_true false = refl
-
     either : {P : Type 0} (b : Bool) (w : ℕ) → value_held left w ≡ b → (value_held left w ≡ true → P) → (value_held right w ≡ true → P)
         → (value_held left w || value_held right w) ≡ true → P
     either true w is l r held = l is
@@ -165,20 +147,12 @@ joined_many left right range ends_are more = record {
 }
   where
     left_in : (w : ℕ) → IsBetween (value_ends left) w → lies_between (hull_of (value_ends left) (value_ends right)) w ≡ true
-    left_in w between =
-        let from = between.from in
-        let to = between.to in
-        let low = lesser_left (value_ends left).least (value_ends right).least in
-        let high = greater_left (value_ends left).greatest (value_ends right).greatest in
-        lies_inside (hull_of (value_ends left) (value_ends right)) w (omega (arith, ints)) (omega (arith, ints))
+    left_in w = lies_wider (value_ends left) (hull_of (value_ends left) (value_ends right)) w
+        (lesser_left (value_ends left).least (value_ends right).least) (greater_left (value_ends left).greatest (value_ends right).greatest)
 
     right_in : (w : ℕ) → IsBetween (value_ends right) w → lies_between (hull_of (value_ends left) (value_ends right)) w ≡ true
-    right_in w between =
-        let from = between.from in
-        let to = between.to in
-        let low = lesser_right (value_ends left).least (value_ends right).least in
-        let high = greater_right (value_ends left).greatest (value_ends right).greatest in
-        lies_inside (hull_of (value_ends left) (value_ends right)) w (omega (arith, ints)) (omega (arith, ints))
+    right_in w = lies_wider (value_ends right) (hull_of (value_ends left) (value_ends right)) w
+        (lesser_right (value_ends left).least (value_ends right).least) (greater_right (value_ends left).greatest (value_ends right).greatest)
 
     least_of : (other : Value) → IsWithin value_meaning left other → IsWithin value_meaning right other → (w : ℕ)
         → lies_between (hull_of (value_ends left) (value_ends right)) w ≡ true → value_held other w ≡ true

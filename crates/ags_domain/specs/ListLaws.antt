@@ -1,6 +1,7 @@
 -- Lists of words in ascending number: what is left of one, its words that a test chooses, and its ends.
 use Rattle.std.proofs.Common.{◌⊎◌, inl, inr, ⊎_elim, ℤ, ◌≤ℤ◌, ◌≡◌, ℕ, suc, ◌+◌, ◌<◌, ◌≤◌, ◌^◌, Bool, true, false, refl, sym, ap, ◌∙◌, subst, arith, List, [], ◌∷◌, ◌++◌, length, take, drop, get_or, add-one, drop-cons}
-use Rattle.std.specs.Prelude.{◌&&◌, ◌||◌, nat_le, nat_lt, eqb, cond}
+use Rattle.std.specs.Prelude.{◌&&◌, ◌||◌, nat_le, nat_lt, eqb, cond, neg_ℤ}
+use Rattle.std.proofs.Math.Bool.{or-false, or_assoc}
 use Rattle.std.proofs.lemmas.List.Elements.{filter_more}
 use Rattle.std.specs.List.{filter}
 use Rattle.std.proofs.lemmas.Bool.Decides.{nat_tests}
@@ -11,11 +12,11 @@ use Rattle.ags_domain.specs.WordSet.{ascends_from, lists}
 use Rattle.ags_domain.specs.Range.{lesser, greater}
 use Rattle.ags_domain.specs.SetOf.{least_from, greatest_from, least_of, greatest_of}
 
-and_left : (a b : Bool) → (a && b) ≡ true → a ≡ true
+pub and_left : (a b : Bool) → (a && b) ≡ true → a ≡ true
 and_left true b h = refl
 and_left false b h = h
 
-and_right : (a b : Bool) → (a && b) ≡ true → b ≡ true
+pub and_right : (a b : Bool) → (a && b) ≡ true → b ≡ true
 and_right true b h = h
 and_right false b h = absurd cc
 
@@ -62,16 +63,8 @@ pub lists_head : (word : ℕ) (words : List ℕ) → lists (word ∷ words) word
 lists_head word words = let is : eqb word word ≡ true = grind (arith, nat_tests) in rw is refl
 
 pub lists_append : (xs : List ℕ) (y v : ℕ) → lists (xs ++ y ∷ []) v ≡ (lists xs v || eqb y v)
-lists_append [] y v = or_false (eqb y v)
-  where
-    or_false : (b : Bool) → (b || false) ≡ b
-    or_false true = refl
-    or_false false = refl
+lists_append [] y v = or-false (eqb y v)
 lists_append (x ∷ xs) y v = ap (λ b. eqb x v || b) (lists_append xs y v) ∙ sym (or_assoc (eqb x v) (lists xs v) (eqb y v))
-  where
-    or_assoc : (a b c : Bool) → (a || b || c) ≡ (a || (b || c))
-    or_assoc true b c = refl
-    or_assoc false b c = refl
 
 -- ---- words that a test chooses
 
@@ -140,78 +133,80 @@ lists_rest x xs w h = by (eqb x w)
 
 -- ---- the words of least and of greatest value
 
-lesser_left : (x y : ℕ) → val (lesser x y) ≤ℤ val x
+pub lesser_left : (x y : ℕ) → val (lesser x y) ≤ℤ val x
 lesser_left x y = grind (arith, ints)
 
-lesser_right : (x y : ℕ) → val (lesser x y) ≤ℤ val y
+pub lesser_right : (x y : ℕ) → val (lesser x y) ≤ℤ val y
 lesser_right x y = grind (arith, ints)
 
-greater_left : (x y : ℕ) → val x ≤ℤ val (greater x y)
+pub greater_left : (x y : ℕ) → val x ≤ℤ val (greater x y)
 greater_left x y = grind (arith, ints)
 
-greater_right : (x y : ℕ) → val y ≤ℤ val (greater x y)
+pub greater_right : (x y : ℕ) → val y ≤ℤ val (greater x y)
 greater_right x y = grind (arith, ints)
 
-lesser_one : (x y : ℕ) → (lesser x y ≡ x) ⊎ (lesser x y ≡ y)
+pub lesser_one : (x y : ℕ) → (lesser x y ≡ x) ⊎ (lesser x y ≡ y)
 lesser_one x y = grind (arith, ints)
 
-greater_one : (x y : ℕ) → (greater x y ≡ x) ⊎ (greater x y ≡ y)
+pub greater_one : (x y : ℕ) → (greater x y ≡ x) ⊎ (greater x y ≡ y)
 greater_one x y = grind (arith, ints)
 
-along : (a b c : ℤ) → a ≤ℤ b → b ≤ℤ c → a ≤ℤ c
-along a b c h k = omega (arith, ints)
+-- a walk over a list keeps of each two words one, of no greater key than either
+record IsWalk (from : ℕ → List ℕ → ℕ) (kept : ℕ → ℕ → ℕ) (key : ℕ → ℤ) : Type 0 where
+  at_end : (x : ℕ) → from x [] ≡ x
+  further : (x y : ℕ) (ys : List ℕ) → from x (y ∷ ys) ≡ from (kept x y) ys
+  one : (x y : ℕ) → (kept x y ≡ x) ⊎ (kept x y ≡ y)
+  left : (x y : ℕ) → key (kept x y) ≤ℤ key x
+  right : (x y : ℕ) → key (kept x y) ≤ℤ key y
 
-least_from_low : (x : ℕ) (words : List ℕ) → val (least_from x words) ≤ℤ val x
-least_from_low x [] = omega (arith, ints)
-least_from_low x (y ∷ ys) = along (val (least_from (lesser x y) ys)) (val (lesser x y)) (val x) (least_from_low (lesser x y) ys) (lesser_left x y)
+module _ (from : ℕ → List ℕ → ℕ) (kept : ℕ → ℕ → ℕ) (key : ℕ → ℤ) (walk : IsWalk from kept key) where
+  walk_first : (x : ℕ) (words : List ℕ) → key (from x words) ≤ℤ key x
+  walk_first x [] = rw (walk.at_end x) (omega (arith, ints))
+  walk_first x (y ∷ ys) = rw (walk.further x y ys) (omega (arith, ints, walk_first (kept x y) ys, walk.left x y))
 
-least_from_each : (x : ℕ) (words : List ℕ) (w : ℕ) → lists words w ≡ true → val (least_from x words) ≤ℤ val w
-least_from_each x [] w h = absurd cc
-least_from_each x (y ∷ ys) w h = one_of y ys w h
-    (λ e. subst (λ v. val (least_from (lesser x y) ys) ≤ℤ val v) e
-    (along (val (least_from (lesser x y) ys)) (val (lesser x y)) (val y) (least_from_low (lesser x y) ys) (lesser_right x y)))
-    (λ r. least_from_each (lesser x y) ys w r)
+  walk_each : (x : ℕ) (words : List ℕ) (w : ℕ) → lists words w ≡ true → key (from x words) ≤ℤ key w
+  walk_each x [] w h = absurd cc
+  walk_each x (y ∷ ys) w h = rw (walk.further x y ys) (one_of y ys w h
+      (λ e. subst (λ v. key (from (kept x y) ys) ≤ℤ key v) e (omega (arith, ints, walk_first (kept x y) ys, walk.right x y)))
+      (λ r. walk_each (kept x y) ys w r))
 
-least_from_in : (x : ℕ) (words : List ℕ) → (least_from x words ≡ x) ⊎ (lists words (least_from x words) ≡ true)
-least_from_in x [] = inl refl
-least_from_in x (y ∷ ys) = ⊎_elim
-    (λ e. ⊎_elim (λ f. inl (e ∙ f)) (λ f. inr (subst (λ v. lists (y ∷ ys) v ≡ true) (sym (e ∙ f)) (lists_head y ys))) (lesser_one x y))
-    (λ r. inr (lists_rest y ys (least_from (lesser x y) ys) r))
-    (least_from_in (lesser x y) ys)
+  walk_in : (x : ℕ) (words : List ℕ) → (from x words ≡ x) ⊎ (lists words (from x words) ≡ true)
+  walk_in x [] = inl (walk.at_end x)
+  walk_in x (y ∷ ys) = rw (walk.further x y ys) (⊎_elim
+      (λ e. ⊎_elim (λ f. inl (e ∙ f)) (λ f. inr (subst (λ v. lists (y ∷ ys) v ≡ true) (sym (e ∙ f)) (lists_head y ys))) (walk.one x y))
+      (λ r. inr (lists_rest y ys (from (kept x y) ys) r))
+      (walk_in (kept x y) ys))
 
-greatest_from_high : (x : ℕ) (words : List ℕ) → val x ≤ℤ val (greatest_from x words)
-greatest_from_high x [] = omega (arith, ints)
-greatest_from_high x (y ∷ ys) = along (val x) (val (greater x y)) (val (greatest_from (greater x y) ys)) (greater_left x y) (greatest_from_high (greater x y) ys)
+  walk_listed : (x : ℕ) (xs : List ℕ) → lists (x ∷ xs) (from x (x ∷ xs)) ≡ true
+  walk_listed x xs = ⊎_elim (λ e. subst (λ v. lists (x ∷ xs) v ≡ true) (sym e) (lists_head x xs)) (λ r. r) (walk_in x (x ∷ xs))
 
-greatest_from_each : (x : ℕ) (words : List ℕ) (w : ℕ) → lists words w ≡ true → val w ≤ℤ val (greatest_from x words)
-greatest_from_each x [] w h = absurd cc
-greatest_from_each x (y ∷ ys) w h = one_of y ys w h
-    (λ e. subst (λ v. val v ≤ℤ val (greatest_from (greater x y) ys)) e
-    (along (val y) (val (greater x y)) (val (greatest_from (greater x y) ys)) (greater_right x y) (greatest_from_high (greater x y) ys)))
-    (λ r. greatest_from_each (greater x y) ys w r)
+least_walk : IsWalk least_from lesser val
+least_walk = record { at_end = λ x. refl; further = λ x y ys. refl; one = lesser_one; left = lesser_left; right = lesser_right }
 
-greatest_from_in : (x : ℕ) (words : List ℕ) → (greatest_from x words ≡ x) ⊎ (lists words (greatest_from x words) ≡ true)
-greatest_from_in x [] = inl refl
-greatest_from_in x (y ∷ ys) = ⊎_elim
-    (λ e. ⊎_elim (λ f. inl (e ∙ f)) (λ f. inr (subst (λ v. lists (y ∷ ys) v ≡ true) (sym (e ∙ f)) (lists_head y ys))) (greater_one x y))
-    (λ r. inr (lists_rest y ys (greatest_from (greater x y) ys) r))
-    (greatest_from_in (greater x y) ys)
+greatest_walk : IsWalk greatest_from greater (λ w. neg_ℤ (val w))
+greatest_walk = record {
+  at_end = λ x. refl;
+  further = λ x y ys. refl;
+  one = greater_one;
+  left = λ x y. omega (arith, ints, greater_left x y);
+  right = λ x y. omega (arith, ints, greater_right x y);
+}
 
 pub least_listed : (words : List ℕ) → 0 < length words → lists words (least_of words) ≡ true
 least_listed [] h = absurd (omega arith)
-least_listed (x ∷ xs) h = ⊎_elim (λ e. subst (λ v. lists (x ∷ xs) v ≡ true) (sym e) (lists_head x xs)) (λ r. r) (least_from_in x (x ∷ xs))
+least_listed (x ∷ xs) h = walk_listed least_from lesser val least_walk x xs
 
 pub greatest_listed : (words : List ℕ) → 0 < length words → lists words (greatest_of words) ≡ true
 greatest_listed [] h = absurd (omega arith)
-greatest_listed (x ∷ xs) h = ⊎_elim (λ e. subst (λ v. lists (x ∷ xs) v ≡ true) (sym e) (lists_head x xs)) (λ r. r) (greatest_from_in x (x ∷ xs))
+greatest_listed (x ∷ xs) h = walk_listed greatest_from greater (λ w. neg_ℤ (val w)) greatest_walk x xs
 
 pub least_each : (words : List ℕ) (w : ℕ) → lists words w ≡ true → val (least_of words) ≤ℤ val w
 least_each [] w h = absurd cc
-least_each (x ∷ xs) w h = least_from_each x (x ∷ xs) w h
+least_each (x ∷ xs) w h = walk_each least_from lesser val least_walk x (x ∷ xs) w h
 
 pub greatest_each : (words : List ℕ) (w : ℕ) → lists words w ≡ true → val w ≤ℤ val (greatest_of words)
 greatest_each [] w h = absurd cc
-greatest_each (x ∷ xs) w h = greatest_from_each x (x ∷ xs) w h
+greatest_each (x ∷ xs) w h = omega (arith, ints, walk_each greatest_from greater (λ w. neg_ℤ (val w)) greatest_walk x (x ∷ xs) w h)
 
 -- ---- lists of the same words
 
