@@ -58,32 +58,33 @@ pub record IsCornered (number : Operands → ℤ) (a_ends m_ends : Ends) (c1 c2 
   pub from : (o : Operands) → IsOperands a_ends m_ends o → IsAbove (number c1) (number c2) (number c3) (number c4) (number o)
   pub to : (o : Operands) → IsOperands a_ends m_ends o → IsBelow (number c1) (number c2) (number c3) (number c4) (number o)
 
--- the corners at the ends of two intervals, with a Q beside the greatest A: along each interval the number lies between those of its ends
+-- at the ends of two intervals, with a Q beside the greatest A
+abbrev pub low_low : (a m : Ends) → Operands
+low_low a m = operands a.least 0 m.least
+
+abbrev pub low_high : (a m : Ends) → Operands
+low_high a m = operands a.least 0 m.greatest
+
+abbrev pub high_low : (a : Ends) (q : ℕ) (m : Ends) → Operands
+high_low a q m = operands a.greatest q m.least
+
+abbrev pub high_high : (a : Ends) (q : ℕ) (m : Ends) → Operands
+high_high a q m = operands a.greatest q m.greatest
+
+-- along each interval the number lies between those of its ends
 module _ (number : Operands → ℤ) (a m : Ends) (q : ℕ) (is_a : AreEnds a) (is_m : AreEnds m) (low_part : (q ≡ 0) ⊎ (q ≡ all_ones))
     (along_a : (o : Operands) → IsOperands a m o → IsAmid (number (operands a.least 0 o.m)) (number o) (number (operands a.greatest q o.m)))
     (along_m : (x r y : ℕ) → IsBetween m y → IsAmid (number (operands x r m.least)) (number (operands x r y)) (number (operands x r m.greatest))) where
-  abbrev c1 : Operands
-  c1 = operands a.least 0 m.least
-
-  abbrev c2 : Operands
-  c2 = operands a.least 0 m.greatest
-
-  abbrev c3 : Operands
-  c3 = operands a.greatest q m.least
-
-  abbrev c4 : Operands
-  c4 = operands a.greatest q m.greatest
-
-  pub cornered_of : IsCornered number a m c1 c2 c3 c4
+  pub cornered_of : IsCornered number a m (low_low a m) (low_high a m) (high_low a q m) (high_high a q m)
   cornered_of = record {
-    is1 = end_operands a m c1 is_a is_m (inl refl, inl refl, inl refl);
-    is2 = end_operands a m c2 is_a is_m (inl refl, inl refl, inr refl);
-    is3 = end_operands a m c3 is_a is_m (inr refl, low_part, inl refl);
-    is4 = end_operands a m c4 is_a is_m (inr refl, low_part, inr refl);
-    corner1 = end_corner a m c1 (inl refl, inl refl, inl refl);
-    corner2 = end_corner a m c2 (inl refl, inl refl, inr refl);
-    corner3 = end_corner a m c3 (inr refl, low_part, inl refl);
-    corner4 = end_corner a m c4 (inr refl, low_part, inr refl);
+    is1 = end_operands a m (low_low a m) is_a is_m (inl refl, inl refl, inl refl);
+    is2 = end_operands a m (low_high a m) is_a is_m (inl refl, inl refl, inr refl);
+    is3 = end_operands a m (high_low a q m) is_a is_m (inr refl, low_part, inl refl);
+    is4 = end_operands a m (high_high a q m) is_a is_m (inr refl, low_part, inr refl);
+    corner1 = end_corner a m (low_low a m) (inl refl, inl refl, inl refl);
+    corner2 = end_corner a m (low_high a m) (inl refl, inl refl, inr refl);
+    corner3 = end_corner a m (high_low a q m) (inr refl, low_part, inl refl);
+    corner4 = end_corner a m (high_high a q m) (inr refl, low_part, inr refl);
     from = λ o is. amid_above _ _ _ _ _ _ _ (along_m a.least 0 o.m is.m_between) (along_m a.greatest q o.m is.m_between) (along_a o is);
     to = λ o is. amid_below _ _ _ _ _ _ _ (along_m a.least 0 o.m is.m_between) (along_m a.greatest q o.m is.m_between) (along_a o is);
   }
@@ -97,17 +98,12 @@ module _ (operation : Operation) (number : Operands → ℤ) (a_ends m_ends : En
   fine_at c w is ok one = fine_of operation a_ends m_ends (ends_of_four w1 w2 w3 w4) c w is ok
       (holds_one w1 w2 w3 w4 w one (word_of operation number a_ends m_ends is_exact c w is ok))
 
-  fine1 : IsFine operation a_ends m_ends (ends_of_four w1 w2 w3 w4) c1
-  fine1 = fine_at c1 w1 cornered.is1 ok1 (inl refl)
-
-  fine2 : IsFine operation a_ends m_ends (ends_of_four w1 w2 w3 w4) c2
-  fine2 = fine_at c2 w2 cornered.is2 ok2 (inr (inl refl))
-
-  fine3 : IsFine operation a_ends m_ends (ends_of_four w1 w2 w3 w4) c3
-  fine3 = fine_at c3 w3 cornered.is3 ok3 (inr (inr (inl refl)))
-
-  fine4 : IsFine operation a_ends m_ends (ends_of_four w1 w2 w3 w4) c4
-  fine4 = fine_at c4 w4 cornered.is4 ok4 (inr (inr (inr refl)))
+  some_fine : (P : Operands → Type 0) → P c1 ⊎ (P c2 ⊎ (P c3 ⊎ P c4)) → (c : Operands) × IsFine operation a_ends m_ends (ends_of_four w1 w2 w3 w4) c × P c
+  some_fine P = ⊎_elim
+      (λ h. (c1, fine_at c1 w1 cornered.is1 ok1 (inl refl), h))
+      (⊎_elim (λ h. (c2, fine_at c2 w2 cornered.is2 ok2 (inr (inl refl)), h))
+      (⊎_elim (λ h. (c3, fine_at c3 w3 cornered.is3 ok3 (inr (inr (inl refl))), h))
+      (λ h. (c4, fine_at c4 w4 cornered.is4 ok4 (inr (inr (inr refl))), h))))
 
   reached_one : (v : ℕ) → IsOneOf w1 w2 w3 w4 v → IsReached operation a_ends m_ends v
   reached_one v = ⊎_elim
@@ -119,8 +115,8 @@ module _ (operation : Operation) (number : Operands → ℤ) (a_ends m_ends : En
   corners_interval : (range : Range) → range_ends range ≡ ends_of_four w1 w2 w3 w4 → IsInterval range_meaning operation a_ends m_ends range
   corners_interval = rimmed_interval operation number a_ends m_ends is_exact (ends_of_four w1 w2 w3 w4)
       (record {
-        lower = λ o is. ⊎_elim (λ h. (c1, fine1, h)) (⊎_elim (λ h. (c2, fine2, h)) (⊎_elim (λ h. (c3, fine3, h)) (λ h. (c4, fine4, h)))) (cornered.from o is);
-        upper = λ o is. ⊎_elim (λ h. (c1, fine1, h)) (⊎_elim (λ h. (c2, fine2, h)) (⊎_elim (λ h. (c3, fine3, h)) (λ h. (c4, fine4, h)))) (cornered.to o is);
+        lower = λ o is. some_fine (λ c. number c ≤ℤ number o) (cornered.from o is);
+        upper = λ o is. some_fine (λ c. number o ≤ℤ number c) (cornered.to o is);
       })
       (reached_one (lesser (lesser w1 w2) (lesser w3 w4)) (least_one w1 w2 w3 w4))
       (reached_one (greater (greater w1 w2) (greater w3 w4)) (greatest_one w1 w2 w3 w4))

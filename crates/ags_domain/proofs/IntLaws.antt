@@ -2,6 +2,8 @@
 --     mul_up, mul_down                the product with a factor keeps the order, or turns it round where the factor is negative
 --     shifted_right_up                a right shift keeps the order
 --     div_up, div_down                the quotient by a divisor, cut off toward zero, keeps the order or turns it round
+--     column_amid, row_amid           along an interval a product lies between those of the ends
+--     divisor_amid, divided_amid      along an interval a quotient does
 use Rattle.std.proofs.Common.{◌≢◌, ℕ, zero, suc, ◌/◌, ◌≤◌, refl, ◌⊎◌, inl, inr, ⊎_elim, arith, ℤ, pos, negsuc, ◌*ℤ◌, ◌≤ℤ◌, ◌<ℤ◌}
 use Rattle.std.specs.Prelude.{int_div}
 use Rattle.std.proofs.lemmas.Int.{ints}

@@ -13,13 +13,13 @@ use Rattle.ags_word.proofs.LongLaws.{pair_a_below, product_over, over-product}
 use Rattle.ags_domain.specs.Domain.{Ends}
 use Rattle.ags_domain.specs.Hull.{IsFirstOverflow, Answers, tried, overflows_at}
 use Rattle.ags_domain.specs.Candidates.{operands, product_candidates}
-use Rattle.ags_domain.specs.Range.{range_ends, range_meaning}
+use Rattle.ags_domain.specs.Range.{range_meaning}
 use Rattle.ags_domain.specs.Corners.{IsAround}
 use Rattle.ags_domain.specs.declared.operands.Operands.{Operands}
 use Rattle.ags_domain.specs.declared.ranges.Range.{Range}
 use Rattle.ags_domain.proofs.IntLaws.{amid_along, column_amid, row_amid, shifted_right_up}
 use Rattle.ags_domain.proofs.HullLaws.{IsExact, AreEnds}
-use Rattle.ags_domain.proofs.CornerLaws.{IsCornered, cornered_of, around_answers, answers_along, found_is, told_alone}
+use Rattle.ags_domain.proofs.CornerLaws.{IsCornered, low_low, low_high, high_low, high_high, cornered_of, around_answers, answers_along, found_is, told_alone}
 
 -- ---- the numbers
 
@@ -148,26 +148,13 @@ product_told operation is_over a m l1 l2 l3 l4 r1 r2 r3 r4 e is =
     told_alone operation a m e (2 ^ 17) 0 (2 ^ 17) both.0 found.0 both.1 found.1 is.operands
 
 -- of four tries at the ends of two ranges
-module _ (operation : Operation) (number : Operands → ℤ) (a m : Range) (is_exact : IsExact operation number (range_ends a) (range_ends m))
-    (is_over : (o : Operands) → overflows_at operation o ≡ not (fits_long (product o.a o.m))) where
-  abbrev c1 : Operands
-  c1 = operands a.least 0 m.least
-
-  abbrev c2 : Operands
-  c2 = operands a.least 0 m.greatest
-
-  abbrev c3 : Operands
-  c3 = operands a.greatest 0 m.least
-
-  abbrev c4 : Operands
-  c4 = operands a.greatest 0 m.greatest
-
-  pub product_answers : IsCornered number (range_ends a) (range_ends m) c1 c2 c3 c4 → (t1 t2 t3 t4 : Result ℕ Operands) → t1 ≡ tried operation c1
-      → t2 ≡ tried operation c2 → t3 ≡ tried operation c3 → t4 ≡ tried operation c4 → (answer : Result Range Operands) → IsAround t1 t2 t3 t4 answer
-      → Answers range_meaning operation product_candidates (range_ends a) (range_ends m) answer
-  product_answers cornered t1 t2 t3 t4 h1 h2 h3 h4 answer is =
-      answers_along operation (range_ends a) (range_ends m) (λ a_ends m_ends. c1 ∷ c2 ∷ c3 ∷ c4 ∷ []) product_candidates
-      (product_told operation is_over (range_ends a) (range_ends m) a.least a.least a.greatest a.greatest m.least m.greatest m.least m.greatest)
-      answer
-      (around_answers operation number (range_ends a) (range_ends m) c1 c2 c3 c4 is_exact cornered
-      t1 t2 t3 t4 (sym h1) (sym h2) (sym h3) (sym h4) answer is)
+pub product_answers : (operation : Operation) (number : Operands → ℤ) → ((o : Operands) → overflows_at operation o ≡ not (fits_long (product o.a o.m)))
+    → (a m : Ends) → IsExact operation number a m → IsCornered number a m (low_low a m) (low_high a m) (high_low a 0 m) (high_high a 0 m)
+    → (t1 t2 t3 t4 : Result ℕ Operands) → t1 ≡ tried operation (low_low a m) → t2 ≡ tried operation (low_high a m)
+    → t3 ≡ tried operation (high_low a 0 m) → t4 ≡ tried operation (high_high a 0 m)
+    → (answer : Result Range Operands) → IsAround t1 t2 t3 t4 answer → Answers range_meaning operation product_candidates a m answer
+product_answers operation number is_over a m is_exact cornered t1 t2 t3 t4 h1 h2 h3 h4 answer is =
+    answers_along operation a m (λ a m. low_low a m ∷ low_high a m ∷ high_low a 0 m ∷ high_high a 0 m ∷ []) product_candidates
+    (product_told operation is_over a m a.least a.least a.greatest a.greatest m.least m.greatest m.least m.greatest) answer
+    (around_answers operation number a m (low_low a m) (low_high a m) (high_low a 0 m) (high_high a 0 m) is_exact cornered
+    t1 t2 t3 t4 (sym h1) (sym h2) (sym h3) (sym h4) answer is)

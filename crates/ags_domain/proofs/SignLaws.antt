@@ -1,10 +1,10 @@
 -- The numbers of negatives and sizes, and the corners between which they lie.
-use Rattle.std.proofs.Common.{◌≡◌, ℕ, ◌<◌, ◌^◌, refl, ◌⊎◌, inl, inr, ⊎_elim, arith, ℤ, pos, negsuc, ◌≤ℤ◌, [], ◌∷◌}
+use Rattle.std.proofs.Common.{◌≡◌, ℕ, ◌<◌, ◌^◌, true, refl, ◌⊎◌, inl, inr, ⊎_elim, arith, ℤ, pos, negsuc, ◌≤ℤ◌, [], ◌∷◌}
 use Rattle.std.specs.Prelude.{neg_ℤ, unsigned_abs, Result, Ok, Err}
 use Rattle.std.proofs.lemmas.Int.{ints}
 use Rattle.std.proofs.lemmas.Bool.{not-true}
 use Rattle.ags_word.specs.Word.{val, fits, wrap}
-use Rattle.ags_word.specs.Operation.{negative, size}
+use Rattle.ags_word.specs.Operation.{Operation, negative, size}
 use Rattle.ags_word.proofs.WordLaws.{negative_over, size_over}
 use Rattle.ags_domain.specs.Domain.{Ends, IsBetween}
 use Rattle.ags_domain.specs.Hull.{IsOperands, IsFirstOverflow, IsInterval, Answers, overflows_at, tried, no_cell}
@@ -41,36 +41,32 @@ at_greatest a is_a q h = record { a_between = greatest_between a is_a; q_word = 
 
 pub negative_span : (a : Ends) → AreEnds a → IsSpan negative_number a no_cell (operands a.greatest 0 0) (operands a.least 0 0)
 negative_span a is_a = span_of negative_number a no_cell (operands a.greatest 0 0) (operands a.least 0 0) is_a AreEnds-no_cell
-    (inr refl, inl refl, inl refl) (inl refl, inl refl, inl refl)
-    (λ o is. omega (arith, ints))
-    (λ o is. omega (arith, ints))
+    (inr refl, inl refl, inl refl) (inl refl, inl refl, inl refl) (λ o is. omega (arith, ints)) (λ o is. omega (arith, ints))
 
 pub size_span_above : (a : Ends) → AreEnds a → pos 0 ≤ℤ val a.least → IsSpan size_number a no_cell (operands a.least 0 0) (operands a.greatest 0 0)
 size_span_above a is_a above = span_of size_number a no_cell (operands a.least 0 0) (operands a.greatest 0 0) is_a AreEnds-no_cell
-    (inl refl, inl refl, inl refl) (inr refl, inl refl, inl refl)
-    (λ o is. omega (arith, ints))
-    (λ o is. omega (arith, ints))
+    (inl refl, inl refl, inl refl) (inr refl, inl refl, inl refl) (λ o is. omega (arith, ints)) (λ o is. omega (arith, ints))
 
 pub size_span_below : (a : Ends) → AreEnds a → val a.greatest ≤ℤ pos 0 → IsSpan size_number a no_cell (operands a.greatest 0 0) (operands a.least 0 0)
 size_span_below a is_a below = span_of size_number a no_cell (operands a.greatest 0 0) (operands a.least 0 0) is_a AreEnds-no_cell
-    (inr refl, inl refl, inl refl) (inl refl, inl refl, inl refl)
-    (λ o is. omega (arith, ints))
-    (λ o is. omega (arith, ints))
+    (inr refl, inl refl, inl refl) (inl refl, inl refl, inl refl) (λ o is. omega (arith, ints)) (λ o is. omega (arith, ints))
 
 -- ---- what is told
 
+-- operands of A alone that overflow have the least word
+module _ (operation : Operation) (is_least : (e : Operands) → e.a < 2 ^ 18 → overflows_at operation e ≡ true → e.a ≡ 2 ^ 17) (a : Ends) (x y : ℕ) (e : Operands) where
+  sign_told : IsFirstOverflow operation a no_cell (operands x 0 0 ∷ operands y 0 0 ∷ []) e → IsFirstOverflow operation a no_cell (sign_candidates a no_cell) e
+  sign_told is =
+      let found = found_is (overflows_at operation) (λ o. (o.q ≡ 0) × (o.m ≡ 0)) (operands x 0 0 ∷ operands y 0 0 ∷ []) e ((refl, refl), ((refl, refl), tt)) is.first in
+      let least = is_least e is.operands.a_between.is_word found.1 in
+      told_alone operation a no_cell e (2 ^ 17) 0 0 least found.0.0 found.0.1 found.1 is.operands
+
 module _ (a : Ends) (x y : ℕ) (e : Operands) where
   pub negative_told : IsFirstOverflow negative a no_cell (operands x 0 0 ∷ operands y 0 0 ∷ []) e → IsFirstOverflow negative a no_cell (sign_candidates a no_cell) e
-  negative_told is =
-      let found = found_is (overflows_at negative) (λ o. (o.q ≡ 0) × (o.m ≡ 0)) (operands x 0 0 ∷ operands y 0 0 ∷ []) e ((refl, refl), ((refl, refl), tt)) is.first in
-      let least = negative_over e.a is.operands.a_between.is_word (not-true (fits (neg_ℤ (val e.a))) found.1) in
-      told_alone negative a no_cell e (2 ^ 17) 0 0 least found.0.0 found.0.1 found.1 is.operands
+  negative_told = sign_told negative (λ e is over. negative_over e.a is (not-true (fits (neg_ℤ (val e.a))) over)) a x y e
 
   pub size_told : IsFirstOverflow size a no_cell (operands x 0 0 ∷ operands y 0 0 ∷ []) e → IsFirstOverflow size a no_cell (sign_candidates a no_cell) e
-  size_told is =
-      let found = found_is (overflows_at size) (λ o. (o.q ≡ 0) × (o.m ≡ 0)) (operands x 0 0 ∷ operands y 0 0 ∷ []) e ((refl, refl), ((refl, refl), tt)) is.first in
-      let least = size_over e.a is.operands.a_between.is_word (not-true (fits (pos (unsigned_abs (val e.a)))) found.1) in
-      told_alone size a no_cell e (2 ^ 17) 0 0 least found.0.0 found.0.1 found.1 is.operands
+  size_told = sign_told size (λ e is over. size_over e.a is (not-true (fits (pos (unsigned_abs (val e.a)))) over)) a x y e
 
 -- ---- tries at the ends of a range
 
@@ -101,34 +97,29 @@ zero_tried = refl
 
 module _ (a : Ends) (is_a : AreEnds a) (from_below : val a.least ≤ℤ pos 0) (to_above : pos 0 ≤ℤ val a.greatest) where
   zero_is : IsOperands a no_cell (operands 0 0 0)
-  zero_is =
-      let zero = val_zero in
-      record {
-        a_between = record { is_word = omega arith; from = omega (arith, ints); to = omega (arith, ints) };
-        q_word = omega arith;
-        m_between = zero_between;
-      }
+  zero_is = record {
+    a_between = record { is_word = omega arith; from = omega (arith, ints, val_zero); to = omega (arith, ints, val_zero) };
+    q_word = omega arith;
+    m_between = zero_between;
+  }
 
   module _ (w1 w2 : ℕ) (ok1 : tried size (operands a.least 0 0) ≡ Ok w1) (ok2 : tried size (operands a.greatest 0 0) ≡ Ok w2) where
     size_is : (o : Operands) (w : ℕ) → IsOperands a no_cell o → tried size o ≡ Ok w → val w ≡ size_number o
     size_is = value_of size size_number a no_cell (size_exact a no_cell)
 
     pub zero_below : pos 0 ≤ℤ val (greater w1 w2)
-    zero_below =
-        let value = size_is (operands a.least 0 0) w1 (at_least a is_a 0 (omega arith)) ok1 in
-        let left = greater_left w1 w2 in
-        omega (arith, ints)
+    zero_below = omega (arith, ints, size_is (operands a.least 0 0) w1 (at_least a is_a 0 (omega arith)) ok1, greater_left w1 w2)
 
     fine_at : (o : Operands) (w : ℕ) → IsOperands a no_cell o → tried size o ≡ Ok w → val w ≤ℤ val (greater w1 w2)
         → IsFine size a no_cell (ends_of 0 (greater w1 w2)) o
-    fine_at o w is ok to =
-        let zero = val_zero in
-        let value = size_is o w is ok in
-        fine_of size a no_cell (ends_of 0 (greater w1 w2)) o w is ok
-        (record { is_word = word_of size size_number a no_cell (size_exact a no_cell) o w is ok; from = omega (arith, ints); to = to })
+    fine_at o w is ok to = fine_of size a no_cell (ends_of 0 (greater w1 w2)) o w is ok (record {
+      is_word = word_of size size_number a no_cell (size_exact a no_cell) o w is ok;
+      from = omega (arith, ints, val_zero, size_is o w is ok);
+      to = to;
+    })
 
     zero_fine : IsFine size a no_cell (ends_of 0 (greater w1 w2)) (operands 0 0 0)
-    zero_fine = fine_at (operands 0 0 0) 0 zero_is zero_tried (let zero = val_zero in let below = zero_below in omega (arith, ints))
+    zero_fine = fine_at (operands 0 0 0) 0 zero_is zero_tried (omega (arith, ints, val_zero, zero_below))
 
     first_fine : IsFine size a no_cell (ends_of 0 (greater w1 w2)) (operands a.least 0 0)
     first_fine = fine_at (operands a.least 0 0) w1 (at_least a is_a 0 (omega arith)) ok1 (greater_left w1 w2)
@@ -146,7 +137,7 @@ module _ (a : Ends) (is_a : AreEnds a) (from_below : val a.least ≤ℤ pos 0) (
     pub across_interval : (range : Range) → range_ends range ≡ ends_of 0 (greater w1 w2) → IsInterval range_meaning size a no_cell range
     across_interval = rimmed_interval size size_number a no_cell (size_exact a no_cell) (ends_of 0 (greater w1 w2))
         (record {
-          lower = λ o is. (operands 0 0 0, zero_fine, (let zero = val_zero in omega (arith, ints)));
+          lower = λ o is. (operands 0 0 0, zero_fine, omega (arith, ints, val_zero));
           upper = λ o is. ⊎_elim (λ h. (operands a.least 0 0, first_fine, h)) (λ h. (operands a.greatest 0 0, second_fine, h)) (bounded o is);
         })
         (reached_at size a no_cell (operands 0 0 0) 0 0 zero_is (record { a_corner = inr (inr refl); q_corner = inl refl; m_corner = inl refl }) zero_tried refl)

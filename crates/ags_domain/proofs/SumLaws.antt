@@ -25,16 +25,12 @@ settled_exact number a_ends m_ends = record {
 pub sum_span : (a m : Ends) → AreEnds a → AreEnds m
     → IsSpan (λ o. val o.a +ℤ val o.m) a m (operands a.least 0 m.least) (operands a.greatest 0 m.greatest)
 sum_span a m is_a is_m = span_of (λ o. val o.a +ℤ val o.m) a m (operands a.least 0 m.least) (operands a.greatest 0 m.greatest) is_a is_m
-    (inl refl, inl refl, inl refl) (inr refl, inl refl, inr refl)
-    (λ o is. omega (arith, ints))
-    (λ o is. omega (arith, ints))
+    (inl refl, inl refl, inl refl) (inr refl, inl refl, inr refl) (λ o is. omega (arith, ints)) (λ o is. omega (arith, ints))
 
 pub difference_span : (a m : Ends) → AreEnds a → AreEnds m
     → IsSpan (λ o. val o.a -ℤ val o.m) a m (operands a.least 0 m.greatest) (operands a.greatest 0 m.least)
 difference_span a m is_a is_m = span_of (λ o. val o.a -ℤ val o.m) a m (operands a.least 0 m.greatest) (operands a.greatest 0 m.least) is_a is_m
-    (inl refl, inl refl, inr refl) (inr refl, inl refl, inl refl)
-    (λ o is. omega (arith, ints))
-    (λ o is. omega (arith, ints))
+    (inl refl, inl refl, inr refl) (inr refl, inl refl, inl refl) (λ o is. omega (arith, ints)) (λ o is. omega (arith, ints))
 
 -- ---- tries at the ends of two ranges
 

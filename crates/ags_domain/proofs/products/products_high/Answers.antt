@@ -7,10 +7,9 @@ use Rattle.ags_domain.proofs.products.products_high.Goals as goal
 
 pub returns : goal.returns
 returns c =
-    let a = c.args.a.now in
-    let m = c.args.m.now in
-    product_answers product_high high_number a m (high_exact (range_ends a) (range_ends m)) (λ o. refl)
-    (high_corners (range_ends a) (range_ends m) (AreEnds-range a) (AreEnds-range m))
+    let a = range_ends c.args.a.now in
+    let m = range_ends c.args.m.now in
+    product_answers product_high high_number (λ o. refl) a m (high_exact a m) (high_corners a m (AreEnds-range c.args.a.now) (AreEnds-range c.args.m.now))
     c.product_high_at.result c.product_high_at-2.result c.product_high_at-3.result c.product_high_at-4.result
     c.product_high_at.ensures c.product_high_at-2.ensures c.product_high_at-3.ensures c.product_high_at-4.ensures
     c.around_tries.result c.around_tries.ensures
