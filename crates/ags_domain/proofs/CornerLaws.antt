@@ -1,4 +1,4 @@
--- The answer of four tries at corners, and other lists of candidates by which it is told.
+-- The answer of four tries at corners and of two, and other lists of candidates by which it is told.
 use Rattle.std.proofs.Common.{◌≡◌, ℕ, ◌<◌, ◌^◌, Bool, true, false, refl, sym, ◌∙◌, subst, ◌⊎◌, inl, inr, ⊎_elim, arith, ℤ, ◌≤ℤ◌, List, [], ◌∷◌}
 use Rattle.std.specs.Prelude.{Some, Result, Ok, Err}
 use Rattle.std.specs.List.{find}
@@ -180,9 +180,9 @@ pub answers_along : (operation : Operation) (a_ends m_ends : Ends) (old new : En
 answers_along operation a_ends m_ends old new along (Ok range) is = is
 answers_along operation a_ends m_ends old new along (Err e) is = along e is
 
--- ---- two tries in hand
+-- ---- two tries in hand, that of the greater value first
 
--- the one of greater value is tried first: their words are in order, and what is made of them is the operation's answer
+-- their words are in order, and what is made of them is the operation's answer
 pub record AreTried (operation : Operation) (candidates : Ends → Ends → List Operands) (a_ends m_ends : Ends) (greatest least : Result ℕ Operands) : Type 0 where
   pub ordered : (l g : ℕ) → least ≡ Ok l → greatest ≡ Ok g → val l ≤ℤ val g
   pub answers : (answer : Result Range Operands) → IsSpanned greatest least answer → Answers range_meaning operation candidates a_ends m_ends answer
