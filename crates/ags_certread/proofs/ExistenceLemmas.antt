@@ -21,13 +21,13 @@ use Rattle.ags_certtext.specs.declared.cert_error.CertKind.TheVariants.{BadLine}
 use Rattle.ags_certtext.specs.declared.cert_error.CertError.TheVariants.{At as AtLine}
 use Rattle.ags_certtext.specs.declared.statements.RowLine.{RowLine}
 use Rattle.ags_certtext.specs.declared.statements.Statement.{Statement}
-use Rattle.ags_certtext.specs.declared.statements.Statement.TheVariants.{Start, Cell, Init, In, Out, May, Row, At, End}
+use Rattle.ags_certtext.specs.declared.statements.Statement.TheVariants.{At}
 use Rattle.ags_certtext.specs.Reading.{Reading, Opening, OtherOpening, Stated, Skipped, Malformed, Ended, IsFirstReading, IsReading}
 use Rattle.ags_certtext.specs.Statement.{IsStatement}
 use Rattle.ags_certtext.specs.Text.{IsCertOf, IsFaultyCert, IsLimit}
 use Rattle.ags_certtext.proofs.ReadingLaws.{some_first_reading, some_reading}
 use Rattle.ags_certtext.proofs.StatementLemmas.{stated_is}
-use Rattle.ags_certread.specs.Gathering.{Gathering, Closes, Takes, IsOpenRow, IsFinished, AreLimitsOf, IsCertOfGathering, nothing_stated, stated, with_statement}
+use Rattle.ags_certread.specs.Gathering.{Gathering, Closes, ClosesBefore, Takes, IsOpenRow, IsFinished, AreLimitsOf, IsCertOfGathering, nothing_stated, stated, with_statement}
 use Rattle.ags_certread.specs.LineTaken.{HaveReadings, TakesReading, behind_first, further_fault, opening_fault}
 use Rattle.ags_certread.proofs.FinishLemmas.{cert_made, finished}
 use Rattle.ags_certread.proofs.ReadLemmas.{SoFar, SoFar-first, SoFar-more, SoFar-fault, SoFar-missing, SoFar-all, empty_refused, opening_refused}
@@ -65,17 +65,14 @@ some_closed (Some line) g whole =
       (row, record { location = refl; a = sym a_is; q = sym q_is; x = refl; v = refl; at = refl }, refl),
     )
 
+some_before : (statement : Statement) (g : Gathering) → IsSound g → (m : Gathering) × ClosesBefore statement g m
+some_before (At entry) g sound = (g, refl)
+some_before _ g sound = some_closed g.line g sound.closable
+
 -- a statement can be taken
 some_taken : (statement : Statement) (g : Gathering) → IsSound g → (h : Gathering) × Takes g statement h
-some_taken (At entry) g sound = (with_statement g (At entry), record { between = g; closed = refl; added = refl })
-some_taken (Start location) g sound = let (m, closes) = some_closed g.line g sound.closable in (with_statement m (Start location), record { between = m; closed = closes; added = refl })
-some_taken (Cell entry) g sound = let (m, closes) = some_closed g.line g sound.closable in (with_statement m (Cell entry), record { between = m; closed = closes; added = refl })
-some_taken (Init entry) g sound = let (m, closes) = some_closed g.line g sound.closable in (with_statement m (Init entry), record { between = m; closed = closes; added = refl })
-some_taken (In entry) g sound = let (m, closes) = some_closed g.line g sound.closable in (with_statement m (In entry), record { between = m; closed = closes; added = refl })
-some_taken (Out entry) g sound = let (m, closes) = some_closed g.line g sound.closable in (with_statement m (Out entry), record { between = m; closed = closes; added = refl })
-some_taken (May location) g sound = let (m, closes) = some_closed g.line g sound.closable in (with_statement m (May location), record { between = m; closed = closes; added = refl })
-some_taken (Row row) g sound = let (m, closes) = some_closed g.line g sound.closable in (with_statement m (Row row), record { between = m; closed = closes; added = refl })
-some_taken End g sound = let (m, closes) = some_closed g.line g sound.closable in (with_statement m End, record { between = m; closed = closes; added = refl })
+some_taken statement g sound =
+    let (m, closed) = some_before statement g sound in (with_statement m statement, record { between = m; closed = closed; added = refl })
 
 -- ---- the certificate
 

@@ -45,6 +45,11 @@ pub record IsFine (ports : Registers) (g : Gathering) (statement : Statement) : 
   pub order : stands_in_order g.last statement ≡ true
   pub part : part_fault ports g statement ≡ None
 
+-- the statement doesn't belong to the row before it, which ends
+abbrev pub EndsRow : Statement → Type 0
+EndsRow (At entry) = ⊥
+EndsRow _ = Unit {0}
+
 pub fine : (ports : Registers) (g : Gathering) (statement : Statement) → gathered_fault ports g statement ≡ None → IsFine ports g statement
 fine ports g statement none =
     let first = clear (is_second_start g.last statement) Twice (fault_if (not (stands_in_order g.last statement)) BadLine (part_fault ports g statement)) none in

@@ -5,19 +5,29 @@ use Rattle.std.specs.List.{list_any, filter_map}
 use Rattle.std.proofs.lemmas.List.{length-append}
 use Rattle.ags_domain.specs.declared.values.Value.{Value}
 use Rattle.ags_ports.specs.Port.{Registers}
+use Rattle.ags_row.specs.declared.ats.At.{At as Cell_at}
 use Rattle.ags_row.specs.declared.rows.Row.{Row as Row_of}
+use Rattle.ags_certtext.specs.declared.cert_error.CertKind.{CertKind}
 use Rattle.ags_certtext.specs.declared.statements.Entry.{Entry}
 use Rattle.ags_certtext.specs.declared.statements.RowLine.{RowLine}
 use Rattle.ags_certtext.specs.declared.statements.Statement.{Statement}
 use Rattle.ags_certtext.specs.declared.statements.Statement.TheVariants.{Start, Cell, Init, In, Out, May, Row, At, End}
-use Rattle.ags_certtext.specs.Statement.{cell_entry, init_entry, in_entry, out_entry, may_place, row_line, entries, last_kind, row_entries}
+use Rattle.ags_certtext.specs.Statement.{cell_entry, init_entry, in_entry, out_entry, may_place, row_line, entries, kind_number, last_kind, row_entries}
 use Rattle.ags_certtext.specs.Fault.{fault_after, statement_fault, rows_at}
 use Rattle.ags_certtext.specs.Text.{start_of}
-use Rattle.ags_certread.specs.Gathering.{Gathering, Closes, IsPlaced, IsSized, gathered_fault, nothing_stated, part_fault, row_count, with_statement}
+use Rattle.ags_certread.specs.Gathering.{Gathering, Closes, IsPlaced, IsSized, entry_fault, gathered_fault, nothing_stated, part_fault, row_count, stated, with_statement}
 use Rattle.ags_certread.proofs.TableLemmas.{IsTable, IsTable-none, IsTable-more, each_same, set_read, same_of}
 use Rattle.ags_certread.proofs.CellLemmas.{AreCells-none, AreCells-more}
-use Rattle.ags_certread.proofs.RowLemmas.{AreGatheredRows, AreShutRows, open_line, closed_rows, rows_back, shut_closed, shut_open, start_kept}
-use Rattle.ags_certread.proofs.FaultLemmas.{IsFine, clear_entry}
+use Rattle.ags_certread.proofs.RowLemmas.{AreGatheredRows, AreShutRows, shut_closed, shut_open, start_kept}
+use Rattle.ags_certread.proofs.FaultLemmas.{EndsRow, IsFine, clear_entry}
+
+-- the places are those that the statements name
+abbrev pub AreNamed : List Statement → List Bool → Type 0
+AreNamed before places = (location : ℕ) → get_or places location false ≡ list_any (λ (other : ℕ). other == location) (filter_map may_place before)
+
+-- the counts are those of the rows that the statements begin
+abbrev pub AreCounted : List Statement → List ℕ → Type 0
+AreCounted before counts = (location : ℕ) → get_or counts location 0 ≡ length (rows_at before location)
 
 -- the tables have what the statements state
 pub record AreTables (before : List Statement) (g : Gathering) : Type 0 where
@@ -27,8 +37,8 @@ pub record AreTables (before : List Statement) (g : Gathering) : Type 0 where
   pub init : IsTable (entries init_entry before) g.init
   pub inputs : IsTable (entries in_entry before) g.inputs
   pub outputs : IsTable (entries out_entry before) g.outputs
-  pub places : (location : ℕ) → get_or g.places location false ≡ list_any (λ (other : ℕ). other == location) (filter_map may_place before)
-  pub counts : (location : ℕ) → get_or g.counts location 0 ≡ length (rows_at before location)
+  pub places : AreNamed before g.places
+  pub counts : AreCounted before g.counts
 
 -- what is kept stands for the statements
 pub record IsGathered (before : List Statement) (g : Gathering) : Type 0 where
@@ -79,9 +89,10 @@ module _ (ports : Registers) (before : List Statement) (g : Gathering) (is : IsG
 
 -- ---- the open row is closed
 
-tables_kept : (before : List Statement) (g m : Gathering) (line : Option RowLine) → Closes line g m → AreTables before g → AreTables before m
-tables_kept before g m None closes are = subst (λ (h : Gathering). AreTables before h) (sym closes) are
-tables_kept before g m (Some line) closes are = subst (λ (h : Gathering). AreTables before h) (sym closes.2) (record {
+-- the tables stay whatever is kept of the rows
+tables_kept : (before : List Statement) (g : Gathering) (rows : List (Row_of Value)) (line : Option RowLine) (row_cells : List (Cell_at Value)) → AreTables before g
+    → AreTables before (record g { rows = rows; line = line; row_cells = row_cells })
+tables_kept before g rows line row_cells are = record {
   last = are.last;
   start = are.start;
   cells = are.cells;
@@ -90,7 +101,7 @@ tables_kept before g m (Some line) closes are = subst (λ (h : Gathering). AreTa
   outputs = are.outputs;
   places = are.places;
   counts = are.counts;
-})
+}
 
 one_more : (count : ℕ) (rows : List (Row_of Value)) (row : Row_of Value) → length rows + 1 ≡ count → length (rows ++ row ∷ []) ≡ count
 one_more count rows row is = length-append rows (row ∷ []) ∙ is
@@ -104,184 +115,126 @@ shut before g m None is closes gathered empty = subst (λ (h : Gathering). IsShu
   count = (let count : length g.rows + 0 ≡ length (filter_map row_line before) = rw is at gathered.count in omega (arith, count));
 })
 shut before g m (Some line) is closes gathered empty = subst (λ (h : Gathering). IsShut before h) (sym closes.2) (record {
-  tables = tables_kept before g (record g { rows = g.rows ++ closes.0 ∷ []; line = None; row_cells = [] }) (Some line) (closes.0, closes.1, refl) gathered.tables;
+  tables = tables_kept before g (g.rows ++ closes.0 ∷ []) None [] gathered.tables;
   rows = shut_closed before g.rows line g.row_cells closes.0
       (subst (λ (l : Option RowLine). AreGatheredRows before g.rows l g.row_cells) is gathered.rows) closes.1;
   count = one_more (length (filter_map row_line before)) g.rows closes.0 (rw is at gathered.count);
 })
 
--- ---- a statement is added
+-- ---- a statement is added to the tables
 
-module _ (before : List Statement) (m : Gathering) (is : IsShut before m) where
-  -- no row is open behind another statement
-  shut_after : (after : List Statement) → open_line after ≡ None → row_entries after ≡ [] → closed_rows after ≡ rows_back [] before
-      → AreGatheredRows after m.rows m.line m.row_cells
-  shut_after after none empty closed = record {
-    line = is.rows.line ∙ sym none;
-    cells = rw (is.rows.cells, empty) AreCells-none;
-    closed = rw closed is.rows.closed;
-  }
+-- no kind was the last where there is no statement
+none_before : (before : List Statement) → last_kind before ≡ 0 → before ≡ []
+none_before [] is = refl
+none_before (Start location ∷ before) is = absurd (omega (arith, is))
+none_before (_ ∷ before) is = absurd (omega (arith, is))
 
-  count_after : length m.rows + (if is_some m.line then 1 else 0) ≡ length (filter_map row_line before)
-  count_after = let count = is.count in rw is.rows.line (omega (arith, count))
+-- an entry without a fault is added to the table of its kind
+entered : {found : List Entry} {table : List (Option Value)} {entry : Entry} {count : ℕ} (misplaced : Bool) (later : Option CertKind) → IsTable found table
+    → length table ≡ count → entry.address < count → entry_fault misplaced (is_some (stated table entry.address)) entry.value later ≡ None
+    → IsTable (entry ∷ found) (set table entry.address entry.value)
+entered {found} {table} {entry} misplaced later is sized inside none =
+    let c = clear_entry misplaced (is_some (stated table entry.address)) entry.value later none in
+    IsTable-more found table entry is (rw sized inside) c.once c.some
 
+module _ (ports : Registers) (before : List Statement) (m : Gathering) (are : AreTables before m) (sized : IsSized m) where
   named : (location : ℕ) → location < length m.places → (other : ℕ) (b : Bool) → (location == other) ≡ b
       → get_or (set m.places location true) other false ≡ (b || list_any (λ (place : ℕ). place == other) (filter_map may_place before))
   named location inside other true same = set_read m.places location other true false inside true same
-  named location inside other false same = set_read m.places location other true false inside false same ∙ is.tables.places other
+  named location inside other false same = set_read m.places location other true false inside false same ∙ are.places other
 
   counted : (row : RowLine) → row.location < length m.counts → (other : ℕ) (b : Bool) → (row.location == other) ≡ b
       → get_or (set m.counts row.location (get_or m.counts row.location 0 + 1)) other 0 ≡ length (rows_at (Row row ∷ before) other)
   counted row inside other true same =
       let more = set_read m.counts row.location other (get_or m.counts row.location 0 + 1) 0 inside true same in
       let here = ap (λ (n : ℕ). get_or m.counts n 0) (same_of row.location other same) in
-      let so_far = is.tables.counts other in
+      let so_far = are.counts other in
       rw same (omega (arith, more, here, so_far))
   counted row inside other false same =
-      set_read m.counts row.location other (get_or m.counts row.location 0 + 1) 0 inside false same ∙ is.tables.counts other ∙ rw same refl
+      set_read m.counts row.location other (get_or m.counts row.location 0 + 1) 0 inside false same ∙ are.counts other ∙ rw same refl
 
-  pub IsGathered-more : (ports : Registers) (statement : Statement) → (last_kind before ≡ 0 → before ≡ []) → IsFine ports m statement → IsSized m
-      → IsPlaced m.counts statement → ((entry : Entry) → statement ≡ At entry → ⊥) → IsGathered (statement ∷ before) (with_statement m statement)
-  IsGathered-more ports (Start location) first fine sized inside other = record {
-    tables = record {
-      last = refl;
-      start = (let none = first (sym is.tables.last ∙ same_of m.last 0 fine.order) in ap (λ (l : List Statement). start_of (reverse (Start location ∷ l))) (sym none));
-      cells = is.tables.cells;
-      init = is.tables.init;
-      inputs = is.tables.inputs;
-      outputs = is.tables.outputs;
-      places = is.tables.places;
-      counts = is.tables.counts;
-    };
-    rows = shut_after (Start location ∷ before) refl refl refl;
-    count = count_after;
-    some_line = λ row none. absurd (omega (arith, row));
+  last_more : (statement : Statement) → IsFine ports m statement → (with_statement m statement).last ≡ kind_number statement
+  last_more (At entry) fine = same_of m.last 7 fine.order
+  last_more _ fine = refl
+
+  start_more : (statement : Statement) → IsFine ports m statement → (with_statement m statement).start ≡ start_of (reverse (statement ∷ before))
+  start_more (Start location) fine =
+      let none = none_before before (sym are.last ∙ same_of m.last 0 fine.order) in ap (λ (l : List Statement). start_of (reverse (Start location ∷ l))) (sym none)
+  start_more statement fine = are.start ∙ sym (start_kept before statement refl)
+
+  cells_more : (statement : Statement) → IsFine ports m statement → IsPlaced m.counts statement
+      → IsTable (entries cell_entry (statement ∷ before)) (with_statement m statement).cells
+  cells_more (Cell entry) fine inside = entered _ _ are.cells sized.cells inside fine.part
+  cells_more _ fine inside = are.cells
+
+  init_more : (statement : Statement) → IsFine ports m statement → IsPlaced m.counts statement
+      → IsTable (entries init_entry (statement ∷ before)) (with_statement m statement).init
+  init_more (Init entry) fine inside = entered _ _ are.init sized.init inside fine.part
+  init_more _ fine inside = are.init
+
+  inputs_more : (statement : Statement) → IsFine ports m statement → IsPlaced m.counts statement
+      → IsTable (entries in_entry (statement ∷ before)) (with_statement m statement).inputs
+  inputs_more (In entry) fine inside = entered _ _ are.inputs sized.inputs inside fine.part
+  inputs_more _ fine inside = are.inputs
+
+  outputs_more : (statement : Statement) → IsFine ports m statement → IsPlaced m.counts statement
+      → IsTable (entries out_entry (statement ∷ before)) (with_statement m statement).outputs
+  outputs_more (Out entry) fine inside = entered _ _ are.outputs sized.outputs inside fine.part
+  outputs_more _ fine inside = are.outputs
+
+  places_more : (statement : Statement) → IsPlaced m.counts statement → AreNamed (statement ∷ before) (with_statement m statement).places
+  places_more (May location) inside = λ other. named location (rw sized.places inside) other (location == other) refl
+  places_more _ inside = are.places
+
+  counts_more : (statement : Statement) → IsPlaced m.counts statement → AreCounted (statement ∷ before) (with_statement m statement).counts
+  counts_more (Row row) inside = λ other. counted row (rw sized.counts inside.0) other (row.location == other) refl
+  counts_more _ inside = are.counts
+
+  tables_more : (statement : Statement) → IsFine ports m statement → IsPlaced m.counts statement → AreTables (statement ∷ before) (with_statement m statement)
+  tables_more statement fine inside = record {
+    last = last_more statement fine;
+    start = start_more statement fine;
+    cells = cells_more statement fine inside;
+    init = init_more statement fine inside;
+    inputs = inputs_more statement fine inside;
+    outputs = outputs_more statement fine inside;
+    places = places_more statement inside;
+    counts = counts_more statement inside;
   }
-  IsGathered-more ports (Cell entry) first fine sized inside other = record {
-    tables = record {
-      last = refl;
-      start = is.tables.start ∙ sym (start_kept before (Cell entry) refl);
-      cells = (let c = clear_entry _ _ entry.value _ fine.part in
-          IsTable-more (entries cell_entry before) m.cells entry is.tables.cells (rw sized.cells inside) c.once c.some);
-      init = is.tables.init;
-      inputs = is.tables.inputs;
-      outputs = is.tables.outputs;
-      places = is.tables.places;
-      counts = is.tables.counts;
-    };
-    rows = shut_after (Cell entry ∷ before) refl refl refl;
-    count = count_after;
-    some_line = λ row none. absurd (omega (arith, row));
-  }
-  IsGathered-more ports (Init entry) first fine sized inside other = record {
-    tables = record {
-      last = refl;
-      start = is.tables.start ∙ sym (start_kept before (Init entry) refl);
-      cells = is.tables.cells;
-      init = (let c = clear_entry _ _ entry.value _ fine.part in
-          IsTable-more (entries init_entry before) m.init entry is.tables.init (rw sized.init inside) c.once c.some);
-      inputs = is.tables.inputs;
-      outputs = is.tables.outputs;
-      places = is.tables.places;
-      counts = is.tables.counts;
-    };
-    rows = shut_after (Init entry ∷ before) refl refl refl;
-    count = count_after;
-    some_line = λ row none. absurd (omega (arith, row));
-  }
-  IsGathered-more ports (In entry) first fine sized inside other = record {
-    tables = record {
-      last = refl;
-      start = is.tables.start ∙ sym (start_kept before (In entry) refl);
-      cells = is.tables.cells;
-      init = is.tables.init;
-      inputs = (let c = clear_entry _ _ entry.value _ fine.part in
-          IsTable-more (entries in_entry before) m.inputs entry is.tables.inputs (rw sized.inputs inside) c.once c.some);
-      outputs = is.tables.outputs;
-      places = is.tables.places;
-      counts = is.tables.counts;
-    };
-    rows = shut_after (In entry ∷ before) refl refl refl;
-    count = count_after;
-    some_line = λ row none. absurd (omega (arith, row));
-  }
-  IsGathered-more ports (Out entry) first fine sized inside other = record {
-    tables = record {
-      last = refl;
-      start = is.tables.start ∙ sym (start_kept before (Out entry) refl);
-      cells = is.tables.cells;
-      init = is.tables.init;
-      inputs = is.tables.inputs;
-      outputs = (let c = clear_entry _ _ entry.value _ fine.part in
-          IsTable-more (entries out_entry before) m.outputs entry is.tables.outputs (rw sized.outputs inside) c.once c.some);
-      places = is.tables.places;
-      counts = is.tables.counts;
-    };
-    rows = shut_after (Out entry ∷ before) refl refl refl;
-    count = count_after;
-    some_line = λ row none. absurd (omega (arith, row));
-  }
-  IsGathered-more ports (May location) first fine sized inside other = record {
-    tables = record {
-      last = refl;
-      start = is.tables.start ∙ sym (start_kept before (May location) refl);
-      cells = is.tables.cells;
-      init = is.tables.init;
-      inputs = is.tables.inputs;
-      outputs = is.tables.outputs;
-      places = λ other. named location (rw sized.places inside) other (location == other) refl;
-      counts = is.tables.counts;
-    };
-    rows = shut_after (May location ∷ before) refl refl refl;
-    count = count_after;
-    some_line = λ row none. absurd (omega (arith, row));
-  }
-  IsGathered-more ports (Row row) first fine sized inside other = record {
-    tables = record {
-      last = refl;
-      start = is.tables.start ∙ sym (start_kept before (Row row) refl);
-      cells = is.tables.cells;
-      init = is.tables.init;
-      inputs = is.tables.inputs;
-      outputs = is.tables.outputs;
-      places = is.tables.places;
-      counts = λ other. counted row (rw sized.counts inside.0) other (row.location == other) refl;
-    };
-    rows = record { line = refl; cells = rw is.rows.cells AreCells-none; closed = is.rows.closed };
-    count = (let count = is.count in omega (arith, count));
-    some_line = λ last none. let clash : ◌≡◌ {A = Option RowLine} (Some row) None = none in absurd cc;
-  }
-  IsGathered-more ports (At entry) first fine sized inside other = absurd (other entry refl)
-  IsGathered-more ports End first fine sized inside other = record {
-    tables = record {
-      last = refl;
-      start = is.tables.start ∙ sym (start_kept before End refl);
-      cells = is.tables.cells;
-      init = is.tables.init;
-      inputs = is.tables.inputs;
-      outputs = is.tables.outputs;
-      places = is.tables.places;
-      counts = is.tables.counts;
-    };
-    rows = shut_after (End ∷ before) refl refl refl;
-    count = count_after;
-    some_line = λ row none. absurd (omega (arith, row));
+
+-- ---- and to all that is kept
+
+-- a statement that isn't a cell of a row
+module _ (ports : Registers) (before : List Statement) (m : Gathering) (is : IsShut before m) (sized : IsSized m) where
+  rows_more : (statement : Statement) → EndsRow statement
+      → AreGatheredRows (statement ∷ before) (with_statement m statement).rows (with_statement m statement).line (with_statement m statement).row_cells
+  rows_more (Row row) ends = record { line = refl; cells = rw is.rows.cells AreCells-none; closed = is.rows.closed }
+  rows_more (At entry) ends = absurd ends
+  rows_more _ ends = record { line = is.rows.line; cells = rw is.rows.cells AreCells-none; closed = is.rows.closed }
+
+  count_more : (statement : Statement) → row_count (with_statement m statement) ≡ length (filter_map row_line (statement ∷ before))
+  count_more (Row row) = let count = is.count in omega (arith, count)
+  count_more _ = let count = is.count in rw is.rows.line (omega (arith, count))
+
+  some_line_more : (statement : Statement) → EndsRow statement → (with_statement m statement).last ≡ 7 → (with_statement m statement).line ≡ None → ⊥
+  some_line_more (Row row) ends last none = let clash : ◌≡◌ {A = Option RowLine} (Some row) None = none in absurd cc
+  some_line_more (At entry) ends last none = absurd ends
+  some_line_more _ ends last none = absurd (omega (arith, last))
+
+  pub IsGathered-more : (statement : Statement) → IsFine ports m statement → IsPlaced m.counts statement → EndsRow statement
+      → IsGathered (statement ∷ before) (with_statement m statement)
+  IsGathered-more statement fine inside ends = record {
+    tables = tables_more ports before m is.tables sized statement fine inside;
+    rows = rows_more statement ends;
+    count = count_more statement;
+    some_line = some_line_more statement ends;
   }
 
 -- a cell of the open row
-pub IsGathered-at : (ports : Registers) (before : List Statement) (g : Gathering) (entry : Entry) → IsGathered before g → IsFine ports g (At entry)
+pub IsGathered-at : (ports : Registers) (before : List Statement) (g : Gathering) (entry : Entry) → IsGathered before g → IsSized g → IsFine ports g (At entry)
     → IsGathered (At entry ∷ before) (with_statement g (At entry))
-IsGathered-at ports before g entry is fine = record {
-  tables = record {
-    last = same_of g.last 7 fine.order;
-    start = is.tables.start ∙ sym (start_kept before (At entry) refl);
-    cells = is.tables.cells;
-    init = is.tables.init;
-    inputs = is.tables.inputs;
-    outputs = is.tables.outputs;
-    places = is.tables.places;
-    counts = is.tables.counts;
-  };
+IsGathered-at ports before g entry is sized fine = record {
+  tables = tables_more ports before g is.tables sized (At entry) fine tt;
   rows = record {
     line = is.rows.line;
     cells = (let c = clear_entry _ _ entry.value _ fine.part in AreCells-more (row_entries before) g.row_cells entry is.rows.cells c.once entry.value refl c.some);
@@ -290,16 +243,3 @@ IsGathered-at ports before g entry is fine = record {
   count = is.count;
   some_line = is.some_line;
 }
-
--- no kind was the last where there is no statement
-pub none_before : (before : List Statement) → last_kind before ≡ 0 → before ≡ []
-none_before [] is = refl
-none_before (Start location ∷ before) is = absurd (omega (arith, is))
-none_before (Cell entry ∷ before) is = absurd (omega (arith, is))
-none_before (Init entry ∷ before) is = absurd (omega (arith, is))
-none_before (In entry ∷ before) is = absurd (omega (arith, is))
-none_before (Out entry ∷ before) is = absurd (omega (arith, is))
-none_before (May location ∷ before) is = absurd (omega (arith, is))
-none_before (Row row ∷ before) is = absurd (omega (arith, is))
-none_before (At entry ∷ before) is = absurd (omega (arith, is))
-none_before (End ∷ before) is = absurd (omega (arith, is))

@@ -16,12 +16,12 @@ use Rattle.ags_certtext.specs.declared.statements.Entry.{Entry}
 use Rattle.ags_certtext.specs.declared.statements.RowLine.{RowLine}
 use Rattle.ags_certtext.specs.declared.statements.Statement.{Statement}
 use Rattle.ags_certtext.specs.declared.statements.Statement.TheVariants.{Start, Cell, Init, In, Out, May, Row, At, End}
-use Rattle.ags_certtext.specs.Statement.{IsStatement}
+use Rattle.ags_certtext.specs.Statement.{IsStatement, kind_number}
 use Rattle.ags_certtext.specs.Fault.{is_outside}
 use Rattle.ags_certread.specs.Gathering.{Gathering, Closes, IsClosed, IsOpenRow, IsPlaced, IsSized, has_cell, nothing_stated, part_fault, row_count, stated, with_entry, with_statement}
 use Rattle.ags_certread.proofs.TableLemmas.{each_same, set_read, same_of}
 use Rattle.ags_certread.proofs.CellLemmas.{count_more, value_more, ascend_more}
-use Rattle.ags_certread.proofs.FaultLemmas.{IsFine, clear, clear_entry, clear_row, erasable, room, some_left, no_higher}
+use Rattle.ags_certread.proofs.FaultLemmas.{EndsRow, IsFine, clear, clear_entry, clear_row, erasable, room, some_left, no_higher}
 
 -- how many open rows stand at a location
 abbrev pub open_at : Option RowLine → ℕ → ℕ
@@ -98,6 +98,11 @@ IsSound-none = record {
 
 -- ---- the open row is closed
 
+-- the tables keep their sizes whatever is kept of the rows
+sized_beside : (g : Gathering) (rows : List (Row_of Value)) (line : Option RowLine) (row_cells : List (Cell_at Value)) → IsSized g
+    → IsSized (record g { rows = rows; line = line; row_cells = row_cells })
+sized_beside g rows line row_cells s = record { cells = s.cells; init = s.init; inputs = s.inputs; outputs = s.outputs; places = s.places; counts = s.counts }
+
 added_at : (rows : List (Row_of Value)) (row : Row_of Value) (line : RowLine) (location : ℕ) → row.location ≡ line.location
     → rows_at (rows ++ row ∷ []) location + 0 ≡ rows_at rows location + (if line.location == location then 1 else 0)
 added_at rows row line location same =
@@ -125,14 +130,7 @@ module _ (g : Gathering) (line : RowLine) (row : Row_of Value) (is : g.line ≡ 
 
   pub sound_closed : IsSound (record g { rows = g.rows ++ row ∷ []; line = None; row_cells = [] })
   sound_closed = record {
-    sized = record {
-      cells = sound.sized.cells;
-      init = sound.sized.init;
-      inputs = sound.sized.inputs;
-      outputs = sound.sized.outputs;
-      places = sound.sized.places;
-      counts = sound.sized.counts;
-    };
+    sized = sized_beside g (g.rows ++ row ∷ []) None [] sound.sized;
     start = sound.start;
     closable = no_row_open;
     few = few_closed;
@@ -165,25 +163,19 @@ line_gone g m (Some line) is closes = subst (λ (h : Gathering). h.line ≡ None
 count_kept : (g : Gathering) (line : RowLine) (row : Row_of Value) → g.line ≡ Some line → length (g.rows ++ row ∷ []) + 0 ≡ row_count g
 count_kept g line row is = let longer = length-append g.rows (row ∷ []) in rw is (omega (arith, longer))
 
-part_kept : (ports : Registers) (g : Gathering) (line : RowLine) (row : Row_of Value) → g.line ≡ Some line → (statement : Statement)
-    → ((entry : Entry) → statement ≡ At entry → ⊥)
+part_kept : (ports : Registers) (g : Gathering) (line : RowLine) (row : Row_of Value) → g.line ≡ Some line → (statement : Statement) → EndsRow statement
     → part_fault ports (record g { rows = g.rows ++ row ∷ []; line = None; row_cells = [] }) statement ≡ part_fault ports g statement
-part_kept ports g line row is (Start location) other = refl
-part_kept ports g line row is (Cell entry) other = refl
-part_kept ports g line row is (Init entry) other = refl
-part_kept ports g line row is (In entry) other = refl
-part_kept ports g line row is (Out entry) other = refl
-part_kept ports g line row is (May location) other = refl
-part_kept ports g line row is (Row next) other = rw (count_kept g line row is) refl
-part_kept ports g line row is (At entry) other = absurd (other entry refl)
-part_kept ports g line row is End other = rw (count_kept g line row is) refl
+part_kept ports g line row is (Row next) ends = rw (count_kept g line row is) refl
+part_kept ports g line row is End ends = rw (count_kept g line row is) refl
+part_kept ports g line row is (At entry) ends = absurd ends
+part_kept ports g line row is _ ends = refl
 
 pub fine_shut : (ports : Registers) (g m : Gathering) (line : Option RowLine) → g.line ≡ line → Closes line g m → (statement : Statement)
-    → ((entry : Entry) → statement ≡ At entry → ⊥) → IsFine ports g statement → IsFine ports m statement
-fine_shut ports g m None is closes statement other fine = subst (λ (h : Gathering). IsFine ports h statement) (sym closes) fine
-fine_shut ports g m (Some line) is closes statement other fine = subst (λ (h : Gathering). IsFine ports h statement) (sym closes.2) (record {
+    → EndsRow statement → IsFine ports g statement → IsFine ports m statement
+fine_shut ports g m None is closes statement ends fine = subst (λ (h : Gathering). IsFine ports h statement) (sym closes) fine
+fine_shut ports g m (Some line) is closes statement ends fine = subst (λ (h : Gathering). IsFine ports h statement) (sym closes.2) (record {
   order = fine.order;
-  part = part_kept ports g line closes.0 is statement other ∙ fine.part;
+  part = part_kept ports g line closes.0 is statement ends ∙ fine.part;
 })
 
 pub counts_shut : (g m : Gathering) (line : Option RowLine) → Closes line g m → m.counts ≡ g.counts
@@ -193,7 +185,6 @@ counts_shut g m (Some line) closes = ap (λ (h : Gathering). h.counts) closes.2
 -- ---- a statement is added
 
 sized_more : (m : Gathering) (statement : Statement) → IsSized m → IsSized (with_statement m statement)
-sized_more m (Start location) s = record { cells = s.cells; init = s.init; inputs = s.inputs; outputs = s.outputs; places = s.places; counts = s.counts }
 sized_more m (Cell entry) s =
     record { cells = length-set m.cells entry.address entry.value ∙ s.cells; init = s.init; inputs = s.inputs; outputs = s.outputs; places = s.places; counts = s.counts }
 sized_more m (Init entry) s =
@@ -212,15 +203,14 @@ sized_more m (Row row) s = record {
   places = s.places;
   counts = length-set m.counts row.location (get_or m.counts row.location 0 + 1) ∙ s.counts;
 }
-sized_more m (At entry) s = record { cells = s.cells; init = s.init; inputs = s.inputs; outputs = s.outputs; places = s.places; counts = s.counts }
-sized_more m End s = record { cells = s.cells; init = s.init; inputs = s.inputs; outputs = s.outputs; places = s.places; counts = s.counts }
+sized_more m _ s = record { cells = s.cells; init = s.init; inputs = s.inputs; outputs = s.outputs; places = s.places; counts = s.counts }
 
 -- the last kind was no higher than the kind of a statement that stands in order, and wasn't the end
 module _ (m : Gathering) (sound : IsSound m) (shut : m.line ≡ None) where
   -- a kind up to the named places: no row was stated
-  early_more : (kind : ℕ) (init : List (Option Value)) → m.last ≤ kind → kind ≤ 6 → (kind ≤ 2 → (address : ℕ) → stated init address ≡ None)
+  early_kind : (kind : ℕ) (init : List (Option Value)) → m.last ≤ kind → kind ≤ 6 → (kind ≤ 2 → (address : ℕ) → stated init address ≡ None)
       → IsEarly kind init m.rows m.line m.row_cells
-  early_more kind init order low none = record {
+  early_kind kind init order low none = record {
     no_init = none;
     no_rows = λ least. sound.early.no_rows (omega (arith, order, low));
     no_line = λ least. shut;
@@ -231,6 +221,18 @@ module _ (m : Gathering) (sound : IsSound m) (shut : m.line ≡ None) where
 
   no_cells : m.row_cells ≡ []
   no_cells = sound.early.no_cells shut
+
+  -- a row, or the end
+  late_kind : (kind : ℕ) (line : Option RowLine) → 7 ≤ kind → (kind ≡ 8 → line ≡ None) → (kind ≡ 8 → 1 ≤ length m.rows)
+      → IsEarly kind m.init m.rows line m.row_cells
+  late_kind kind line late ended some_row = record {
+    no_init = λ low. absurd (omega (arith, low, late));
+    no_rows = λ low. absurd (omega (arith, low, late));
+    no_line = λ low. absurd (omega (arith, low, late));
+    no_cells = λ none. no_cells;
+    ended = ended;
+    some_row = some_row;
+  }
 
   inside_cell : (entry : Entry) → m.last ≤ 2 → AreInside (set m.cells entry.address entry.value) m.init m.rows m.row_cells
   inside_cell entry low = record {
@@ -277,99 +279,61 @@ module _ (m : Gathering) (sound : IsSound m) (shut : m.line ≡ None) where
       few_rows location true same = let new = read location true same in omega (arith, new, room)
       few_rows location false same = let new = read location false same in let old = sound.few.few location in omega (arith, new, old)
 
+  start_more : (statement : Statement) → IsStatement statement → (with_statement m statement).start < 4096
+  start_more (Start location) is = is
+  start_more _ is = sound.start
+
+  closable_more : (ports : Registers) (statement : Statement) → IsFine ports m statement → IsStatement statement → EndsRow statement
+      → IsOpenRow (with_statement m statement).line (with_statement m statement).row_cells
+  closable_more ports (Row row) fine is ends =
+      let c = clear_row ports m row fine.part in
+      record { line = is; a = c.a; q = c.q; few = sound.closable.few; ascending = sound.closable.ascending }
+  closable_more ports (At entry) fine is ends = absurd ends
+  closable_more ports _ fine is ends = sound.closable
+
+  few_more : (ports : Registers) (statement : Statement) → IsFine ports m statement → IsPlaced m.counts statement
+      → AreFew (with_statement m statement).rows (with_statement m statement).line (with_statement m statement).counts
+  few_more ports (Row row) fine inside = let c = clear_row ports m row fine.part in few_row row (rw sound.sized.counts inside.0) c.few c.room
+  few_more ports _ fine inside = sound.few
+
+  inside_more : (ports : Registers) (statement : Statement) → IsFine ports m statement → IsPlaced m.counts statement → EndsRow statement
+      → AreInside (with_statement m statement).cells (with_statement m statement).init (with_statement m statement).rows (with_statement m statement).row_cells
+  inside_more ports (Cell entry) fine inside ends = inside_cell entry (no_higher m.last 2 fine.order)
+  inside_more ports (Init entry) fine inside ends =
+      let c = clear_entry _ _ entry.value _ fine.part in
+      let within = (clear _ _ _ c.later).0 in
+      record {
+        firsts = λ address. first_inside entry (rw sound.sized.init inside) within address (entry.address == address) refl;
+        in_rows = sound.inside.in_rows;
+        in_cells = sound.inside.in_cells;
+      }
+  inside_more ports (At entry) fine inside ends = absurd ends
+  inside_more ports _ fine inside ends = sound.inside
+
+  early_more : (ports : Registers) (statement : Statement) → IsFine ports m statement → EndsRow statement
+      → IsEarly (with_statement m statement).last (with_statement m statement).init (with_statement m statement).rows (with_statement m statement).line (with_statement m statement).row_cells
+  early_more ports (Start location) fine ends =
+      let none = same_of m.last 0 fine.order in early_kind 1 m.init (omega (arith, none)) (omega arith) (λ low. sound.early.no_init (omega (arith, none)))
+  early_more ports (Cell entry) fine ends =
+      let low = no_higher m.last 2 fine.order in early_kind 2 m.init low (omega arith) (λ least. sound.early.no_init low)
+  early_more ports (Row row) fine ends = late_kind 7 (Some row) (omega arith) (λ end. absurd (omega (arith, end))) (λ end. absurd (omega (arith, end)))
+  early_more ports (At entry) fine ends = absurd ends
+  early_more ports End fine ends = late_kind 8 m.line (omega arith) (λ end. shut) (λ end.
+      let some = some_left (row_count m) (clear _ _ _ fine.part).0 in
+      let count : 1 ≤ length m.rows + 0 = rw shut at some in
+      omega (arith, count))
+  early_more ports statement fine ends =
+      early_kind (kind_number statement) (with_statement m statement).init (no_higher m.last (kind_number statement) fine.order) (omega arith) (λ least. absurd (omega (arith, least)))
+
   pub sound_more : (ports : Registers) (statement : Statement) → IsFine ports m statement → IsStatement statement → IsPlaced m.counts statement
-      → ((entry : Entry) → statement ≡ At entry → ⊥) → IsSound (with_statement m statement)
-  sound_more ports (Start location) fine is inside other = record {
-    sized = sized_more m (Start location) sound.sized;
-    start = is;
-    closable = sound.closable;
-    few = sound.few;
-    inside = sound.inside;
-    early = (let none = same_of m.last 0 fine.order in
-        early_more 1 m.init (omega (arith, none)) (omega arith) (λ low. sound.early.no_init (omega (arith, none))));
-  }
-  sound_more ports (Cell entry) fine is inside other = record {
-    sized = sized_more m (Cell entry) sound.sized;
-    start = sound.start;
-    closable = sound.closable;
-    few = sound.few;
-    inside = inside_cell entry (no_higher m.last 2 fine.order);
-    early = (let low = no_higher m.last 2 fine.order in early_more 2 m.init low (omega arith) (λ least. sound.early.no_init low));
-  }
-  sound_more ports (Init entry) fine is inside other = record {
-    sized = sized_more m (Init entry) sound.sized;
-    start = sound.start;
-    closable = sound.closable;
-    few = sound.few;
-    inside = record {
-      firsts =
-          (let c = clear_entry _ _ entry.value _ fine.part in
-          let within = (clear _ _ _ c.later).0 in
-          λ address. first_inside entry (rw sound.sized.init inside) within address (entry.address == address) refl);
-      in_rows = sound.inside.in_rows;
-      in_cells = sound.inside.in_cells;
-    };
-    early = early_more 3 (set m.init entry.address entry.value) (no_higher m.last 3 fine.order) (omega arith) (λ least. absurd (omega (arith, least)));
-  }
-  sound_more ports (In entry) fine is inside other = record {
-    sized = sized_more m (In entry) sound.sized;
-    start = sound.start;
-    closable = sound.closable;
-    few = sound.few;
-    inside = sound.inside;
-    early = early_more 4 m.init (no_higher m.last 4 fine.order) (omega arith) (λ least. absurd (omega (arith, least)));
-  }
-  sound_more ports (Out entry) fine is inside other = record {
-    sized = sized_more m (Out entry) sound.sized;
-    start = sound.start;
-    closable = sound.closable;
-    few = sound.few;
-    inside = sound.inside;
-    early = early_more 5 m.init (no_higher m.last 5 fine.order) (omega arith) (λ least. absurd (omega (arith, least)));
-  }
-  sound_more ports (May location) fine is inside other = record {
-    sized = sized_more m (May location) sound.sized;
-    start = sound.start;
-    closable = sound.closable;
-    few = sound.few;
-    inside = sound.inside;
-    early = early_more 6 m.init (no_higher m.last 6 fine.order) (omega arith) (λ least. absurd (omega (arith, least)));
-  }
-  sound_more ports (Row row) fine is inside other = record {
-    sized = sized_more m (Row row) sound.sized;
-    start = sound.start;
-    closable =
-        (let c = clear_row ports m row fine.part in
-        record { line = is; a = c.a; q = c.q; few = sound.closable.few; ascending = sound.closable.ascending });
-    few = (let c = clear_row ports m row fine.part in few_row row (rw sound.sized.counts inside.0) c.few c.room);
-    inside = sound.inside;
-    early = record {
-      no_init = λ low. absurd (omega (arith, low));
-      no_rows = λ low. absurd (omega (arith, low));
-      no_line = λ low. absurd (omega (arith, low));
-      no_cells = λ none. no_cells;
-      ended = λ end. absurd (omega (arith, end));
-      some_row = λ end. absurd (omega (arith, end));
-    };
-  }
-  sound_more ports (At entry) fine is inside other = absurd (other entry refl)
-  sound_more ports End fine is inside other = record {
-    sized = sized_more m End sound.sized;
-    start = sound.start;
-    closable = sound.closable;
-    few = sound.few;
-    inside = sound.inside;
-    early = record {
-      no_init = λ low. absurd (omega (arith, low));
-      no_rows = λ low. absurd (omega (arith, low));
-      no_line = λ low. absurd (omega (arith, low));
-      no_cells = λ none. no_cells;
-      ended = λ end. shut;
-      some_row = λ end.
-          let some = some_left (row_count m) (clear _ _ _ fine.part).0 in
-          let count : 1 ≤ length m.rows + 0 = rw shut at some in
-          omega (arith, count);
-    };
+      → EndsRow statement → IsSound (with_statement m statement)
+  sound_more ports statement fine is inside ends = record {
+    sized = sized_more m statement sound.sized;
+    start = start_more statement is;
+    closable = closable_more ports statement fine is ends;
+    few = few_more ports statement fine inside;
+    inside = inside_more ports statement fine inside ends;
+    early = early_more ports statement fine ends;
   }
 
 -- ---- a cell of the open row
@@ -383,30 +347,9 @@ module _ (g : Gathering) (sound : IsSound g) (entry : Entry) (once : has_cell g.
   cell_inside value is address false same = rw same (sound.inside.in_cells address)
 
   at_sound : (value : Option Value) → entry.value ≡ value → (g.line ≡ None → ⊥) → IsSound (record g { row_cells = with_entry entry value g.row_cells })
-  at_sound None is never = record {
-    sized = record {
-      cells = sound.sized.cells;
-      init = sound.sized.init;
-      inputs = sound.sized.inputs;
-      outputs = sound.sized.outputs;
-      places = sound.sized.places;
-      counts = sound.sized.counts;
-    };
-    start = sound.start;
-    closable = sound.closable;
-    few = sound.few;
-    inside = sound.inside;
-    early = sound.early;
-  }
+  at_sound None is never = sound
   at_sound (Some value) is never = record {
-    sized = record {
-      cells = sound.sized.cells;
-      init = sound.sized.init;
-      inputs = sound.sized.inputs;
-      outputs = sound.sized.outputs;
-      places = sound.sized.places;
-      counts = sound.sized.counts;
-    };
+    sized = sized_beside g g.rows g.line (with_entry entry (Some value) g.row_cells) sound.sized;
     start = sound.start;
     closable = record {
       line = sound.closable.line;
