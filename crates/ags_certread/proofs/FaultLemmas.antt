@@ -12,6 +12,7 @@ use Rattle.ags_certtext.specs.declared.statements.Statement.TheVariants.{Start, 
 use Rattle.ags_certtext.specs.Statement.{IsStatement}
 use Rattle.ags_certtext.specs.Fault.{fault_if, is_empty, stands_in_order, is_second_start}
 use Rattle.ags_certread.specs.Gathering.{Gathering, entry_fault, gathered_fault, part_fault, row_count, IsPlaced}
+use Rattle.ags_certread.proofs.CheckLemmas.{neither}
 
 pub clear : (found : Bool) (kind : CertKind) (later : Option CertKind) → fault_if found kind later ≡ None → (found ≡ false) × (later ≡ None)
 clear true kind later none = let clash : ◌≡◌ {A = Option CertKind} (Some kind) None = none in absurd cc
@@ -64,10 +65,6 @@ erasable address is = grind (arith, nat_tests)
 pub room : (count most : ℕ) → nat_le most count ≡ false → count < most
 room count most is = grind (arith, nat_tests)
 
-pub neither : (a b : Bool) → (a || b) ≡ false → (a ≡ false) × (b ≡ false)
-neither true b is = let clash : true ≡ false = is in absurd cc
-neither false b is = (refl, is)
-
 pub some_left : (count : ℕ) → (count == 0) ≡ false → 1 ≤ count
 some_left count is = grind (arith, nat_tests)
 
@@ -105,12 +102,10 @@ clear_row ports g row none =
 -- ---- a statement without a fault can be added
 
 pub placed : (ports : Registers) (g : Gathering) (statement : Statement) → gathered_fault ports g statement ≡ None → IsStatement statement → IsPlaced g.counts statement
-placed ports g (Start location) none is = tt
 placed ports g (Cell entry) none is = erasable entry.address (clear_entry _ _ entry.value _ (fine ports g (Cell entry) none).part).place
 placed ports g (Init entry) none is = erasable entry.address (clear_entry _ _ entry.value _ (fine ports g (Init entry) none).part).place
 placed ports g (In entry) none is = is
 placed ports g (Out entry) none is = is
 placed ports g (May location) none is = is
 placed ports g (Row row) none is = (is.location, (clear_row ports g row (fine ports g (Row row) none).part).room)
-placed ports g (At entry) none is = tt
-placed ports g End none is = tt
+placed ports g _ none is = tt

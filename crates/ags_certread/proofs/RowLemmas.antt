@@ -8,7 +8,7 @@ use Rattle.ags_row.specs.declared.rows.Row.{Row as Row_of}
 use Rattle.ags_certtext.specs.declared.statements.Entry.{Entry}
 use Rattle.ags_certtext.specs.declared.statements.RowLine.{RowLine}
 use Rattle.ags_certtext.specs.declared.statements.Statement.{Statement}
-use Rattle.ags_certtext.specs.declared.statements.Statement.TheVariants.{Start, Cell, Init, In, Out, May, Row, At, End}
+use Rattle.ags_certtext.specs.declared.statements.Statement.TheVariants.{Start, Row, At}
 use Rattle.ags_certtext.specs.Statement.{row_entries, value_at}
 use Rattle.ags_certtext.specs.Text.{RowOfLines, leading_cells, rows_of, IsRowOfLines, AreRowsOf, start_of}
 use Rattle.ags_certread.specs.Gathering.{IsClosed}
@@ -52,14 +52,7 @@ pub rows_are : (cells : List Entry) (before : List Statement)
 rows_are cells [] = refl
 rows_are cells (At entry ∷ before) =
     rows_are (entry ∷ cells) before ∙ ap (λ (l : List Entry). with_open (open_line before) l (closed_rows before)) (turned entry (row_entries before) cells)
-rows_are cells (Row line ∷ before) = refl
-rows_are cells (Start location ∷ before) = refl
-rows_are cells (Cell entry ∷ before) = refl
-rows_are cells (Init entry ∷ before) = refl
-rows_are cells (In entry ∷ before) = refl
-rows_are cells (Out entry ∷ before) = refl
-rows_are cells (May location ∷ before) = refl
-rows_are cells (End ∷ before) = refl
+rows_are cells (_ ∷ before) = refl
 
 -- ---- the same from the front
 
@@ -72,13 +65,7 @@ rows_forward (At entry ∷ before) tail = ap rows_of (moved (At entry) before ta
 rows_forward (Row line ∷ before) tail =
     ap rows_of (moved (Row line) before tail) ∙ rows_forward before (Row line ∷ tail)
     ∙ sym (moved (record { line = line; cells = leading_cells tail }) (rows_back [] before) (rows_of tail))
-rows_forward (Start location ∷ before) tail = ap rows_of (moved (Start location) before tail) ∙ rows_forward before (Start location ∷ tail)
-rows_forward (Cell entry ∷ before) tail = ap rows_of (moved (Cell entry) before tail) ∙ rows_forward before (Cell entry ∷ tail)
-rows_forward (Init entry ∷ before) tail = ap rows_of (moved (Init entry) before tail) ∙ rows_forward before (Init entry ∷ tail)
-rows_forward (In entry ∷ before) tail = ap rows_of (moved (In entry) before tail) ∙ rows_forward before (In entry ∷ tail)
-rows_forward (Out entry ∷ before) tail = ap rows_of (moved (Out entry) before tail) ∙ rows_forward before (Out entry ∷ tail)
-rows_forward (May location ∷ before) tail = ap rows_of (moved (May location) before tail) ∙ rows_forward before (May location ∷ tail)
-rows_forward (End ∷ before) tail = ap rows_of (moved End before tail) ∙ rows_forward before (End ∷ tail)
+rows_forward (statement ∷ before) tail = ap rows_of (moved statement before tail) ∙ rows_forward before (statement ∷ tail)
 
 -- the rows of all statements
 pub rows_of_reversed : (before : List Statement) → rows_of (reverse before) ≡ reverse (rows_back [] before)
@@ -146,14 +133,7 @@ shut_open before rows cells are empty = record {
 pub start-more : (statements : List Statement) (last : Statement) → start_of (last ∷ []) ≡ 2048 → start_of (statements ++ last ∷ []) ≡ start_of statements
 start-more [] last is = is
 start-more (Start location ∷ statements) last is = refl
-start-more (Cell entry ∷ statements) last is = start-more statements last is
-start-more (Init entry ∷ statements) last is = start-more statements last is
-start-more (In entry ∷ statements) last is = start-more statements last is
-start-more (Out entry ∷ statements) last is = start-more statements last is
-start-more (May location ∷ statements) last is = start-more statements last is
-start-more (Row row ∷ statements) last is = start-more statements last is
-start-more (At entry ∷ statements) last is = start-more statements last is
-start-more (End ∷ statements) last is = start-more statements last is
+start-more (_ ∷ statements) last is = start-more statements last is
 
 pub start_kept : (before : List Statement) (last : Statement) → start_of (last ∷ []) ≡ 2048 → start_of (reverse (last ∷ before)) ≡ start_of (reverse before)
 start_kept before last is = ap start_of (reverse-more last before) ∙ start-more (reverse before) last is

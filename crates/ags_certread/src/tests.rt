@@ -22,6 +22,17 @@ fn fault(rt: &impl Abort, alloc: Global, text: &[u8]) -> Option<CertError> {
     }
 }
 
+/// Each text has its first fault on this line, and of this kind.
+fn expect_faults(rt: &impl Abort, alloc: Global, cases: &[(&[u8], u32, CertKind)]) {
+    for (text, line, kind) in cases {
+        let wanted = CertError::At {
+            line: *line,
+            kind: *kind,
+        };
+        assert!(rt; fault(rt, alloc, text) == Some(wanted));
+    }
+}
+
 /// Adds a text, so many times.
 fn add(rt: &impl Abort, text: &mut Vec<u8>, line: &[u8], count: usize) {
     for _ in 0..count {
@@ -57,85 +68,115 @@ fn a_certificate_is_read(rt: HostRuntime) {
 }
 
 #[test]
-fn first_faults_are_told(rt: HostRuntime) {
-    let alloc = rt.alloc();
-    let cases: [(&[u8], u32, CertKind); 24] = [
-        (b"", 1, CertKind::BadLine),
-        (b"AGSCERT 1\n", 2, CertKind::BadLine),
-        (b"START 4000\nEND\n", 1, CertKind::BadLine),
-        (b"AGSCERT 2\nEND\n", 1, CertKind::Version),
-        (b"AGSCERT 1\nSTART 4000\nSTART 4000\n", 3, CertKind::Twice),
-        (
-            b"AGSCERT 1\nCELL 0017 ANY\nSTART 4000\n",
-            3,
-            CertKind::BadLine,
-        ),
-        (
-            b"AGSCERT 1\n\nCELL 0017 ANY\nCELL 0017 ANY\n",
-            4,
-            CertKind::Twice,
-        ),
-        (b"AGSCERT 1\nCELL 4000 ANY\n", 2, CertKind::BadLine),
-        (b"AGSCERT 1\nCELL 0017 RANGE 5 4\n", 2, CertKind::EmptyRange),
-        (
-            b"AGSCERT 1\nCELL 0017 ANY\nCELL 0017 RANGE 5 4\n",
-            3,
-            CertKind::Twice,
-        ),
-        (
-            b"AGSCERT 1\nCELL 0017 RANGE 5 9\nINIT 0017 RANGE 4 6\n",
-            3,
-            CertKind::OutsideGlobal,
-        ),
-        (
-            b"AGSCERT 1\nINIT 0017 ANY\nCELL 0017 ANY\n",
-            3,
-            CertKind::BadLine,
-        ),
-        (b"AGSCERT 1\nIN 6001 ANY\n", 2, CertKind::BadLine),
-        (b"AGSCERT 1\nIN 2200 RANGE 1 31\n", 2, CertKind::NoZero),
-        (
-            b"AGSCERT 1\nIN 2200 ANY\nIN 2200 RANGE 1 31\n",
-            3,
-            CertKind::Twice,
-        ),
-        (
-            b"AGSCERT 1\nOUT 6001 ANY\nOUT 6001 ANY\n",
-            3,
-            CertKind::Twice,
-        ),
-        (b"AGSCERT 1\nMAY 4000\nMAY 4000\n", 3, CertKind::Twice),
-        (b"AGSCERT 1\nEND\n", 2, CertKind::NoRows),
-        (b"AGSCERT 1\nAT 0017 ANY\n", 2, CertKind::BadLine),
-        (
-            b"AGSCERT 1\nROW 4000 A ANY Q ANY X 0 V 0\nCELL 0017 ANY\n",
-            3,
-            CertKind::BadLine,
-        ),
-        (
-            b"AGSCERT 1\nROW 4000 A ANY Q ANY X 0 V 0\nAT 0017 ANY\nAT 0017 ANY\n",
-            4,
-            CertKind::Twice,
-        ),
-        (
-            b"AGSCERT 1\nCELL 0017 RANGE 5 9\nROW 4000 A ANY Q ANY X 0 V 0\nAT 0017 RANGE 5 10\n",
-            4,
-            CertKind::OutsideGlobal,
-        ),
-        (
-            b"AGSCERT 1\nROW 4000 A RANGE 5 4 Q ANY X 0 V 0\n",
-            2,
-            CertKind::EmptyRange,
-        ),
-        (
-            b"AGSCERT 1\nROW 4000 A ANY Q ANY X 0 V 0\nEND\nEND\n",
-            4,
-            CertKind::BadLine,
-        ),
-    ];
-    for (text, line, kind) in cases {
-        assert!(rt; fault(&rt, alloc, text) == Some(CertError::At { line, kind }));
-    }
+fn a_text_opens_and_has_rows_and_an_end(rt: HostRuntime) {
+    expect_faults(
+        &rt,
+        rt.alloc(),
+        &[
+            (b"", 1, CertKind::BadLine),
+            (b"AGSCERT 1\n", 2, CertKind::BadLine),
+            (b"START 4000\nEND\n", 1, CertKind::BadLine),
+            (b"AGSCERT 2\nEND\n", 1, CertKind::Version),
+            (b"AGSCERT 1\nEND\n", 2, CertKind::NoRows),
+        ],
+    );
+}
+
+#[test]
+fn kinds_stand_in_order(rt: HostRuntime) {
+    expect_faults(
+        &rt,
+        rt.alloc(),
+        &[
+            (
+                b"AGSCERT 1\nCELL 0017 ANY\nSTART 4000\n",
+                3,
+                CertKind::BadLine,
+            ),
+            (
+                b"AGSCERT 1\nINIT 0017 ANY\nCELL 0017 ANY\n",
+                3,
+                CertKind::BadLine,
+            ),
+            (b"AGSCERT 1\nAT 0017 ANY\n", 2, CertKind::BadLine),
+            (
+                b"AGSCERT 1\nROW 4000 A ANY Q ANY X 0 V 0\nCELL 0017 ANY\n",
+                3,
+                CertKind::BadLine,
+            ),
+            (
+                b"AGSCERT 1\nROW 4000 A ANY Q ANY X 0 V 0\nEND\nEND\n",
+                4,
+                CertKind::BadLine,
+            ),
+        ],
+    );
+}
+
+#[test]
+fn nothing_is_stated_twice(rt: HostRuntime) {
+    expect_faults(
+        &rt,
+        rt.alloc(),
+        &[
+            (b"AGSCERT 1\nSTART 4000\nSTART 4000\n", 3, CertKind::Twice),
+            (
+                b"AGSCERT 1\n\nCELL 0017 ANY\nCELL 0017 ANY\n",
+                4,
+                CertKind::Twice,
+            ),
+            (
+                b"AGSCERT 1\nCELL 0017 ANY\nCELL 0017 RANGE 5 4\n",
+                3,
+                CertKind::Twice,
+            ),
+            (
+                b"AGSCERT 1\nIN 2200 ANY\nIN 2200 RANGE 1 31\n",
+                3,
+                CertKind::Twice,
+            ),
+            (
+                b"AGSCERT 1\nOUT 6001 ANY\nOUT 6001 ANY\n",
+                3,
+                CertKind::Twice,
+            ),
+            (b"AGSCERT 1\nMAY 4000\nMAY 4000\n", 3, CertKind::Twice),
+            (
+                b"AGSCERT 1\nROW 4000 A ANY Q ANY X 0 V 0\nAT 0017 ANY\nAT 0017 ANY\n",
+                4,
+                CertKind::Twice,
+            ),
+        ],
+    );
+}
+
+#[test]
+fn addresses_and_values_are_checked(rt: HostRuntime) {
+    expect_faults(
+        &rt,
+        rt.alloc(),
+        &[
+            (b"AGSCERT 1\nCELL 4000 ANY\n", 2, CertKind::BadLine),
+            (b"AGSCERT 1\nCELL 0017 RANGE 5 4\n", 2, CertKind::EmptyRange),
+            (
+                b"AGSCERT 1\nCELL 0017 RANGE 5 9\nINIT 0017 RANGE 4 6\n",
+                3,
+                CertKind::OutsideGlobal,
+            ),
+            (b"AGSCERT 1\nIN 6001 ANY\n", 2, CertKind::BadLine),
+            (b"AGSCERT 1\nIN 2200 RANGE 1 31\n", 2, CertKind::NoZero),
+            (
+                b"AGSCERT 1\nCELL 0017 RANGE 5 9\nROW 4000 A ANY Q ANY X 0 V 0\nAT 0017 RANGE 5 10\n",
+                4,
+                CertKind::OutsideGlobal,
+            ),
+            (
+                b"AGSCERT 1\nROW 4000 A RANGE 5 4 Q ANY X 0 V 0\n",
+                2,
+                CertKind::EmptyRange,
+            ),
+        ],
+    );
 }
 
 #[test]
