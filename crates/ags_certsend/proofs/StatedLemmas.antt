@@ -19,16 +19,28 @@ use Rattle.ags_certtext.specs.Text.{start_of, IsLimit, leading_cells, rows_of, A
 use Rattle.ags_certtext.specs.declared.statements.Entry.{Entry}
 use Rattle.ags_certtext.specs.declared.statements.Statement.{Statement}
 use Rattle.ags_certtext.specs.declared.statements.Statement.TheVariants.{Start, Cell, Init, In, Out, May, Row as RowOf, End}
-use Rattle.ags_certsend.specs.CertText.{is_full, entry_of, stating, start_entry, cell_statement, init_statement, input_statement, output_statement, place_statement, ascending, at_statement, row_statements, statements_of}
+use Rattle.ags_certsend.specs.Section.{address_count, stated_at}
+use Rattle.ags_certsend.specs.declared.sections.Section.{Section}
+use Rattle.ags_certsend.specs.declared.sections.Section.TheVariants.{Cells, Starts, Inputs, Outputs, Places}
+use Rattle.ags_certsend.specs.CertText.{is_full, entry_of, limited, stating, start_entry, cell_statement, init_statement, input_statement, output_statement, place_statement, ascending, at_statement, row_statements, statements_of}
 use Rattle.ags_certsend.proofs.ValueLemmas.{full_holds}
-use Rattle.ags_certsend.proofs.PassLemmas.{apart}
-use Rattle.ags_certsend.proofs.KindLemmas.{limit_cases, start_cases, place_cases}
+use Rattle.ags_certsend.proofs.PassLemmas.{Chooses, apart}
+use Rattle.ags_certsend.proofs.KindLemmas.{chooses_cell, chooses_init, chooses_in, chooses_out, chooses_may, limit_cases, start_cases, place_cases}
 
 -- ---- what a choice takes of other kinds: nothing
 
 -- a choice is of one kind
 OfKind : {Y : Type 0} → (Statement → Option Y) → ℕ → Type 0
 OfKind {Y} chosen kind = (statement : Statement) → ((kind_number statement ≡ kind) → ⊥) → chosen statement ≡ None
+
+-- a choice that has its addresses is of its kind
+of_kind : {Y : Type 0} (chosen : Statement → Option Y) (key : Y → ℕ) (kind : ℕ) → Chooses chosen key kind → OfKind chosen kind
+unfolding Chooses OfKind
+of_kind {Y} chosen key kind chooses = λ statement other. by_found statement other (chosen statement) refl
+  where
+    by_found : (statement : Statement) → ((kind_number statement ≡ kind) → ⊥) → (found : Option Y) → chosen statement ≡ found → found ≡ None
+    by_found statement other None is = refl
+    by_found statement other (Some y) is = absurd (other (chooses statement y is).0)
 
 -- no statement is of the kind
 Avoids : ℕ → List Statement → Type 0
@@ -44,12 +56,6 @@ avoided : {Y : Type 0} (chosen : Statement → Option Y) (kind : ℕ) → OfKind
 unfolding Avoids OfKind
 avoided chosen kind of [] avoids = refl
 avoided chosen kind of (statement ∷ statements) avoids = rw (of statement avoids.0, avoided chosen kind of statements avoids.1) refl
-
-skip : {Y : Type 0} (chosen : Statement → Option Y) (kind : ℕ) → OfKind chosen kind → (front rest : List Statement) → Avoids kind front → filter_map chosen (front ++ rest) ≡ filter_map chosen rest
-skip chosen kind of front rest avoids = filter_map-append chosen front rest ∙ ap (λ (taken : List _). taken ++ filter_map chosen rest) (avoided chosen kind of front avoids)
-
-pick : {Y : Type 0} (chosen : Statement → Option Y) (kind : ℕ) → OfKind chosen kind → (front rest : List Statement) → Avoids kind rest → filter_map chosen (front ++ rest) ≡ filter_map chosen front
-pick chosen kind of front rest avoids = filter_map-append chosen front rest ∙ ap (λ (taken : List _). filter_map chosen front ++ taken) (avoided chosen kind of rest avoids) ∙ append-nil (filter_map chosen front)
 
 -- the statements of a kind by address avoid every other kind
 Makes : (ℕ → Option Statement) → ℕ → Type 0
@@ -271,185 +277,127 @@ rows_stated (row ∷ rows) =
       lead = refl;
     }
 
--- ---- choices and kinds
+-- ---- the kinds that stand by address
 
-cell_of_kind : OfKind cell_entry 2
-unfolding OfKind
-cell_of_kind = chosen
-  where
-    chosen : (statement : Statement) → ((kind_number statement ≡ 2) → ⊥) → cell_entry statement ≡ None
-    chosen (Cell entry) other = absurd (other refl)
-    chosen _ other = refl
+abbrev kind_of : Section → ℕ
+kind_of Cells = 2
+kind_of Starts = 3
+kind_of Inputs = 4
+kind_of Outputs = 5
+kind_of Places = 6
 
-init_of_kind : OfKind init_entry 3
-unfolding OfKind
-init_of_kind = chosen
-  where
-    chosen : (statement : Statement) → ((kind_number statement ≡ 3) → ⊥) → init_entry statement ≡ None
-    chosen (Init entry) other = absurd (other refl)
-    chosen _ other = refl
+limit_makes : (kind : Entry → Statement) (number : ℕ) → ((entry : Entry) → kind_number (kind entry) ≡ number) → (address : ℕ) (limit : Value) (statement : Statement)
+    → stating kind (limited address limit) ≡ Some statement → kind_number statement ≡ number
+limit_makes kind number of address limit statement is = rw (← (limit_cases kind address limit (is_full limit) statement is).1) (of (entry_of address limit))
 
-in_of_kind : OfKind in_entry 4
-unfolding OfKind
-in_of_kind = chosen
-  where
-    chosen : (statement : Statement) → ((kind_number statement ≡ 4) → ⊥) → in_entry statement ≡ None
-    chosen (In entry) other = absurd (other refl)
-    chosen _ other = refl
-
-out_of_kind : OfKind out_entry 5
-unfolding OfKind
-out_of_kind = chosen
-  where
-    chosen : (statement : Statement) → ((kind_number statement ≡ 5) → ⊥) → out_entry statement ≡ None
-    chosen (Out entry) other = absurd (other refl)
-    chosen _ other = refl
-
-may_of_kind : OfKind may_place 6
-unfolding OfKind
-may_of_kind = chosen
-  where
-    chosen : (statement : Statement) → ((kind_number statement ≡ 6) → ⊥) → may_place statement ≡ None
-    chosen (May location) other = absurd (other refl)
-    chosen _ other = refl
-
-makes_cells : (cert : Stated) → Makes (cell_statement cert) 2
-unfolding Makes cell_statement
-makes_cells cert = λ address statement is. let limit = cell_limit cert.limits address in rw (← (limit_cases Cell address limit (is_full limit) statement is).1) refl
-
-makes_inits : (cert : Stated) → Makes (init_statement cert) 3
-unfolding Makes init_statement
-makes_inits cert = λ address statement is. rw (← (start_cases address (get_or cert.init address None) statement is).2) refl
-
-makes_inputs : (cert : Stated) → Makes (input_statement cert) 4
-unfolding Makes input_statement
-makes_inputs cert = λ address statement is. let limit = input_limit cert.limits address in rw (← (limit_cases In address limit (is_full limit) statement is).1) refl
-
-makes_outputs : (cert : Stated) → Makes (output_statement cert) 5
-unfolding Makes output_statement
-makes_outputs cert = λ address statement is. let limit = output_limit cert.limits address in rw (← (limit_cases Out address limit (is_full limit) statement is).1) refl
-
-makes_places : (cert : Stated) → Makes (place_statement cert) 6
-unfolding Makes place_statement
-makes_places cert = λ location statement is. rw (← place_cases location (is_named cert.limits location) statement is) refl
+makes : (cert : Stated) (section : Section) → Makes (stated_at section cert) (kind_of section)
+unfolding Makes cell_statement init_statement input_statement output_statement place_statement
+makes cert Cells = λ address statement is. limit_makes Cell 2 (λ entry. refl) address (cell_limit cert.limits address) statement is
+makes cert Starts = λ address statement is. rw (← (start_cases address (get_or cert.init address None) statement is).2) refl
+makes cert Inputs = λ address statement is. limit_makes In 4 (λ entry. refl) address (input_limit cert.limits address) statement is
+makes cert Outputs = λ address statement is. limit_makes Out 5 (λ entry. refl) address (output_limit cert.limits address) statement is
+makes cert Places = λ location statement is. rw (← place_cases location (is_named cert.limits location) statement is) refl
 
 -- ---- the parts of a certificate's statements
 
 module _ (cert : Stated) where
-  c2 : List Statement
-  c2 = ascending (cell_statement cert) 2048
+  part : Section → List Statement
+  part section = ascending (stated_at section cert) (address_count section)
 
-  c3 : List Statement
-  c3 = ascending (init_statement cert) 2048
+  rows_part : List Statement
+  rows_part = flat_map row_statements cert.rows ++ End ∷ []
 
-  c4 : List Statement
-  c4 = ascending (input_statement cert) 4096
+  -- the parts of some kinds, and then the rows
+  with_rows : List Section → List Statement
+  with_rows [] = rows_part
+  with_rows (section ∷ sections) = part section ++ with_rows sections
 
-  c5 : List Statement
-  c5 = ascending (output_statement cert) 4096
+  sections : List Section
+  sections = Cells ∷ Starts ∷ Inputs ∷ Outputs ∷ Places ∷ []
 
-  c6 : List Statement
-  c6 = ascending (place_statement cert) 4096
-
-  c7 : List Statement
-  c7 = flat_map row_statements cert.rows ++ End ∷ []
-
-  c2_avoids : (kind : ℕ) → ((2 ≡ kind) → ⊥) → Avoids kind c2
-  unfolding c2
-  c2_avoids kind other = ascending_avoids kind 2 (cell_statement cert) (makes_cells cert) other 2048
-
-  c3_avoids : (kind : ℕ) → ((3 ≡ kind) → ⊥) → Avoids kind c3
-  unfolding c3
-  c3_avoids kind other = ascending_avoids kind 3 (init_statement cert) (makes_inits cert) other 2048
-
-  c4_avoids : (kind : ℕ) → ((4 ≡ kind) → ⊥) → Avoids kind c4
-  unfolding c4
-  c4_avoids kind other = ascending_avoids kind 4 (input_statement cert) (makes_inputs cert) other 4096
-
-  c5_avoids : (kind : ℕ) → ((5 ≡ kind) → ⊥) → Avoids kind c5
-  unfolding c5
-  c5_avoids kind other = ascending_avoids kind 5 (output_statement cert) (makes_outputs cert) other 4096
-
-  c6_avoids : (kind : ℕ) → ((6 ≡ kind) → ⊥) → Avoids kind c6
-  unfolding c6
-  c6_avoids kind other = ascending_avoids kind 6 (place_statement cert) (makes_places cert) other 4096
-
-  c7_avoids : (kind : ℕ) → ((7 ≡ kind) → ⊥) → ((8 ≡ kind) → ⊥) → Avoids kind c7
-  unfolding c7 Avoids
-  c7_avoids kind other last = avoids-append kind (flat_map row_statements cert.rows) (End ∷ []) (rows_avoid kind cert.rows other) (last, tt)
-
-  parts : statements_of cert ≡ Start cert.start ∷ (c2 ++ (c3 ++ (c4 ++ (c5 ++ (c6 ++ c7)))))
-  unfolding statements_of c2 c3 c4 c5 c6 c7
+  parts : statements_of cert ≡ Start cert.start ∷ with_rows sections
+  unfolding statements_of with_rows sections part rows_part
   parts = refl
 
-  cells_chosen : filter_map cell_entry (statements_of cert) ≡ filter_map cell_entry c2
-  cells_chosen = rw parts (pick cell_entry 2 cell_of_kind c2 (c3 ++ (c4 ++ (c5 ++ (c6 ++ c7))))
-      (avoids-append 2 c3 _ (c3_avoids 2 (λ is. absurd cc)) (avoids-append 2 c4 _ (c4_avoids 2 (λ is. absurd cc)) (avoids-append 2 c5 _ (c5_avoids 2 (λ is. absurd cc))
-      (avoids-append 2 c6 _ (c6_avoids 2 (λ is. absurd cc)) (c7_avoids 2 (λ is. absurd cc) (λ is. absurd cc)))))))
+  part_avoids : (section : Section) (kind : ℕ) → ((kind_of section ≡ kind) → ⊥) → Avoids kind (part section)
+  unfolding part
+  part_avoids section kind other = ascending_avoids kind (kind_of section) (stated_at section cert) (makes cert section) other (address_count section)
 
-  inits_chosen : filter_map init_entry (statements_of cert) ≡ filter_map init_entry c3
-  inits_chosen = rw parts (skip init_entry 3 init_of_kind c2 (c3 ++ (c4 ++ (c5 ++ (c6 ++ c7)))) (c2_avoids 3 (λ is. absurd cc))
-      ∙ pick init_entry 3 init_of_kind c3 (c4 ++ (c5 ++ (c6 ++ c7)))
-      (avoids-append 3 c4 _ (c4_avoids 3 (λ is. absurd cc)) (avoids-append 3 c5 _ (c5_avoids 3 (λ is. absurd cc)) (avoids-append 3 c6 _ (c6_avoids 3 (λ is. absurd cc)) (c7_avoids 3 (λ is. absurd cc) (λ is. absurd cc))))))
+  rows_part_avoids : (kind : ℕ) → kind < 7 → Avoids kind rows_part
+  unfolding rows_part Avoids
+  rows_part_avoids kind low = avoids-append kind (flat_map row_statements cert.rows) (End ∷ []) (rows_avoid kind cert.rows (λ is. omega (arith, low, is))) ((λ is. omega (arith, low, is)), tt)
 
-  inputs_chosen : filter_map in_entry (statements_of cert) ≡ filter_map in_entry c4
-  inputs_chosen = rw parts (skip in_entry 4 in_of_kind c2 (c3 ++ (c4 ++ (c5 ++ (c6 ++ c7)))) (c2_avoids 4 (λ is. absurd cc))
-      ∙ skip in_entry 4 in_of_kind c3 (c4 ++ (c5 ++ (c6 ++ c7))) (c3_avoids 4 (λ is. absurd cc))
-      ∙ pick in_entry 4 in_of_kind c4 (c5 ++ (c6 ++ c7))
-      (avoids-append 4 c5 _ (c5_avoids 4 (λ is. absurd cc)) (avoids-append 4 c6 _ (c6_avoids 4 (λ is. absurd cc)) (c7_avoids 4 (λ is. absurd cc) (λ is. absurd cc)))))
+  -- what a choice takes of the parts of one kind
+  abbrev taken : {Y : Type 0} → (Statement → Option Y) → ℕ → List Section → List Y
+  taken chosen kind some = flat_map (λ (section : Section). if kind_of section == kind then filter_map chosen (part section) else []) some
 
-  outputs_chosen : filter_map out_entry (statements_of cert) ≡ filter_map out_entry c5
-  outputs_chosen = rw parts (skip out_entry 5 out_of_kind c2 (c3 ++ (c4 ++ (c5 ++ (c6 ++ c7)))) (c2_avoids 5 (λ is. absurd cc))
-      ∙ skip out_entry 5 out_of_kind c3 (c4 ++ (c5 ++ (c6 ++ c7))) (c3_avoids 5 (λ is. absurd cc))
-      ∙ skip out_entry 5 out_of_kind c4 (c5 ++ (c6 ++ c7)) (c4_avoids 5 (λ is. absurd cc))
-      ∙ pick out_entry 5 out_of_kind c5 (c6 ++ c7) (avoids-append 5 c6 _ (c6_avoids 5 (λ is. absurd cc)) (c7_avoids 5 (λ is. absurd cc) (λ is. absurd cc))))
+  -- a choice of that kind takes no more of all these parts
+  parts_chosen : {Y : Type 0} (chosen : Statement → Option Y) (kind : ℕ) → OfKind chosen kind → kind < 7 → (some : List Section)
+      → filter_map chosen (with_rows some) ≡ taken chosen kind some
+  unfolding with_rows
+  parts_chosen chosen kind of low [] = avoided chosen kind of rows_part (rows_part_avoids kind low)
+  parts_chosen chosen kind of low (section ∷ others) =
+      filter_map-append chosen (part section) (with_rows others) ∙ by_test (parts_chosen chosen kind of low others) (kind_of section == kind) refl
+    where
+      by_test : filter_map chosen (with_rows others) ≡ taken chosen kind others → (b : Bool) → (kind_of section == kind) ≡ b
+          → filter_map chosen (part section) ++ filter_map chosen (with_rows others) ≡ taken chosen kind (section ∷ others)
+      by_test rest true is = rw (is, rest) refl
+      by_test rest false is = rw (is, avoided chosen kind of (part section) (part_avoids section kind (λ same. absurd (true≢false (sym (eq-eqb (kind_of section) kind same) ∙ is))))) rest
 
-  places_chosen : filter_map may_place (statements_of cert) ≡ filter_map may_place c6
-  places_chosen = rw parts (skip may_place 6 may_of_kind c2 (c3 ++ (c4 ++ (c5 ++ (c6 ++ c7)))) (c2_avoids 6 (λ is. absurd cc))
-      ∙ skip may_place 6 may_of_kind c3 (c4 ++ (c5 ++ (c6 ++ c7))) (c3_avoids 6 (λ is. absurd cc))
-      ∙ skip may_place 6 may_of_kind c4 (c5 ++ (c6 ++ c7)) (c4_avoids 6 (λ is. absurd cc))
-      ∙ skip may_place 6 may_of_kind c5 (c6 ++ c7) (c5_avoids 6 (λ is. absurd cc))
-      ∙ pick may_place 6 may_of_kind c6 c7 (c7_avoids 6 (λ is. absurd cc) (λ is. absurd cc)))
+  -- and of all statements what it takes of the part of its kind
+  kind_chosen : {Y : Type 0} (section : Section) (chosen : Statement → Option Y) (key : Y → ℕ) → Chooses chosen key (kind_of section)
+      → filter_map chosen (statements_of cert) ≡ filter_map chosen (part section)
+  unfolding sections OfKind
+  kind_chosen Cells chosen key chooses =
+      let of = of_kind chosen key 2 chooses in
+      rw (parts, of (Start cert.start) (λ is. absurd cc)) (parts_chosen chosen 2 of (omega arith) sections ∙ append-nil (filter_map chosen (part Cells)))
+  kind_chosen section chosen key chooses =
+      let of = of_kind chosen key (kind_of section) chooses in
+      rw (parts, of (Start cert.start) (λ is. absurd cc)) (parts_chosen chosen (kind_of section) of (omega arith) sections ∙ append-nil (filter_map chosen (part section)))
 
-  rows_chosen : rows_of (statements_of cert) ≡ rows_of c7
-  rows_chosen = rw parts (rows_skip c2 (c3 ++ (c4 ++ (c5 ++ (c6 ++ c7)))) (c2_avoids 7 (λ is. absurd cc))
-      ∙ rows_skip c3 (c4 ++ (c5 ++ (c6 ++ c7))) (c3_avoids 7 (λ is. absurd cc)) ∙ rows_skip c4 (c5 ++ (c6 ++ c7)) (c4_avoids 7 (λ is. absurd cc))
-      ∙ rows_skip c5 (c6 ++ c7) (c5_avoids 7 (λ is. absurd cc)) ∙ rows_skip c6 c7 (c6_avoids 7 (λ is. absurd cc)))
+  no_rows_of : (section : Section) → (kind_of section ≡ 7) → ⊥
+  no_rows_of Cells is = absurd cc
+  no_rows_of _ is = absurd cc
+
+  rows_behind : (some : List Section) → rows_of (with_rows some) ≡ rows_of rows_part
+  unfolding with_rows
+  rows_behind [] = refl
+  rows_behind (section ∷ others) = rows_skip (part section) (with_rows others) (part_avoids section 7 (no_rows_of section)) ∙ rows_behind others
 
   starts : start_of (statements_of cert) ≡ cert.start
   starts = rw parts refl
 
   cell_values : (address : ℕ) → address < 2048 → value_at (entries cell_entry (statements_of cert)) address ≡ limited_value (cell_limit cert.limits address)
-  unfolding c2 Tells cell_statement limited_value
-  cell_values address below = ap (λ (found : List Entry). value_at found address) cells_chosen
+  unfolding part Chooses Tells cell_statement limited_value
+  cell_values address below = ap (λ (found : List Entry). value_at found address) (kind_chosen Cells cell_entry (λ (entry : Entry). entry.address) chooses_cell)
       ∙ value_ascending cell_entry (cell_statement cert) (λ x. limited_value (cell_limit cert.limits x))
       (λ x. told_limit Cell cell_entry (λ entry. refl) x (cell_limit cert.limits x) (is_full (cell_limit cert.limits x))) 2048 address below
 
   init_values : (address : ℕ) → address < 2048 → value_at (entries init_entry (statements_of cert)) address ≡ get_or cert.init address None
-  unfolding c3 Tells init_statement
-  init_values address below = ap (λ (found : List Entry). value_at found address) inits_chosen
+  unfolding part Chooses Tells init_statement
+  init_values address below = ap (λ (found : List Entry). value_at found address) (kind_chosen Starts init_entry (λ (entry : Entry). entry.address) chooses_init)
       ∙ value_ascending init_entry (init_statement cert) (λ x. get_or cert.init x None) (λ x. told_start x (get_or cert.init x None)) 2048 address below
 
   input_values : (address : ℕ) → address < 4096 → value_at (entries in_entry (statements_of cert)) address ≡ limited_value (input_limit cert.limits address)
-  unfolding c4 Tells input_statement limited_value
-  input_values address below = ap (λ (found : List Entry). value_at found address) inputs_chosen
+  unfolding part Chooses Tells input_statement limited_value
+  input_values address below = ap (λ (found : List Entry). value_at found address) (kind_chosen Inputs in_entry (λ (entry : Entry). entry.address) chooses_in)
       ∙ value_ascending in_entry (input_statement cert) (λ x. limited_value (input_limit cert.limits x))
       (λ x. told_limit In in_entry (λ entry. refl) x (input_limit cert.limits x) (is_full (input_limit cert.limits x))) 4096 address below
 
   output_values : (address : ℕ) → address < 4096 → value_at (entries out_entry (statements_of cert)) address ≡ limited_value (output_limit cert.limits address)
-  unfolding c5 Tells output_statement limited_value
-  output_values address below = ap (λ (found : List Entry). value_at found address) outputs_chosen
+  unfolding part Chooses Tells output_statement limited_value
+  output_values address below = ap (λ (found : List Entry). value_at found address) (kind_chosen Outputs out_entry (λ (entry : Entry). entry.address) chooses_out)
       ∙ value_ascending out_entry (output_statement cert) (λ x. limited_value (output_limit cert.limits x))
       (λ x. told_limit Out out_entry (λ entry. refl) x (output_limit cert.limits x) (is_full (output_limit cert.limits x))) 4096 address below
 
   place_names : (location : ℕ) → location < 4096 → list_any (λ (place : ℕ). place == location) (filter_map may_place (statements_of cert)) ≡ is_named cert.limits location
-  unfolding c6 Names place_statement
-  place_names location below = ap (λ (found : List ℕ). list_any (λ (place : ℕ). place == location) found) places_chosen
+  unfolding part Chooses Names place_statement
+  place_names location below = ap (λ (found : List ℕ). list_any (λ (place : ℕ). place == location) found) (kind_chosen Places may_place (λ (place : ℕ). place) chooses_may)
       ∙ place_ascending (place_statement cert) (is_named cert.limits) (λ x. refl) 4096 location below
 
   stated_rows : AreRowsOf (rows_of (statements_of cert)) cert.rows
-  unfolding c7
-  stated_rows = rw rows_chosen (rows_stated cert.rows).are
+  unfolding rows_part
+  stated_rows = rw (parts, rows_behind sections) (rows_stated cert.rows).are
 
   pub certificate_stated : IsCert cert → AreLimits cert.limits → IsFull value_meaning cert.limits.every → IsWhatIsStated (statements_of cert) cert
   certificate_stated good tables every = record {
