@@ -1,5 +1,5 @@
 -- What it says of a statement that it has no fault.
-use Rattle.std.proofs.Common.{◌≡◌, ℕ, ◌<◌, ◌≤◌, Bool, true, false, not, ◌||◌, ◌&&◌, ◌==◌, refl, get_or, Option, Some, None, arith}
+use Rattle.std.proofs.Common.{◌≡◌, ℕ, ◌<◌, ◌≤◌, Bool, true, false, not, ◌&&◌, ◌==◌, refl, get_or, Option, Some, None, arith}
 use Rattle.std.specs.Prelude.{nat_le, is_some}
 use Rattle.std.proofs.lemmas.Bool.Decides.{nat_tests}
 use Rattle.ags_domain.specs.declared.values.Value.{Value}
@@ -8,7 +8,7 @@ use Rattle.ags_certtext.specs.declared.cert_error.CertKind.{CertKind}
 use Rattle.ags_certtext.specs.declared.cert_error.CertKind.TheVariants.{BadLine, Twice, EmptyRange}
 use Rattle.ags_certtext.specs.declared.statements.RowLine.{RowLine}
 use Rattle.ags_certtext.specs.declared.statements.Statement.{Statement}
-use Rattle.ags_certtext.specs.declared.statements.Statement.TheVariants.{Start, Cell, Init, In, Out, May, Row, At, End}
+use Rattle.ags_certtext.specs.declared.statements.Statement.TheVariants.{Cell, Init, In, Out, May, Row, At}
 use Rattle.ags_certtext.specs.Statement.{IsStatement}
 use Rattle.ags_certtext.specs.Fault.{fault_if, is_empty, stands_in_order, is_second_start}
 use Rattle.ags_certread.specs.Gathering.{Gathering, entry_fault, gathered_fault, part_fault, row_count, IsPlaced}
@@ -75,13 +75,6 @@ both false b is = let clash : false ≡ true = is in absurd cc
 -- the last kind is no higher than that of a statement that stands in order
 pub no_higher : (last kind : ℕ) → (nat_le last kind && not (last == 8)) ≡ true → last ≤ kind
 no_higher last kind is = let first = both (nat_le last kind) (not (last == 8)) is in let h = first.0 in grind (arith, nat_tests)
-
-pub not_ended : (last kind : ℕ) → (nat_le last kind && not (last == 8)) ≡ true → last == 8 ≡ false
-not_ended last kind is = let first = both (nat_le last kind) (not (last == 8)) is in by_test (last == 8) first.1
-  where
-    by_test : (b : Bool) → not b ≡ true → b ≡ false
-    by_test true is = let clash : false ≡ true = is in absurd cc
-    by_test false is = refl
 
 -- ---- a row without a fault
 

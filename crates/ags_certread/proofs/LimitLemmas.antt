@@ -1,67 +1,18 @@
 -- Limits that are set, one address after the other, to what is stated there.
-use Rattle.std.proofs.Common.{◌≡◌, ℕ, ◌+◌, Bool, true, false, sym, ap, ◌∙◌, subst, ⊎_elim, List, get_or, Option, Some, None, arith}
-use Rattle.std.proofs.lemmas.Bool.{cases_lt}
+use Rattle.std.proofs.Common.{◌≡◌, ℕ, Bool, false, sym, ap, ◌∙◌, subst, List, get_or, Option, arith}
 use Rattle.std.proofs.lemmas.List.{get_or_past}
 use Rattle.ags_domain.specs.Domain.{IsFull}
 use Rattle.ags_domain.specs.Value.{value_meaning}
 use Rattle.ags_domain.specs.declared.values.Value.{Value}
-use Rattle.ags_row.specs.Limit.{Limiting, AreLimits, AreFullLimits, SetsOne, NamesPlace, cell_limit, input_limit, output_limit, is_named}
+use Rattle.ags_row.specs.Limit.{Limiting, AreLimits, AreFullLimits, cell_limit, input_limit, output_limit, is_named}
 use Rattle.ags_certtext.specs.Text.{IsLimit}
 use Rattle.ags_certread.specs.Gathering.{Gathering, AreLimitsOf, IsSetUpTo, IsNamedUpTo, stated}
 
 pub none_set : (table : List (Option Value)) (limit_at : ℕ → Value) → ((address : ℕ) → IsFull value_meaning (limit_at address)) → IsSetUpTo 0 table limit_at
 none_set table limit_at full = record { below = λ address less. absurd (omega (arith, less)); above = λ address least. full address }
 
--- nothing is stated at the next address
-pub set_none : (next : ℕ) (table : List (Option Value)) (limit_at : ℕ → Value) → IsSetUpTo next table limit_at → stated table next ≡ None
-    → IsSetUpTo (next + 1) table limit_at
-set_none next table limit_at so none = record {
-  below = λ address near. ⊎_elim
-      (λ less. so.below address less)
-      (λ more. let here : next ≡ address = omega (arith, near, more) in
-      subst (λ (a : ℕ). IsLimit (stated table a) (limit_at a)) here
-      (subst (λ (v : Option Value). IsLimit v (limit_at next)) (sym none) (so.above next (omega arith))))
-      (cases_lt address next);
-  above = λ address far. so.above address (omega (arith, far));
-}
-
--- the limit at the next address is set
-pub set_some : (next : ℕ) (table : List (Option Value)) (old new : ℕ → Value) (value : Value) → IsSetUpTo next table old → stated table next ≡ Some value
-    → SetsOne old new next value → IsSetUpTo (next + 1) table new
-set_some next table old new value so some sets = record {
-  below = λ address near. ⊎_elim
-      (λ less. subst (λ (d : Value). IsLimit (stated table address) d) (sym (sets.others address (λ same. absurd (omega (arith, less, same))))) (so.below address less))
-      (λ more. let here : next ≡ address = omega (arith, near, more) in
-      subst (λ (a : ℕ). IsLimit (stated table a) (new a)) here
-      (subst (λ (v : Option Value). IsLimit v (new next)) (sym some) sets.set))
-      (cases_lt address next);
-  above = λ address far. subst (λ (d : Value). IsFull value_meaning d) (sym (sets.others address (λ same. absurd (omega (arith, far, same))))) (so.above address (omega (arith, far)));
-}
-
 pub none_named : (places : List Bool) (limits : Limiting Value) → ((location : ℕ) → is_named limits location ≡ false) → IsNamedUpTo 0 places limits
 none_named places limits none = record { below = λ location less. absurd (omega (arith, less)); above = λ location least. none location }
-
-pub name_none : (next : ℕ) (places : List Bool) (limits : Limiting Value) → IsNamedUpTo next places limits → get_or places next false ≡ false
-    → IsNamedUpTo (next + 1) places limits
-name_none next places limits so none = record {
-  below = λ location near. ⊎_elim
-      (λ less. so.below location less)
-      (λ more. let here : next ≡ location = omega (arith, near, more) in
-      subst (λ (l : ℕ). is_named limits l ≡ get_or places l false) here (so.above next (omega arith) ∙ sym none))
-      (cases_lt location next);
-  above = λ location far. so.above location (omega (arith, far));
-}
-
-pub name_some : (next : ℕ) (places : List Bool) (old new : Limiting Value) → IsNamedUpTo next places old → get_or places next false ≡ true
-    → NamesPlace old new next → IsNamedUpTo (next + 1) places new
-name_some next places old new so some names = record {
-  below = λ location near. ⊎_elim
-      (λ less. names.places.others location (λ same. absurd (omega (arith, less, same))) ∙ so.below location less)
-      (λ more. let here : next ≡ location = omega (arith, near, more) in
-      subst (λ (l : ℕ). is_named new l ≡ get_or places l false) here (names.places.set ∙ sym some))
-      (cases_lt location next);
-  above = λ location far. names.places.others location (λ same. absurd (omega (arith, far, same))) ∙ so.above location (omega (arith, far));
-}
 
 -- what stands where no other was set is full
 pub full_every : (limits : Limiting Value) → AreLimits limits → IsFull value_meaning (cell_limit limits 2048) → IsFull value_meaning limits.every

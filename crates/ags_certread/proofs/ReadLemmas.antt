@@ -44,9 +44,6 @@ left_readings [] others readings are = (readings, are)
 left_readings (line ∷ lines) others [] are = absurd are
 left_readings (line ∷ lines) others (reading ∷ readings) are = left_readings lines others readings are.1
 
-pub one_reading_more : (line : LineAt) (lines : List LineAt) (reading : Reading) → IsReading line.bytes reading → HaveReadings lines → HaveReadings (line ∷ lines)
-one_reading_more line lines reading is have = (reading ∷ have.0, (is, have.1))
-
 -- ---- so many lines are read
 
 -- Of a text's lines so many are read without a fault, with these readings, nearest first; what is kept stands for their statements; and

@@ -2,3 +2,4 @@
 pub mod Gathering
 pub mod LineTaken
 pub mod OneMeaning
+pub mod LimitTable

@@ -1,86 +1,79 @@
 //! The limits that are stated.
 
 ghost use Rattle.std.specs.Prelude.{◌≡◌, ◌<◌, ◌+◌, length, get_or, IfOk};
-ghost use Rattle.ags_row.specs.Limit.{cell_limit, input_limit, output_limit, is_named};
+ghost use Rattle.ags_row.specs.Limit.{SetsOne, is_named};
 ghost use Rattle.ags_certread.specs.Gathering.{AreLimitsOf, IsNamedUpTo, IsSetUpTo, IsSized, gathering_of};
+ghost use Rattle.ags_certread.specs.LimitTable.{KeepsOthers, address_count, limit_in};
 
 use crate::gatherer::Gatherer;
 use ags_domain::Value;
 use ags_row::Limits;
 use std::alloc::{AllocError, Global};
 
-/// Sets the limit of an erasable cell, where one is stated.
-fn set_cell(limits: &mut Limits<Value>, cells: &[Option<Value>], address: u16)
-    requires whole { length cells.now ≡ 2048 }
-    requires inside { address < 2048 }
-    requires so_far { IsSetUpTo address cells.now (cell_limit limits.old) }
-    ensures set { IsSetUpTo (address + 1) cells.now (cell_limit limits.new) }
-    ensures rest { limits.new ≡ record limits.old { cells = limits.new.cells } }
-{
-    if let Some(value) = cells[address as usize] {
-        limits.set_cell(address, value);
-    }
+/// How many erasable cells there are.
+const ERASABLE: u16 = 2048;
+
+/// How many addresses there are.
+const ADDRESSES: u16 = 4096;
+
+/// A table of limits.
+#[derive(Clone, Copy)]
+enum Table {
+    /// Those of the erasable cells.
+    Cells,
+    /// Those of the input registers.
+    Inputs,
+    /// Those of the output registers.
+    Outputs,
 }
 
-/// Sets the limits of the erasable cells.
-fn set_cells(limits: &mut Limits<Value>, cells: &[Option<Value>])
-    requires whole { length cells.now ≡ 2048 }
-    requires full { IsSetUpTo 0 cells.now (cell_limit limits.old) }
-    ensures set { IsSetUpTo 2048 cells.now (cell_limit limits.new) }
-    ensures rest { limits.new ≡ record limits.old { cells = limits.new.cells } }
-{
-    for address in 0..2048 {
-        set_cell(limits, cells, address);
+impl Table {
+    /// How many addresses the table has.
+    fn count(self) -> u16
+        ensures { result ≡ address_count self }
+    {
+        match self {
+            Table::Cells => ERASABLE,
+            Table::Inputs | Table::Outputs => ADDRESSES,
+        }
     }
-}
 
-/// Sets the limit of an input register, where one is stated.
-fn set_input(limits: &mut Limits<Value>, inputs: &[Option<Value>], address: u16)
-    requires whole { length inputs.now ≡ 4096 }
-    requires inside { address < 4096 }
-    requires so_far { IsSetUpTo address inputs.now (input_limit limits.old) }
-    ensures set { IsSetUpTo (address + 1) inputs.now (input_limit limits.new) }
-    ensures rest { limits.new ≡ record limits.old { inputs = limits.new.inputs } }
-{
-    if let Some(value) = inputs[address as usize] {
-        limits.set_input(address, value);
+    /// Sets the limit at an address.
+    fn set(self, limits: &mut Limits<Value>, address: u16, value: Value)
+        requires { address < address_count self }
+        ensures set { SetsOne (limit_in self limits.old) (limit_in self limits.new) address value }
+        ensures rest { KeepsOthers self limits.old limits.new }
+    {
+        match self {
+            Table::Cells => limits.set_cell(address, value),
+            Table::Inputs => limits.set_input(address, value),
+            Table::Outputs => limits.set_output(address, value),
+        }
     }
-}
 
-/// Sets the limits of the input registers.
-fn set_inputs(limits: &mut Limits<Value>, inputs: &[Option<Value>])
-    requires whole { length inputs.now ≡ 4096 }
-    requires full { IsSetUpTo 0 inputs.now (input_limit limits.old) }
-    ensures set { IsSetUpTo 4096 inputs.now (input_limit limits.new) }
-    ensures rest { limits.new ≡ record limits.old { inputs = limits.new.inputs } }
-{
-    for address in 0..4096 {
-        set_input(limits, inputs, address);
+    /// Sets the limit at an address, where one is stated.
+    fn set_stated(self, limits: &mut Limits<Value>, stated: &[Option<Value>], address: u16)
+        requires whole { length stated.now ≡ address_count self }
+        requires inside { address < address_count self }
+        requires so_far { IsSetUpTo address stated.now (limit_in self limits.old) }
+        ensures set { IsSetUpTo (address + 1) stated.now (limit_in self limits.new) }
+        ensures rest { KeepsOthers self limits.old limits.new }
+    {
+        if let Some(value) = stated[address as usize] {
+            self.set(limits, address, value);
+        }
     }
-}
 
-/// Sets the limit of an output register, where one is stated.
-fn set_output(limits: &mut Limits<Value>, outputs: &[Option<Value>], address: u16)
-    requires whole { length outputs.now ≡ 4096 }
-    requires inside { address < 4096 }
-    requires so_far { IsSetUpTo address outputs.now (output_limit limits.old) }
-    ensures set { IsSetUpTo (address + 1) outputs.now (output_limit limits.new) }
-    ensures rest { limits.new ≡ record limits.old { outputs = limits.new.outputs } }
-{
-    if let Some(value) = outputs[address as usize] {
-        limits.set_output(address, value);
-    }
-}
-
-/// Sets the limits of the output registers.
-fn set_outputs(limits: &mut Limits<Value>, outputs: &[Option<Value>])
-    requires whole { length outputs.now ≡ 4096 }
-    requires full { IsSetUpTo 0 outputs.now (output_limit limits.old) }
-    ensures set { IsSetUpTo 4096 outputs.now (output_limit limits.new) }
-    ensures rest { limits.new ≡ record limits.old { outputs = limits.new.outputs } }
-{
-    for address in 0..4096 {
-        set_output(limits, outputs, address);
+    /// Sets the limits that are stated.
+    fn set_all(self, limits: &mut Limits<Value>, stated: &[Option<Value>])
+        requires whole { length stated.now ≡ address_count self }
+        requires full { IsSetUpTo 0 stated.now (limit_in self limits.old) }
+        ensures set { IsSetUpTo (address_count self) stated.now (limit_in self limits.new) }
+        ensures rest { KeepsOthers self limits.old limits.new }
+    {
+        for address in 0..self.count() {
+            self.set_stated(limits, stated, address);
+        }
     }
 }
 
@@ -115,9 +108,9 @@ pub(crate) fn limits_of(alloc: Global, gatherer: &Gatherer) -> Result<Limits<Val
     ensures { IfOk result (AreLimitsOf (gathering_of gatherer.now)) }
 {
     let mut limits = Limits::new(alloc)?;
-    set_cells(&mut limits, gatherer.cells.as_slice());
-    set_inputs(&mut limits, gatherer.inputs.as_slice());
-    set_outputs(&mut limits, gatherer.outputs.as_slice());
+    Table::Cells.set_all(&mut limits, gatherer.cells.as_slice());
+    Table::Inputs.set_all(&mut limits, gatherer.inputs.as_slice());
+    Table::Outputs.set_all(&mut limits, gatherer.outputs.as_slice());
     name_places(&mut limits, gatherer.places.as_slice());
     let _every = limits.every();
     Ok(limits)
