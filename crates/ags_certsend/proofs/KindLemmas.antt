@@ -119,24 +119,27 @@ may_clear ports before location last none = rw (in_order (last_kind before) 6 la
 
 -- ---- what is chosen
 
+same_address : (stated entry : Entry) → ◌≡◌ {A = Option Entry} (Some stated) (Some entry) → stated.address ≡ entry.address
+same_address stated entry is = let same : stated ≡ entry = cc in ap (λ (e : Entry). e.address) same
+
 pub chooses_cell : (statement : Statement) (entry : Entry) → cell_entry statement ≡ Some entry → (kind_number statement ≡ 2) × (stand statement ≡ entry.address)
 unfolding stand
-chooses_cell (Cell stated) entry is = let same : stated ≡ entry = cc in (refl, ap (λ (e : Entry). e.address) same)
+chooses_cell (Cell stated) entry is = (refl, same_address stated entry is)
 chooses_cell _ entry is = absurd cc
 
 pub chooses_init : (statement : Statement) (entry : Entry) → init_entry statement ≡ Some entry → (kind_number statement ≡ 3) × (stand statement ≡ entry.address)
 unfolding stand
-chooses_init (Init stated) entry is = let same : stated ≡ entry = cc in (refl, ap (λ (e : Entry). e.address) same)
+chooses_init (Init stated) entry is = (refl, same_address stated entry is)
 chooses_init _ entry is = absurd cc
 
 pub chooses_in : (statement : Statement) (entry : Entry) → in_entry statement ≡ Some entry → (kind_number statement ≡ 4) × (stand statement ≡ entry.address)
 unfolding stand
-chooses_in (In stated) entry is = let same : stated ≡ entry = cc in (refl, ap (λ (e : Entry). e.address) same)
+chooses_in (In stated) entry is = (refl, same_address stated entry is)
 chooses_in _ entry is = absurd cc
 
 pub chooses_out : (statement : Statement) (entry : Entry) → out_entry statement ≡ Some entry → (kind_number statement ≡ 5) × (stand statement ≡ entry.address)
 unfolding stand
-chooses_out (Out stated) entry is = let same : stated ≡ entry = cc in (refl, ap (λ (e : Entry). e.address) same)
+chooses_out (Out stated) entry is = (refl, same_address stated entry is)
 chooses_out _ entry is = absurd cc
 
 pub chooses_may : (statement : Statement) (place : ℕ) → may_place statement ≡ Some place → (kind_number statement ≡ 6) × (stand statement ≡ place)

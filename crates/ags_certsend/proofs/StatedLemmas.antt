@@ -279,6 +279,7 @@ rows_stated (row ∷ rows) =
 
 -- ---- the kinds that stand by address
 
+-- the number of a section's kind
 abbrev kind_of : Section → ℕ
 kind_of Cells = 2
 kind_of Starts = 3
