@@ -5,13 +5,11 @@ ghost use Rattle.ags_row.specs.Limit.{SetsOne, is_named};
 ghost use Rattle.ags_certread.specs.Gathering.{AreLimitsOf, IsNamedUpTo, IsSetUpTo, IsSized, gathering_of};
 ghost use Rattle.ags_certread.specs.LimitTable.{KeepsOthers, address_count, limit_in};
 
+use crate::checks::ERASABLE;
 use crate::gatherer::Gatherer;
 use ags_domain::Value;
 use ags_row::Limits;
 use std::alloc::{AllocError, Global};
-
-/// How many erasable cells there are.
-const ERASABLE: u16 = 2048;
 
 /// How many addresses there are.
 const ADDRESSES: u16 = 4096;
