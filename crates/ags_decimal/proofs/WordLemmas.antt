@@ -1,9 +1,9 @@
 -- A size that is too large for a word, and bounds of powers.
-use Rattle.std.proofs.Common.{◌≡◌, ℕ, ◌*◌, ◌%◌, ◌<◌, ◌≤◌, ◌^◌, Bool, true, false, inl, inr, arith, pos}
+use Rattle.std.proofs.Common.{◌≡◌, ℕ, suc, ◌<◌, ◌≤◌, ◌^◌, Bool, true, false, inl, inr, arith, pos}
 use Rattle.std.specs.Prelude.{neg_ℤ, None}
 use Rattle.std.proofs.lemmas.Int.{ints}
 use Rattle.std.proofs.lemmas.Bool.{cases_Bool}
-use Rattle.std.proofs.Math.Nat.{pow-le-pow_right, one-le-pow}
+use Rattle.std.proofs.Math.Nat.{pow-le-pow_right}
 use Rattle.ags_word.specs.Word.{fits, word_of_value}
 use Rattle.ags_word.proofs.WordLaws.{word_of_value-not, fits_least, fits_most}
 use Rattle.ags_decimal.specs.Decimal.{signed}
@@ -21,24 +21,11 @@ signed_over false size over =
       | inr not ↦ word_of_value-not (pos size) not
     ]
 
--- a power of two, as it is shifted
-pub shifted_most : (count most : ℕ) → count ≤ most → 1 * 2 ^ count % 2 ^ 64 ≤ 2 ^ most
-shifted_most count most few =
-    let less : 2 ^ count ≤ 2 ^ most = pow-le-pow_right (omega arith) few in
-    omega arith
-
--- a power of ten
-pub tens_most : (n count most : ℕ) → n ≡ 10 ^ count → count ≤ most → n ≤ 10 ^ most
-tens_most n count most is few =
-    let less : 10 ^ count ≤ 10 ^ most = pow-le-pow_right (omega arith) few in
-    omega arith
-
-pub tens_some : (n count : ℕ) → n ≡ 10 ^ count → 0 < n
-tens_some n count is =
-    let some : 1 ≤ 10 ^ count = one-le-pow count 10 (omega arith) in
+-- what is at most a power is at most one with a greater exponent
+pub up_to_power : (base most n count : ℕ) → 0 < base → n ≤ base ^ count → count ≤ most → n ≤ base ^ most
+up_to_power base most n count some less few =
+    let more : base ^ count ≤ base ^ most = pow-le-pow_right some few in
     omega arith
 
 pub below_tens : (n count most : ℕ) → n < 10 ^ count → count ≤ most → n < 10 ^ most
-below_tens n count most is few =
-    let less : 10 ^ count ≤ 10 ^ most = pow-le-pow_right (omega arith) few in
-    omega arith
+below_tens n count most is few = up_to_power 10 most (suc n) count (omega arith) is few

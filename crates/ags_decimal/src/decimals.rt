@@ -8,7 +8,7 @@ ghost use Rattle.ags_decimal.specs.Reading.{reading, digits_of, places_of, readi
 
 use crate::marks::{begins_with_minus, behind_first, behind_sign, split_at_mark};
 use crate::numbers::{all_digits, number_after, read_marked};
-use crate::sizes::{nearest_quotient, product, tens, twos};
+use crate::sizes::{nearest_quotient, product, sides};
 use ags_word::Word;
 use std::marker::Model;
 
@@ -39,8 +39,8 @@ impl Model for Decimal {
 fn nearest_size(number: &Decimal) -> u128
     ensures { result ≡ nearest_size number.now }
 {
-    let ten = tens(number.power);
-    let two = twos(17 - number.scale);
+    let ten = sides(10, number.power);
+    let two = sides(2, 17 - number.scale);
     nearest_quotient(
         product(number.digits, ten.0, two.0),
         product(1, ten.1, two.1),
