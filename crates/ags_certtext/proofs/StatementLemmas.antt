@@ -3,6 +3,7 @@
 -- The crates above may cite stated_is, which is behind the law spelled_statements_are_lawful.
 use Rattle.std.proofs.Common.{◌≡◌, ℕ, ◌<◌, ◌≤◌, ◌^◌, ◌⊎◌, Bool, List, [], ◌∷◌, ◌++◌, length, slice_index, get_or, Option, Some, refl, sym, ap, ◌∙◌, inl, inr, arith}
 use Rattle.std.specs.Prelude.{codes}
+use Rattle.std.specs.Option.{option_map}
 use Rattle.std.proofs.lemmas.Int.Digits.{digits_value-lt}
 use Rattle.ags_text.specs.Field.{AreBlanks, IsField, AreFields, HasFields, AreCut, next_field, behind_field}
 use Rattle.ags_text.specs.Numeral.{Writes}
@@ -207,9 +208,10 @@ stated_is line (Row row) is = record {
 stated_is line (At entry) is = place_below is.place entry.address is.address_is
 stated_is line End is = tt
 
--- what is made of parts that are one
-pub made_one : {X : Type 0} (make : X → Statement) (x other : X) (statement : Statement) → Some x ≡ Some other → statement ≡ make other → Some (make x) ≡ Some statement
-made_one make x other statement same is = let one : x ≡ other = cc in rw (one, is) refl
+-- where one thing is found at most, one statement at most is made of what is found
+pub made_only : {X : Type 0} {P : X → Type 0} {found : Option X} {statement : Statement} (make : X → Statement) → ((x : X) → P x → found ≡ Some x) → (x : X) × P x × (statement ≡ make x)
+    → option_map make found ≡ Some statement
+made_only make only is = rw (only is.0 is.1, is.2) refl
 
 -- ---- a line that is skipped makes no statement
 

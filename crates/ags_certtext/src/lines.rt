@@ -53,13 +53,7 @@ fn read_operands(keyword: Keyword, text: &[u8]) -> Option<Statement>
         Keyword::May => Some(Statement::May(read_place(text)?)),
         Keyword::Row => Some(Statement::Row(read_row(text)?)),
         Keyword::At => Some(Statement::At(read_entry(text)?)),
-        Keyword::End => {
-            if are_blanks(text) {
-                Some(Statement::End)
-            } else {
-                None
-            }
-        }
+        Keyword::End => are_blanks(text).then_some(Statement::End),
     }
 }
 

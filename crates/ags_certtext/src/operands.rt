@@ -1,8 +1,8 @@
 //! What stands behind the keyword of a line.
 
-ghost use Rattle.std.specs.Prelude.{◌≡◌, [], ◌∷◌, ℕ, Bool, List, Option, IfSome, IsSomeAnd, Some, true, false};
+ghost use Rattle.std.specs.Prelude.{◌≡◌, [], ◌∷◌, ℕ, Bool, List, Option, IfSome, IfNone, IsSomeAnd, Some, true, false};
 ghost use Rattle.ags_domain.specs.declared.values.Value.{Value};
-ghost use Rattle.ags_text.specs.Field.{behind_field};
+ghost use Rattle.ags_text.specs.Field.{next_field, behind_field};
 ghost use Rattle.ags_certtext.specs.declared.statements.Entry.{Entry};
 ghost use Rattle.ags_certtext.specs.declared.statements.RowLine.{RowLine};
 ghost use Rattle.ags_certtext.specs.Front.{BeginsWithWord, BeginsWithNamed, BeginsWithFlags, IsPlace};
@@ -47,14 +47,15 @@ pub(crate) fn read_entry(text: &[u8]) -> Option<Entry>
     }
 }
 
-/// Whether a text is a byte alone.
-fn is_name(name: u8, text: &[u8]) -> bool
-    ensures yes { result ≡ true → text.now ≡ name ∷ [] }
-    ensures no { result ≡ false → text.now ≡ name ∷ [] → ⊥ }
+/// What stands behind the next field of a text, where that is this byte alone.
+fn behind_name(name: u8, text: &[u8]) -> Option<&[u8]>
+    ensures found { IfSome result (λ behind. (next_field text.now ≡ name ∷ []) × (behind.now ≡ behind_field text.now)) }
+    ensures none { IfNone result (next_field text.now ≡ name ∷ [] → ⊥) }
 {
-    match text {
-        [byte] => *byte == name,
-        _ => false,
+    let (field, behind) = split_field(text);
+    match field {
+        [byte] if *byte == name => Some(behind),
+        _ => None,
     }
 }
 
@@ -64,12 +65,7 @@ fn read_named_value(name: u8, text: &[u8]) -> Option<(Option<Value>, &[u8])>
     ensures only { (value : Option Value) (rest : List ℕ) → BeginsWithNamed name text.now value rest → (BeginsWithWord rest → ⊥)
         → IsSomeAnd result (λ front. (front.0 ≡ value) × (front.1.now ≡ rest)) }
 {
-    let (field, behind) = split_field(text);
-    if is_name(name, field) {
-        read_value(behind)
-    } else {
-        None
-    }
+    read_value(behind_name(name, text)?)
 }
 
 /// The index digits that stand behind X.
@@ -77,13 +73,8 @@ fn read_x(text: &[u8]) -> Option<[bool; 8]>
     ensures found { IfSome result (λ flags. BeginsWithFlags 8 88 text.now flags) }
     ensures only { (flags : List Bool) → BeginsWithFlags 8 88 text.now flags → result ≡ Some flags }
 {
-    let (name, behind) = split_field(text);
-    let (digits, _) = split_field(behind);
-    if is_name(b'X', name) {
-        read_indices(digits)
-    } else {
-        None
-    }
+    let (digits, _) = split_field(behind_name(b'X', text)?);
+    read_indices(digits)
 }
 
 /// The indicator digits that stand behind V.
@@ -91,13 +82,8 @@ fn read_v(text: &[u8]) -> Option<[bool; 2]>
     ensures found { IfSome result (λ flags. BeginsWithFlags 2 86 text.now flags) }
     ensures only { (flags : List Bool) → BeginsWithFlags 2 86 text.now flags → result ≡ Some flags }
 {
-    let (name, behind) = split_field(text);
-    let (digits, _) = split_field(behind);
-    if is_name(b'V', name) {
-        read_indicators(digits)
-    } else {
-        None
-    }
+    let (digits, _) = split_field(behind_name(b'V', text)?);
+    read_indicators(digits)
 }
 
 /// What stands behind the next two fields of a text.
@@ -114,13 +100,9 @@ fn read_flags(text: &[u8]) -> Option<([bool; 8], [bool; 2])>
     ensures found { IfSome result (λ flags. AreRowFlags text.now flags.0 flags.1) }
     ensures only { (x v : List Bool) → AreRowFlags text.now x v → IsSomeAnd result (λ flags. (flags.0 ≡ x) × (flags.1 ≡ v)) }
 {
-    let Some(x) = read_x(text) else {
-        return None;
-    };
+    let x = read_x(text)?;
     let rest = behind_two(text);
-    let Some(v) = read_v(rest) else {
-        return None;
-    };
+    let v = read_v(rest)?;
     if are_blanks(behind_two(rest)) {
         Some((x, v))
     } else {

@@ -4,7 +4,6 @@ use crate::{Entry, FirstLine, FurtherLine, RowLine, Statement, laws, read_first_
 use ags_domain::{Domain, Range, Value, WordSet};
 use ags_word::Word;
 use std::process::Abort;
-use std::test::Fail;
 
 /// Clear alone, set alone, and both.
 const CLEAR: [bool; 2] = [true, false];
@@ -53,169 +52,136 @@ fn sixteen() -> Option<Value> {
     WordSet::of(&words).map(Value::Words)
 }
 
-/// Whether a line makes this statement.
-fn states(line: &[u8], wanted: &Statement) -> bool {
-    match read_line(line) {
-        FurtherLine::Stated(statement) => statement == *wanted,
-        _ => false,
-    }
+/// An address and its value.
+fn entry(address: u16, value: Option<Value>) -> Entry {
+    Entry { address, value }
 }
 
-#[test]
-fn statements_are_read(rt: HostRuntime) -> Result<(), Fail> {
-    let rows: [(&[u8], Statement); 22] = [
-        (b"START 4000", Statement::Start(0o4000)),
-        (b" \tSTART\t 0000 \t", Statement::Start(0)),
-        (b"MAY 7777", Statement::May(0o7777)),
-        (b"END", Statement::End),
-        (b"\tEND ", Statement::End),
-        (
-            b"CELL 0017 ANY",
-            Statement::Cell(Entry {
-                address: 0o17,
-                value: any(),
-            }),
-        ),
-        (
-            b"INIT 3777 RANGE 4 6",
-            Statement::Init(Entry {
-                address: 0o3777,
-                value: range(4, 6),
-            }),
-        ),
-        (
-            b"IN 2200 RANGE -131072 131071",
-            Statement::In(Entry {
-                address: 0o2200,
-                value: range(-131_072, 131_071),
-            }),
-        ),
-        (
-            b"OUT 6200 RANGE -0 000031",
-            Statement::Out(Entry {
-                address: 0o6200,
-                value: range(0, 31),
-            }),
-        ),
-        (
-            b"CELL 0017 RANGE -000005 -5",
-            Statement::Cell(Entry {
-                address: 0o17,
-                value: range(-5, -5),
-            }),
-        ),
-        (
-            b"CELL 0017 RANGE 9 5",
-            Statement::Cell(Entry {
-                address: 0o17,
-                value: None,
-            }),
-        ),
-        (
-            b"AT 0017 RANGE 5 4",
-            Statement::At(Entry {
-                address: 0o17,
-                value: None,
-            }),
-        ),
-        (
-            b"AT 0017 RANGE 0 -1",
-            Statement::At(Entry {
-                address: 0o17,
-                value: None,
-            }),
-        ),
-        (
-            b"CELL 4000 ANY",
-            Statement::Cell(Entry {
-                address: 0o4000,
-                value: any(),
-            }),
-        ),
-        (
-            b"AT 0017 WORDS 404001",
-            Statement::At(Entry {
-                address: 0o17,
-                value: alone(0o404001),
-            }),
-        ),
-        (
-            b"AT 0017 WORDS 000001 777777",
-            Statement::At(Entry {
-                address: 0o17,
-                value: pair(1, 0o777777),
-            }),
-        ),
-        (
-            b"AT 0017 WORDS 000000 000001 000002 000003 000004 000005 000006 000007 000010 000011 000012 000013 000014 000015 000016 000017",
-            Statement::At(Entry {
-                address: 0o17,
-                value: sixteen(),
-            }),
-        ),
-        (
-            b"ROW 4000 A ANY Q ANY X 0 V 0",
-            Statement::Row(RowLine {
-                location: 0o4000,
-                a: any(),
-                q: any(),
-                x: ZERO,
-                v: CLEAR,
-            }),
-        ),
-        (
-            b"ROW 4002 A ANY Q WORDS 404001 X 0 V 01",
-            Statement::Row(RowLine {
-                location: 0o4002,
-                a: any(),
-                q: alone(0o404001),
-                x: ZERO,
-                v: EITHER,
-            }),
-        ),
-        (
-            b"ROW 0017 A WORDS 000001 777777 Q RANGE -3 7 X 0127 V 1",
-            Statement::Row(RowLine {
-                location: 0o17,
-                a: pair(1, 0o777777),
-                q: range(-3, 7),
-                x: [true, true, true, false, false, false, false, true],
-                v: SET,
-            }),
-        ),
-        (
-            b"ROW 0017 A RANGE 2 1 Q ANY X 01234567 V 0",
-            Statement::Row(RowLine {
-                location: 0o17,
-                a: None,
-                q: any(),
-                x: [true; 8],
-                v: CLEAR,
-            }),
-        ),
-        (
-            b"ROW 0017 A RANGE 1 2 Q RANGE 2 1 X 0 V 0",
-            Statement::Row(RowLine {
-                location: 0o17,
-                a: range(1, 2),
-                q: None,
-                x: ZERO,
-                v: CLEAR,
-            }),
-        ),
-    ];
+/// The statement of a row.
+fn row(location: u16, a: Option<Value>, q: Option<Value>, x: [bool; 8], v: [bool; 2]) -> Statement {
+    Statement::Row(RowLine {
+        location,
+        a,
+        q,
+        x,
+        v,
+    })
+}
+
+/// Compares the statement of each line with the one that is wanted.
+fn expect_statements(rt: &impl Abort, rows: &[(&[u8], Statement)]) {
     for (row, (line, wanted)) in rows.iter().enumerate() {
         assert!(rt;
             read_line(line) == FurtherLine::Stated(*wanted),
             "row {row}"
         );
     }
-    Ok(())
+}
+
+/// Compares what each of the lines is with what is wanted of all.
+fn expect_all(rt: &impl Abort, lines: &[&[u8]], wanted: FurtherLine) {
+    for (row, line) in lines.iter().enumerate() {
+        assert!(rt; read_line(line) == wanted, "row {row}");
+    }
 }
 
 #[test]
-fn malformed_lines_are_told(rt: HostRuntime) -> Result<(), Fail> {
-    let lines: [&[u8]; 64] = [
+fn locations_and_the_end_are_read(rt: HostRuntime) {
+    let rows: [(&[u8], Statement); 5] = [
+        (b"START 4000", Statement::Start(0o4000)),
+        (b" \tSTART\t 0000 \t", Statement::Start(0)),
+        (b"MAY 7777", Statement::May(0o7777)),
+        (b"END", Statement::End),
+        (b"\tEND ", Statement::End),
+    ];
+    expect_statements(&rt, &rows);
+}
+
+#[test]
+fn entries_of_every_word_and_of_ranges_are_read(rt: HostRuntime) {
+    let rows: [(&[u8], Statement); 6] = [
+        (b"CELL 0017 ANY", Statement::Cell(entry(0o17, any()))),
+        (
+            b"INIT 3777 RANGE 4 6",
+            Statement::Init(entry(0o3777, range(4, 6))),
+        ),
+        (
+            b"IN 2200 RANGE -131072 131071",
+            Statement::In(entry(0o2200, range(-131_072, 131_071))),
+        ),
+        (
+            b"OUT 6200 RANGE -0 000031",
+            Statement::Out(entry(0o6200, range(0, 31))),
+        ),
+        (
+            b"CELL 0017 RANGE -000005 -5",
+            Statement::Cell(entry(0o17, range(-5, -5))),
+        ),
+        (b"CELL 4000 ANY", Statement::Cell(entry(0o4000, any()))),
+    ];
+    expect_statements(&rt, &rows);
+}
+
+#[test]
+fn empty_ranges_are_read_as_no_value(rt: HostRuntime) {
+    let rows: [(&[u8], Statement); 3] = [
+        (b"CELL 0017 RANGE 9 5", Statement::Cell(entry(0o17, None))),
+        (b"AT 0017 RANGE 5 4", Statement::At(entry(0o17, None))),
+        (b"AT 0017 RANGE 0 -1", Statement::At(entry(0o17, None))),
+    ];
+    expect_statements(&rt, &rows);
+}
+
+#[test]
+fn word_sets_are_read(rt: HostRuntime) {
+    let rows: [(&[u8], Statement); 3] = [
+        (
+            b"AT 0017 WORDS 404001",
+            Statement::At(entry(0o17, alone(0o404001))),
+        ),
+        (
+            b"AT 0017 WORDS 000001 777777",
+            Statement::At(entry(0o17, pair(1, 0o777777))),
+        ),
+        (
+            b"AT 0017 WORDS 000000 000001 000002 000003 000004 000005 000006 000007 000010 000011 000012 000013 000014 000015 000016 000017",
+            Statement::At(entry(0o17, sixteen())),
+        ),
+    ];
+    expect_statements(&rt, &rows);
+}
+
+#[test]
+fn rows_are_read(rt: HostRuntime) {
+    let some = [true, true, true, false, false, false, false, true];
+    let rows: [(&[u8], Statement); 5] = [
+        (
+            b"ROW 4000 A ANY Q ANY X 0 V 0",
+            row(0o4000, any(), any(), ZERO, CLEAR),
+        ),
+        (
+            b"ROW 4002 A ANY Q WORDS 404001 X 0 V 01",
+            row(0o4002, any(), alone(0o404001), ZERO, EITHER),
+        ),
+        (
+            b"ROW 0017 A WORDS 000001 777777 Q RANGE -3 7 X 0127 V 1",
+            row(0o17, pair(1, 0o777777), range(-3, 7), some, SET),
+        ),
+        (
+            b"ROW 0017 A RANGE 2 1 Q ANY X 01234567 V 0",
+            row(0o17, None, any(), [true; 8], CLEAR),
+        ),
+        (
+            b"ROW 0017 A RANGE 1 2 Q RANGE 2 1 X 0 V 0",
+            row(0o17, range(1, 2), None, ZERO, CLEAR),
+        ),
+    ];
+    expect_statements(&rt, &rows);
+}
+
+#[test]
+fn lines_of_another_keyword_or_location_are_malformed(rt: HostRuntime) {
+    let lines: [&[u8]; 15] = [
         b" # blanks before the sign",
         b"AGSCERT 1",
         b"STOP 4000",
@@ -231,6 +197,13 @@ fn malformed_lines_are_told(rt: HostRuntime) -> Result<(), Fail> {
         b"MAY 4000 ANY",
         b"END 0",
         b"END END",
+    ];
+    expect_all(&rt, &lines, FurtherLine::Malformed);
+}
+
+#[test]
+fn entries_of_another_address_or_form_are_malformed(rt: HostRuntime) {
+    let lines: [&[u8]; 10] = [
         b"CELL",
         b"CELL 0017",
         b"CELL ANY",
@@ -241,6 +214,13 @@ fn malformed_lines_are_told(rt: HostRuntime) -> Result<(), Fail> {
         b"CELL 0017 ANY ANY",
         b"CELL 0017 ALL",
         b"CELL 0017 ANYX",
+    ];
+    expect_all(&rt, &lines, FurtherLine::Malformed);
+}
+
+#[test]
+fn ranges_of_other_ends_are_malformed(rt: HostRuntime) {
+    let lines: [&[u8]; 12] = [
         b"CELL 0017 RANGE",
         b"CELL 0017 RANGE 1",
         b"CELL 0017 RANGE 1 2 3",
@@ -253,6 +233,13 @@ fn malformed_lines_are_told(rt: HostRuntime) -> Result<(), Fail> {
         b"CELL 0017 RANGE 0000001 2",
         b"CELL 0017 RANGE 1 2A",
         b"CELL 0017 RANGE 1,2",
+    ];
+    expect_all(&rt, &lines, FurtherLine::Malformed);
+}
+
+#[test]
+fn word_sets_of_other_words_are_malformed(rt: HostRuntime) {
+    let lines: [&[u8]; 9] = [
         b"CELL 0017 WORDS",
         b"CELL 0017 WORDS 00001",
         b"CELL 0017 WORDS 0000001",
@@ -262,6 +249,13 @@ fn malformed_lines_are_told(rt: HostRuntime) -> Result<(), Fail> {
         b"CELL 0017 WORDS 777777 000001",
         b"CELL 0017 WORDS 000001 ANY",
         b"AT 0017 WORDS 000000 000001 000002 000003 000004 000005 000006 000007 000010 000011 000012 000013 000014 000015 000016 000017 000020",
+    ];
+    expect_all(&rt, &lines, FurtherLine::Malformed);
+}
+
+#[test]
+fn rows_of_other_fields_are_malformed(rt: HostRuntime) {
+    let lines: [&[u8]; 18] = [
         b"ROW 4000",
         b"ROW 4000 A ANY Q ANY X 0",
         b"ROW 4000 A ANY Q ANY X 0 V",
@@ -281,23 +275,17 @@ fn malformed_lines_are_told(rt: HostRuntime) -> Result<(), Fail> {
         b"ROW 4000 A WORDS 000001 000001 Q ANY X 0 V 0",
         b"ROW 4000 A RANGE 131072 1 Q ANY X 0 V 0",
     ];
-    for (row, line) in lines.iter().enumerate() {
-        assert!(rt; read_line(line) == FurtherLine::Malformed, "row {row}");
-    }
-    Ok(())
+    expect_all(&rt, &lines, FurtherLine::Malformed);
 }
 
 #[test]
-fn lines_that_do_nothing_are_skipped(rt: HostRuntime) -> Result<(), Fail> {
+fn lines_that_do_nothing_are_skipped(rt: HostRuntime) {
     let lines: [&[u8]; 6] = [b"", b" ", b"\t", b" \t \t", b"#", b"# END \x00\xff\r"];
-    for (row, line) in lines.iter().enumerate() {
-        assert!(rt; read_line(line) == FurtherLine::Skipped, "row {row}");
-    }
-    Ok(())
+    expect_all(&rt, &lines, FurtherLine::Skipped);
 }
 
 #[test]
-fn long_lines_are_malformed(rt: HostRuntime) -> Result<(), Fail> {
+fn long_lines_are_malformed(rt: HostRuntime) {
     let mut bytes = [b' '; 513];
     assert!(rt; read_line(&bytes[..512]) == FurtherLine::Skipped);
     assert!(rt; read_line(&bytes) == FurtherLine::Malformed);
@@ -309,11 +297,10 @@ fn long_lines_are_malformed(rt: HostRuntime) -> Result<(), Fail> {
     bytes[2] = b'D';
     assert!(rt; read_line(&bytes[..512]) == FurtherLine::Stated(Statement::End));
     assert!(rt; read_line(&bytes) == FurtherLine::Malformed);
-    Ok(())
 }
 
 #[test]
-fn first_lines_are_read(rt: HostRuntime) -> Result<(), Fail> {
+fn first_lines_are_read(rt: HostRuntime) {
     let rows: [(&[u8], FirstLine); 21] = [
         (b"AGSCERT 1", FirstLine::Opening),
         (b"\t AGSCERT \t1 ", FirstLine::Opening),
@@ -340,11 +327,10 @@ fn first_lines_are_read(rt: HostRuntime) -> Result<(), Fail> {
     for (row, (line, wanted)) in rows.iter().enumerate() {
         assert!(rt; read_first_line(line) == *wanted, "row {row}");
     }
-    Ok(())
 }
 
 #[test]
-fn long_first_lines_are_malformed(rt: HostRuntime) -> Result<(), Fail> {
+fn long_first_lines_are_malformed(rt: HostRuntime) {
     let mut bytes = [b' '; 513];
     bytes[0] = b'A';
     bytes[1] = b'G';
@@ -356,13 +342,11 @@ fn long_first_lines_are_malformed(rt: HostRuntime) -> Result<(), Fail> {
     bytes[8] = b'1';
     assert!(rt; read_first_line(&bytes[..512]) == FirstLine::Opening);
     assert!(rt; read_first_line(&bytes) == FirstLine::Malformed);
-    Ok(())
 }
 
 #[test]
-fn laws_are_called(_rt: HostRuntime) -> Result<(), Fail> {
+fn laws_are_called(_rt: HostRuntime) {
     laws::first_line_has_one_reading();
     laws::line_has_one_reading();
     laws::spelled_statements_are_lawful();
-    Ok(())
 }
