@@ -43,6 +43,12 @@ found_all p q (y ∷ xs) x is all =
 named_name : {X : Type 0} (name : X → List ℕ) (all : List X) (text : List ℕ) (x : X) → named name all text ≡ Some x → name x ≡ text
 named_name name all text x is = same_text (name x) text (sym (found_passes (λ y. pointwise nat_eq (name y) text) all x is))
 
+-- what is read of a text is what is found by that name, where each is found by its own
+named_read : {X : Type 0} (name : X → List ℕ) (all : List X) → ((x : X) → named name all (name x) ≡ Some x) → (text : List ℕ) (result : Option X) → IfSome result (λ x. name x ≡ text)
+    → ((x : X) → name x ≡ text → result ≡ Some x) → result ≡ named name all text
+named_read name all finds text result found only =
+    same_answer (λ x. name x ≡ text) result (named name all text) found only (named_name name all text) (λ x is. ap (named name all) (sym is) ∙ finds x)
+
 -- ---- verbs
 
 pub verb_tells : (text : List ℕ) (one : Verb) → verb_named text ≡ Some one → verb_name one ≡ text
@@ -63,8 +69,8 @@ verb_finds verb.Cycle = refl
 verb_finds verb.Show = refl
 
 pub verb_read : (text : List ℕ) (result : Option Verb) → IfSome result (λ one. verb_name one ≡ text) → ((one : Verb) → verb_name one ≡ text → result ≡ Some one) → result ≡ verb_named text
-verb_read text result found only =
-    same_answer (λ one. verb_name one ≡ text) result (verb_named text) found only (verb_tells text) (λ one is. ap verb_named (sym is) ∙ verb_finds one)
+unfolding verb_named
+verb_read text result found only = named_read verb_name all_verbs verb_finds text result found only
 
 -- ---- subjects
 
@@ -85,8 +91,8 @@ no_subject = refl
 
 pub subject_read : (text : List ℕ) (result : Option Subject) → IfSome result (λ one. subject_name one ≡ text) → ((one : Subject) → subject_name one ≡ text → result ≡ Some one)
     → result ≡ subject_named text
-subject_read text result found only =
-    same_answer (λ one. subject_name one ≡ text) result (subject_named text) found only (subject_tells text) (λ one is. ap subject_named (sym is) ∙ subject_finds one)
+unfolding subject_named
+subject_read text result found only = named_read subject_name all_subjects subject_finds text result found only
 
 -- ---- keys
 

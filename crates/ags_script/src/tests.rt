@@ -27,10 +27,50 @@ fn expect_commands(
     Ok(())
 }
 
+/// Compares the commands of each script with those that are wanted.
+fn expect_scripts(
+    rt: &impl Abort,
+    alloc: Global,
+    rows: &[(&[u8], &[Command])],
+) -> Result<(), Fail> {
+    for (row, (text, wanted)) in rows.iter().enumerate() {
+        expect_commands(rt, alloc, row, text, wanted)?;
+    }
+    Ok(())
+}
+
+/// Compares the first fault of a script with the one that is wanted.
+fn expect_fault(
+    rt: &impl Abort,
+    alloc: Global,
+    row: usize,
+    text: &[u8],
+    line: u32,
+    kind: ScriptKind,
+) {
+    assert!(rt; text.len() <= 4_194_304, "row {row}");
+    let answer = read(alloc, text, &Machine::standard()).map(|script| script.len());
+    assert!(rt; answer == Err(ScriptError::At { line, kind }), "row {row}");
+}
+
+/// Compares the first fault of each script with the line and the kind that are wanted.
+fn expect_faults(rt: &impl Abort, alloc: Global, rows: &[(&[u8], u32, ScriptKind)]) {
+    for (row, (text, line, kind)) in rows.iter().enumerate() {
+        expect_fault(rt, alloc, row, text, *line, *kind);
+    }
+}
+
+/// Asks that each line is malformed where it stands alone.
+fn expect_malformed(rt: &impl Abort, alloc: Global, lines: &[&[u8]]) {
+    for (row, line) in lines.iter().enumerate() {
+        expect_fault(rt, alloc, row, line, 1, ScriptKind::BadLine);
+    }
+}
+
 #[test]
-fn scripts_are_read(rt: HostRuntime) -> Result<(), Fail> {
+fn words_and_steps_are_read(rt: HostRuntime) -> Result<(), Fail> {
     let word = Word::of(0o1750).expect(&rt, "a word");
-    let rows: [(&[u8], &[Command]); 9] = [
+    let rows: [(&[u8], &[Command]); 4] = [
         (
             b"PORT 2001 001750\nSTART 0017\nCELL 3777 001750\n# STEP\nSTEP 000000012\nCYCLE 0\n",
             &[
@@ -47,6 +87,25 @@ fn scripts_are_read(rt: HostRuntime) -> Result<(), Fail> {
                 Command::Cycle(0),
             ],
         ),
+        (
+            b"SET 2200 001750\n",
+            &[Command::Set {
+                address: 0o2200,
+                word,
+            }],
+        ),
+        (
+            b"CYCLE 5000\nSTEP 0\n",
+            &[Command::Cycle(5000), Command::Step(0)],
+        ),
+        (b"STEP 100000000", &[Command::Step(100_000_000)]),
+    ];
+    expect_scripts(&rt, rt.alloc(), &rows)
+}
+
+#[test]
+fn keys_are_read(rt: HostRuntime) -> Result<(), Fail> {
+    let rows: [(&[u8], &[Command]); 2] = [
         (
             b"KEY CLR 0 4 7 RO\n",
             &[
@@ -67,14 +126,14 @@ fn scripts_are_read(rt: HostRuntime) -> Result<(), Fail> {
                 Command::Press(Key::Entr),
             ],
         ),
+    ];
+    expect_scripts(&rt, rt.alloc(), &rows)
+}
+
+#[test]
+fn pulses_and_shows_are_read(rt: HostRuntime) -> Result<(), Fail> {
+    let rows: [(&[u8], &[Command]); 2] = [
         (b"PULSE\nFEED \n", &[Command::Pulse, Command::Feed]),
-        (
-            b"SET 2200 001750\n",
-            &[Command::Set {
-                address: 0o2200,
-                word,
-            }],
-        ),
         (
             b"SHOW REG\nSHOW CELL 7777\nSHOW OUT 6200\nSHOW DEDA\n",
             &[
@@ -84,103 +143,87 @@ fn scripts_are_read(rt: HostRuntime) -> Result<(), Fail> {
                 Command::ShowDeda,
             ],
         ),
-        (
-            b"CYCLE 5000\nSTEP 0\n",
-            &[Command::Cycle(5000), Command::Step(0)],
-        ),
-        (b"STEP 100000000", &[Command::Step(100_000_000)]),
-        (b"\n \t\n\r\n#\x00\xff\n", &[]),
     ];
-    for (row, (text, wanted)) in rows.into_iter().enumerate() {
-        expect_commands(&rt, rt.alloc(), row, text, wanted)?;
-    }
-    Ok(())
+    expect_scripts(&rt, rt.alloc(), &rows)
+}
+
+#[test]
+fn lines_that_do_nothing_are_skipped(rt: HostRuntime) -> Result<(), Fail> {
+    let rows: [(&[u8], &[Command]); 2] = [(b"\n \t\n\r\n#\x00\xff\n", &[]), (&[b' '; 512], &[])];
+    expect_scripts(&rt, rt.alloc(), &rows)
 }
 
 #[test]
 fn first_faults_are_told(rt: HostRuntime) {
-    // a text, the number of its first faulty line, and the fault there
-    let rows: [(&[u8], u32, ScriptKind); 36] = [
-        (b"SET 2003 000001", 1, ScriptKind::NoPort),
-        (b"CYCLE 5001", 1, ScriptKind::TooManySteps),
-        (b"STEP", 1, ScriptKind::BadLine),
+    let rows: [(&[u8], u32, ScriptKind); 4] = [
         (b"CYCLE 5000\nSTEP 1", 2, ScriptKind::TooManySteps),
         (
             b"STEP 100000000\n\n#\nSTEP 1\nSTEP",
             4,
             ScriptKind::TooManySteps,
         ),
-        (b"CYCLE 999999999", 1, ScriptKind::TooManySteps),
         (b"STEP 1\nSET 2003 000001\nSTEP", 2, ScriptKind::NoPort),
         (b"STEP\nSET 2003 000001", 1, ScriptKind::BadLine),
+    ];
+    expect_faults(&rt, rt.alloc(), &rows);
+}
+
+#[test]
+fn steps_are_few_and_registers_are_the_machines(rt: HostRuntime) {
+    let rows: [(&[u8], u32, ScriptKind); 5] = [
+        (b"SET 2003 000001", 1, ScriptKind::NoPort),
+        (b"CYCLE 5001", 1, ScriptKind::TooManySteps),
+        (b"CYCLE 999999999", 1, ScriptKind::TooManySteps),
+        (b"PORT 2003 000000", 1, ScriptKind::NoPort),
+        (b"SHOW OUT 2001", 1, ScriptKind::NoPort),
+    ];
+    expect_faults(&rt, rt.alloc(), &rows);
+}
+
+#[test]
+fn a_start_stands_before_what_it_starts(rt: HostRuntime) {
+    let rows: [(&[u8], u32, ScriptKind); 5] = [
         (b"START 4000\nSTART 4000", 2, ScriptKind::BadLine),
         (b"STEP 1\nSTART 4000", 2, ScriptKind::BadLine),
         (b"PULSE\nCELL 0000 000000", 2, ScriptKind::BadLine),
         (b"KEY CLR\nPORT 2003 000000", 2, ScriptKind::BadLine),
         (b"SHOW REG\nPORT 2001 000000", 2, ScriptKind::BadLine),
-        (b"PORT 2003 000000", 1, ScriptKind::NoPort),
-        (b"SHOW OUT 2001", 1, ScriptKind::NoPort),
-        (b"CELL 4000 000000", 1, ScriptKind::BadLine),
-        (b"CELL 0000", 1, ScriptKind::BadLine),
-        (b"CELL 0000 00000", 1, ScriptKind::BadLine),
-        (b"CELL 0000 000000 1", 1, ScriptKind::BadLine),
-        (b"START 400", 1, ScriptKind::BadLine),
-        (b"START 4000 1", 1, ScriptKind::BadLine),
-        (b"START", 1, ScriptKind::BadLine),
-        (b"KEY", 1, ScriptKind::BadLine),
-        (b"KEY 10", 1, ScriptKind::BadLine),
-        (b"KEY CLR hold", 1, ScriptKind::BadLine),
-        (b"KEY READOUT", 1, ScriptKind::BadLine),
-        (b"KEY /", 1, ScriptKind::BadLine),
-        (b"FEED 1", 1, ScriptKind::BadLine),
-        (b"CYCLE", 1, ScriptKind::BadLine),
-        (b"CYCLE 0000000001", 1, ScriptKind::BadLine),
-        (b"SHOW", 1, ScriptKind::BadLine),
-        (b"SHOW DEDA 1", 1, ScriptKind::BadLine),
-        (b"SHOW REG DEDA", 1, ScriptKind::BadLine),
-        (b"SHOW deda", 1, ScriptKind::BadLine),
-        (b" # STEP 1", 1, ScriptKind::BadLine),
-        (b"step 1", 1, ScriptKind::BadLine),
     ];
-    for (row, (text, line, kind)) in rows.into_iter().enumerate() {
-        expect_fault(&rt, rt.alloc(), row, text, line, kind);
-    }
-}
-
-/// Compares the first fault of a script with the one that is wanted.
-fn expect_fault(
-    rt: &impl Abort,
-    alloc: Global,
-    row: usize,
-    text: &[u8],
-    line: u32,
-    kind: ScriptKind,
-) {
-    assert!(rt; text.len() <= 4_194_304, "row {row}");
-    let answer = read(alloc, text, &Machine::standard()).map(|script| script.len());
-    assert!(rt; answer == Err(ScriptError::At { line, kind }), "row {row}");
+    expect_faults(&rt, rt.alloc(), &rows);
 }
 
 #[test]
-fn long_lines_are_malformed(rt: HostRuntime) -> Result<(), Fail> {
-    expect_commands(&rt, rt.alloc(), 0, [b' '; 512].as_slice(), &[])?;
-    expect_fault(
-        &rt,
-        rt.alloc(),
-        1,
-        [b' '; 513].as_slice(),
-        1,
-        ScriptKind::BadLine,
-    );
-    expect_fault(
-        &rt,
-        rt.alloc(),
-        2,
-        [b'#'; 513].as_slice(),
-        1,
-        ScriptKind::BadLine,
-    );
-    Ok(())
+fn lines_of_no_form_are_malformed(rt: HostRuntime) {
+    let lines: [&[u8]; 22] = [
+        b"STEP",
+        b"CELL 4000 000000",
+        b"CELL 0000",
+        b"CELL 0000 00000",
+        b"CELL 0000 000000 1",
+        b"START 400",
+        b"START 4000 1",
+        b"START",
+        b"KEY",
+        b"KEY 10",
+        b"KEY CLR hold",
+        b"KEY READOUT",
+        b"KEY /",
+        b"FEED 1",
+        b"CYCLE",
+        b"CYCLE 0000000001",
+        b"SHOW",
+        b"SHOW DEDA 1",
+        b"SHOW REG DEDA",
+        b"SHOW deda",
+        b" # STEP 1",
+        b"step 1",
+    ];
+    expect_malformed(&rt, rt.alloc(), &lines);
+}
+
+#[test]
+fn long_lines_are_malformed(rt: HostRuntime) {
+    expect_malformed(&rt, rt.alloc(), &[&[b' '; 513], &[b'#'; 513]]);
 }
 
 #[test]
