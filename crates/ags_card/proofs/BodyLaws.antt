@@ -1,17 +1,18 @@
 -- What a card asks for: what is read is what is written, both ways.
 use Rattle.std.proofs.Common.{◌≡◌, ℕ, ◌<◌, ◌⊎◌, Bool, true, false, List, [], ◌∷◌, length, refl, inl, inr}
-use Rattle.std.specs.Prelude.{Ok}
+use Rattle.std.specs.Prelude.{Result, Ok}
 use Rattle.std.proofs.lemmas.Bool.{cases_Bool}
 use Rattle.ags_isa.specs.declared.orders.Order.{Order}
 use Rattle.ags_card.specs.declared.cards.Body.{Body}
 use Rattle.ags_card.specs.declared.cards.Body.TheVariants as body
+use Rattle.ags_card.specs.declared.cards.CardFault.{CardFault}
 use Rattle.ags_card.specs.declared.operations.Operation.{Operation}
 use Rattle.ags_card.specs.declared.operations.Operation.TheVariants as op
 use Rattle.ags_card.specs.declared.terms.Term.{Term}
 use Rattle.ags_card.specs.Operation.{is_bare}
 use Rattle.ags_card.specs.Term.{zero_terms}
 use Rattle.ags_card.specs.Spelling.{IsWritten, IsOrder, IsOrderOperand}
-use Rattle.ags_card.specs.Reading.{is_indexed, order_terms, plain_terms, decimal_operand, octal_operand, body_reading}
+use Rattle.ags_card.specs.Reading.{is_indexed, order_terms, plain_terms, decimal_operand, octal_operand, body_reading, mapped}
 use Rattle.ags_card.proofs.ResultLemmas.{mapped_ok}
 use Rattle.ags_card.proofs.OperandLaws.{order_spelled, order_read, plain_spelled, plain_read, decimal_spelled, decimal_read, octal_spelled, octal_read}
 
@@ -25,6 +26,14 @@ pub record BodyIsWritten (asked : Body) (operation : Operation) (operand : List 
   pub written : IsWritten asked operation operands
   pub stands : Stands operands operand
 
+-- an operand that is one alone writes what is made of what it is read as
+one_written : {T : Type 0} {P : T → Type 0} (make : T → Body) (operation : Operation) (operand : List ℕ) (read : Result T CardFault) (asked : Body) → mapped make read ≡ Ok asked
+    → ((x : T) → read ≡ Ok x → (0 < length operand) × P x) → ((x : T) → P x → IsWritten (make x) operation (operand ∷ [])) → BodyIsWritten asked operation operand
+one_written make operation operand read asked is spelled writes =
+    let found = mapped_ok make read asked is in
+    let spells = spelled found.x found.result_is in
+    rw (found.made) (record { operands = operand ∷ []; written = writes found.x spells.1; stands = inr (refl, spells.0) })
+
 order_written : (order : Order) (operand : List ℕ) (asked : Body) → body_reading (op.OfOrder order) operand ≡ Ok asked → BodyIsWritten asked (op.OfOrder order) operand
 order_written order operand asked is =
     elim (cases_Bool (is_bare order)) [
@@ -33,9 +42,8 @@ order_written order operand asked is =
           let same : asked ≡ body.Order order zero_terms false = (cc) in
           rw same (record { operands = []; written = (refl, bare_order (is_bare order) bare); stands = inl refl })
       | inr other ↦
-          let found = mapped_ok (λ terms. body.Order order terms (is_indexed operand)) (order_terms operand) asked (rw other at is) in
-          let spelled = order_spelled operand found.x found.result_is in
-          rw (found.made) (record { operands = operand ∷ []; written = (refl, given_order (is_bare order) found.x other spelled.1); stands = inr (refl, spelled.0) })
+          one_written (λ terms. body.Order order terms (is_indexed operand)) (op.OfOrder order) operand (order_terms operand) asked (rw other at is) (order_spelled operand)
+          (λ terms spells. (refl, given_order (is_bare order) terms other spells))
     ]
   where
     bare_order : (bare : Bool) → bare ≡ true → IsOrder bare zero_terms false []
@@ -46,26 +54,11 @@ order_written order operand asked is =
 
 pub body_spelled : (operation : Operation) (operand : List ℕ) (asked : Body) → body_reading operation operand ≡ Ok asked → BodyIsWritten asked operation operand
 body_spelled (op.OfOrder order) operand asked is = order_written order operand asked is
-body_spelled op.Org operand asked is =
-    let found = mapped_ok body.Org (plain_terms operand) asked is in
-    let spelled = plain_spelled operand found.x found.result_is in
-    rw (found.made) (record { operands = operand ∷ []; written = (refl, (operand, refl, spelled.1)); stands = inr (refl, spelled.0) })
-body_spelled op.Equ operand asked is =
-    let found = mapped_ok body.Equ (plain_terms operand) asked is in
-    let spelled = plain_spelled operand found.x found.result_is in
-    rw (found.made) (record { operands = operand ∷ []; written = (refl, (operand, refl, spelled.1)); stands = inr (refl, spelled.0) })
-body_spelled op.Bss operand asked is =
-    let found = mapped_ok body.Bss (plain_terms operand) asked is in
-    let spelled = plain_spelled operand found.x found.result_is in
-    rw (found.made) (record { operands = operand ∷ []; written = (refl, (operand, refl, spelled.1)); stands = inr (refl, spelled.0) })
-body_spelled op.Dec operand asked is =
-    let found = mapped_ok body.Dec (decimal_operand operand) asked is in
-    let spelled = decimal_spelled operand found.x found.result_is in
-    rw (found.made) (record { operands = operand ∷ []; written = (refl, (operand, refl, spelled.1)); stands = inr (refl, spelled.0) })
-body_spelled op.Oct operand asked is =
-    let found = mapped_ok body.Oct (octal_operand operand) asked is in
-    let spelled = octal_spelled operand found.x found.result_is in
-    rw (found.made) (record { operands = operand ∷ []; written = (refl, (operand, refl, spelled.1)); stands = inr (refl, spelled.0) })
+body_spelled op.Org operand asked is = one_written body.Org op.Org operand (plain_terms operand) asked is (plain_spelled operand) (λ terms spells. (refl, (operand, refl, spells)))
+body_spelled op.Equ operand asked is = one_written body.Equ op.Equ operand (plain_terms operand) asked is (plain_spelled operand) (λ terms spells. (refl, (operand, refl, spells)))
+body_spelled op.Bss operand asked is = one_written body.Bss op.Bss operand (plain_terms operand) asked is (plain_spelled operand) (λ terms spells. (refl, (operand, refl, spells)))
+body_spelled op.Dec operand asked is = one_written body.Dec op.Dec operand (decimal_operand operand) asked is (decimal_spelled operand) (λ number spells. (refl, (operand, refl, spells)))
+body_spelled op.Oct operand asked is = one_written body.Oct op.Oct operand (octal_operand operand) asked is (octal_spelled operand) (λ word spells. (refl, (operand, refl, spells)))
 body_spelled op.End operand asked is =
     let same : asked ≡ body.End = (cc) in
     rw same (record { operands = []; written = (refl, refl); stands = inl refl })

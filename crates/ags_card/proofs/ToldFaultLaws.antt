@@ -16,16 +16,16 @@ use Rattle.ags_card.specs.declared.cards.CardFault.{CardFault}
 use Rattle.ags_card.specs.declared.cards.CardFault.TheVariants.{BadByte, LongCard, BadSymbol, UnknownOperation, MissingOperand, ExtraOperand, BadExpression, BadDecimal, BadOctal}
 use Rattle.ags_card.specs.declared.operations.Operation.{Operation}
 use Rattle.ags_card.specs.declared.operations.Operation.TheVariants as op
-use Rattle.ags_card.specs.Operation.{operation_name, operation_named, is_bare, takes_operand, takes_one}
+use Rattle.ags_card.specs.Operation.{operation_name, operation_named, is_bare, takes_operand, takes_one, takes_expression}
 use Rattle.ags_card.specs.Symbol.{is_symbol}
-use Rattle.ags_card.specs.Spelling.{is_allowed, comment_card, HasCardFields, Holds, IsWritten, IsComment, IsBadSymbol, HasNoOperation, HasOperand, HasComma, IsNoExpression, IsNoDecimal, IsNoOctal, HasFault}
+use Rattle.ags_card.specs.Spelling.{is_allowed, comment_card, Holds, IsWritten, IsComment, IsFaulty, IsBadSymbol, HasNoOperation, HasOperand, HasComma, IsNoExpression, IsNoDecimal, IsNoOctal, HasFault}
 use Rattle.ags_card.specs.Reading.{checked, mapped, one_operand, expression_reading, is_indexed, without_index, order_terms, plain_terms, decimal_operand, octal_reading, octal_operand, body_reading, fits_symbol, symbol_of, operation_reading, fields_reading, symbol_field, operation_field, operand_field, is_comment, reading}
 use Rattle.ags_card.proofs.ByteLemmas.{some_fails}
 use Rattle.ags_card.proofs.SymbolLemmas.{IsSymbol-is_symbol}
 use Rattle.ags_card.proofs.OperationLemmas.{named_name, name_named, name_some}
 use Rattle.ags_card.proofs.ResultLemmas.{checked_err, mapped_err, ok_or_err}
 use Rattle.ags_card.proofs.OperandLaws.{is_no_comma}
-use Rattle.ags_card.proofs.FieldLemmas.{card_fields, first_field, second_field, cut_read}
+use Rattle.ags_card.proofs.FieldLemmas.{CardFields, AreRead, card_fields, first_field, second_field, cut_read}
 use Rattle.ags_card.proofs.BodyLaws.{body_read}
 use Rattle.ags_card.proofs.CardLaws.{first_some, is_comment_from, empty_of_length}
 
@@ -108,15 +108,19 @@ order_fault order operand told is =
           ]
     ]
 
+-- the fault of an operand that is an expression alone
+plain_fault : (operation : Operation) (operand : List ℕ) (told : CardFault) → takes_operand operation ≡ true → takes_one operation ≡ true → takes_expression operation ≡ true
+    → body_reading operation operand ≡ Err told → plain_terms operand ≡ Err told → BodyFault operation operand told
+unfolding plain_terms
+plain_fault operation operand told takes one expression is failed =
+    one_body operation operand (expression_reading operand) BadExpression told takes one failed (λ some last. (some, (expression, no_body operation operand told is)))
+
 body_fault : (operation : Operation) (operand : List ℕ) (told : CardFault) → body_reading operation operand ≡ Err told → BodyFault operation operand told
-unfolding plain_terms decimal_operand octal_operand
+unfolding decimal_operand octal_operand
 body_fault (op.OfOrder order) operand told is = order_fault order operand told is
-body_fault op.Org operand told is =
-    one_body op.Org operand (expression_reading operand) BadExpression told refl refl (mapped_err body.Org (plain_terms operand) told is) (λ some last. (some, (refl, no_body op.Org operand told is)))
-body_fault op.Equ operand told is =
-    one_body op.Equ operand (expression_reading operand) BadExpression told refl refl (mapped_err body.Equ (plain_terms operand) told is) (λ some last. (some, (refl, no_body op.Equ operand told is)))
-body_fault op.Bss operand told is =
-    one_body op.Bss operand (expression_reading operand) BadExpression told refl refl (mapped_err body.Bss (plain_terms operand) told is) (λ some last. (some, (refl, no_body op.Bss operand told is)))
+body_fault op.Org operand told is = plain_fault op.Org operand told refl refl refl is (mapped_err body.Org (plain_terms operand) told is)
+body_fault op.Equ operand told is = plain_fault op.Equ operand told refl refl refl is (mapped_err body.Equ (plain_terms operand) told is)
+body_fault op.Bss operand told is = plain_fault op.Bss operand told refl refl refl is (mapped_err body.Bss (plain_terms operand) told is)
 body_fault op.Dec operand told is =
     one_body op.Dec operand (decimal.reading operand) BadDecimal told refl refl (mapped_err body.Dec (decimal_operand operand) told is)
     (λ some last. (some, (refl, λ number spells. no_body op.Dec operand told is (body.Dec number) (refl, (operand, refl, spells)))))
@@ -155,52 +159,42 @@ alone_of operation fields are first second =
 -- a line that is no comment, with its fields
 record IsRead (line : List ℕ) : Type 0 where
   no_comment : IsComment line → ⊥
-  fields : List (List ℕ)
-  has : HasCardFields line (symbol_field line) fields
-  are : AreFields fields
-  operation_is : operation_field line ≡ first_field fields
-  operand_is : operand_field line ≡ second_field fields
+  of : CardFields line
+  read : AreRead line of.fields
 
 read_line : (line : List ℕ) → is_comment line ≡ false → IsRead line
 read_line line other =
     let of = card_fields line in
-    let cut = cut_read line of.fields of.cut in
-    record {
-      no_comment = λ comment. true≢false (sym (is_comment_from line comment) ∙ other);
-      fields = of.fields;
-      has = of.has;
-      are = of.are;
-      operation_is = cut.operation;
-      operand_is = cut.operand;
-    }
+    record { no_comment = λ comment. true≢false (sym (is_comment_from line comment) ∙ other); of = of; read = cut_read line of.fields of.cut }
+
+-- what holds of its fields is a fault of the line
+faulty_by : {Is : List ℕ → List (List ℕ) → Type 0} (line : List ℕ) → (its : IsRead line) → Is (symbol_field line) its.of.fields → IsFaulty Is line
+faulty_by line its is = record { no_comment = its.no_comment; symbol = symbol_field line; fields = its.of.fields; has = its.of.has; is = is }
+
+-- its first field is its operation's name
+name_first : (line : List ℕ) (operation : Operation) → (its : IsRead line) → operation_named (operation_field line) ≡ Some operation → first_field its.of.fields ≡ operation_name operation
+name_first line operation its found = sym its.read.operation ∙ sym (named_name (operation_field line) operation found)
+
+-- what holds of its operation and its operand is a fault of the line
+faulty_operand : (Is : Operation → List ℕ → Type 0) (line : List ℕ) (operation : Operation) → IsRead line → operation_named (operation_field line) ≡ Some operation
+    → (0 < length (operand_field line)) × Is operation (operand_field line) → IsFaulty (HasOperand Is) line
+faulty_operand Is line operation its found is =
+    faulty_by line its
+    (operand_of operation its.of.fields (operand_field line) Is (symbol_field line) (name_first line operation its found) (sym its.read.operand) is.0 is.1)
 
 -- the fault of an operation is the line's
 faulty : (line : List ℕ) (told : CardFault) (operation : Operation) → IsRead line → operation_named (operation_field line) ≡ Some operation → BodyFault operation (operand_field line) told
     → HasFault line told
-faulty line BadByte operation read found is = absurd is
-faulty line LongCard operation read found is = absurd is
-faulty line BadSymbol operation read found is = absurd is
-faulty line UnknownOperation operation read found is = absurd is
-faulty line MissingOperand operation read found is =
-    let name = sym read.operation_is ∙ sym (named_name (operation_field line) operation found) in
-    let alone = alone_of operation read.fields read.are name (sym read.operand_is ∙ is.1) in
-    record { no_comment = read.no_comment; symbol = symbol_field line; fields = read.fields; has = read.has; is = (operation, is.0, alone) }
-faulty line ExtraOperand operation read found is =
-    let name = sym read.operation_is ∙ sym (named_name (operation_field line) operation found) in
-    let operand = operand_of operation read.fields (operand_field line) HasComma (symbol_field line) name (sym read.operand_is) is.0 is.1 in
-    record { no_comment = read.no_comment; symbol = symbol_field line; fields = read.fields; has = read.has; is = operand }
-faulty line BadExpression operation read found is =
-    let name = sym read.operation_is ∙ sym (named_name (operation_field line) operation found) in
-    let operand = operand_of operation read.fields (operand_field line) IsNoExpression (symbol_field line) name (sym read.operand_is) is.0 is.1 in
-    record { no_comment = read.no_comment; symbol = symbol_field line; fields = read.fields; has = read.has; is = operand }
-faulty line BadDecimal operation read found is =
-    let name = sym read.operation_is ∙ sym (named_name (operation_field line) operation found) in
-    let operand = operand_of operation read.fields (operand_field line) IsNoDecimal (symbol_field line) name (sym read.operand_is) is.0 is.1 in
-    record { no_comment = read.no_comment; symbol = symbol_field line; fields = read.fields; has = read.has; is = operand }
-faulty line BadOctal operation read found is =
-    let name = sym read.operation_is ∙ sym (named_name (operation_field line) operation found) in
-    let operand = operand_of operation read.fields (operand_field line) IsNoOctal (symbol_field line) name (sym read.operand_is) is.0 is.1 in
-    record { no_comment = read.no_comment; symbol = symbol_field line; fields = read.fields; has = read.has; is = operand }
+faulty line BadByte operation its found is = absurd is
+faulty line LongCard operation its found is = absurd is
+faulty line BadSymbol operation its found is = absurd is
+faulty line UnknownOperation operation its found is = absurd is
+faulty line MissingOperand operation its found is =
+    faulty_by line its (operation, is.0, alone_of operation its.of.fields its.of.are (name_first line operation its found) (sym its.read.operand ∙ is.1))
+faulty line ExtraOperand operation its found is = faulty_operand HasComma line operation its found is
+faulty line BadExpression operation its found is = faulty_operand IsNoExpression line operation its found is
+faulty line BadDecimal operation its found is = faulty_operand IsNoDecimal line operation its found is
+faulty line BadOctal operation its found is = faulty_operand IsNoOctal line operation its found is
 
 -- no operation is found of fields that do not begin with a name
 no_operation : (line symbol : List ℕ) (fields : List (List ℕ)) → operation_field line ≡ first_field fields → operation_named (operation_field line) ≡ None → HasNoOperation symbol fields
@@ -238,29 +232,17 @@ operation_cases (Some operation) = inr (operation, refl)
 -- the fault of a line that is no comment
 fields_fault : (line : List ℕ) (told : CardFault) → IsRead line → fields_reading (symbol_field line) (operation_field line) (operand_field line) ≡ Err told → HasFault line told
 unfolding fields_reading
-fields_fault line told read is =
+fields_fault line told its is =
     elim (checked_err (fits_symbol (symbol_field line) (operation_field line)) BadSymbol (mapped (λ asked. record { symbol = symbol_of (symbol_field line); body = asked }) (operation_reading (operation_named (operation_field line)) (operand_field line))) told is) [
-      | inl bad ↦ rw (bad.1) (record {
-        no_comment = read.no_comment;
-        symbol = symbol_field line;
-        fields = read.fields;
-        has = read.has;
-        is = bad_symbol (symbol_field line) (operation_field line) read.fields read.operation_is bad.0;
-      })
+      | inl bad ↦ rw (bad.1) (faulty_by line its (bad_symbol (symbol_field line) (operation_field line) its.of.fields its.read.operation bad.0))
       | inr fits ↦
           let failed = mapped_err (λ asked. record { symbol = symbol_of (symbol_field line); body = asked }) (operation_reading (operation_named (operation_field line)) (operand_field line)) told fits.1 in
           elim (operation_cases (operation_named (operation_field line))) [
             | inl none ↦
                 let value : ◌≡◌ {A = Result Body CardFault} (Err UnknownOperation) (Err told) = rw none at failed in
                 let same : told ≡ UnknownOperation = (cc) in
-                rw same (record {
-                  no_comment = read.no_comment;
-                  symbol = symbol_field line;
-                  fields = read.fields;
-                  has = read.has;
-                  is = no_operation line (symbol_field line) read.fields read.operation_is none;
-                })
-            | inr found ↦ faulty line told found.0 read found.1 (body_fault found.0 (operand_field line) told (rw (found.1) at failed))
+                rw same (faulty_by line its (no_operation line (symbol_field line) its.of.fields its.read.operation none))
+            | inr found ↦ faulty line told found.0 its found.1 (body_fault found.0 (operand_field line) told (rw (found.1) at failed))
           ]
     ]
 

@@ -7,6 +7,7 @@ use crate::{
 };
 use ags_isa::Order;
 use ags_word::Word;
+use std::process::Abort;
 
 #[test]
 fn symbols_are_names(rt: HostRuntime) {
@@ -135,70 +136,102 @@ fn fault_of(line: &[u8]) -> Option<CardFault> {
     }
 }
 
+/// Compares the least fault of each line, or that it has none, with what is wanted of all.
+fn expect_all(rt: &impl Abort, lines: &[&[u8]], wanted: Option<CardFault>) {
+    for (row, line) in lines.iter().enumerate() {
+        assert!(rt; fault_of(line) == wanted, "row {row}");
+    }
+}
+
 #[test]
-fn lines_have_their_least_faults(rt: HostRuntime) {
+fn lines_that_keep_to_their_form_have_no_fault(rt: HostRuntime) {
+    let blanks = [b' '; 120];
+    let lines: [&[u8]; 10] = [
+        b"",
+        b" \t",
+        b"*",
+        b"* ANY,\t/~",
+        b"END END",
+        b" END 1,2 8",
+        b"ORG ORG ORG",
+        b"A EQU -1+A",
+        b" BSS 0",
+        &blanks,
+    ];
+    expect_all(&rt, &lines, None);
+}
+
+#[test]
+fn bad_bytes_are_told_before_long_lines(rt: HostRuntime) {
     let blanks = [b' '; 121];
     let mut long = [b'*'; 121];
     long[120] = 0;
-    let rows: [(&[u8], Option<CardFault>); 54] = [
-        (b"", None),
-        (b" \t", None),
-        (b"*", None),
-        (b"* ANY,\t/~", None),
-        (b"END END", None),
-        (b" END 1,2 8", None),
-        (b"ORG ORG ORG", None),
-        (b"A EQU -1+A", None),
-        (b" BSS 0", None),
-        (&blanks[..120], None),
-        (b" CLA 1\0", Some(CardFault::BadByte)),
-        (b"*\x7f", Some(CardFault::BadByte)),
-        (b"\xff", Some(CardFault::BadByte)),
-        (b" CLA 1\r", Some(CardFault::BadByte)),
-        (&long, Some(CardFault::BadByte)),
-        (&blanks, Some(CardFault::LongCard)),
-        (b"ABCDEFG CLA 1", Some(CardFault::BadSymbol)),
-        (b"123 CLA 1", Some(CardFault::BadSymbol)),
-        (b"a XYZ", Some(CardFault::BadSymbol)),
-        (b"A. CLA 1", Some(CardFault::BadSymbol)),
-        (b" EQU 1", Some(CardFault::BadSymbol)),
-        (b" EQU", Some(CardFault::BadSymbol)),
-        (b" EQU 1,2", Some(CardFault::BadSymbol)),
-        (b"CLA", Some(CardFault::UnknownOperation)),
-        (b"CLA 1", Some(CardFault::UnknownOperation)),
-        (b" CLAX 1", Some(CardFault::UnknownOperation)),
-        (b" cla 1", Some(CardFault::UnknownOperation)),
-        (b" * REMARK", Some(CardFault::UnknownOperation)),
-        (b" SYN 1", Some(CardFault::UnknownOperation)),
-        (b" CLA", Some(CardFault::MissingOperand)),
-        (b"A EQU \t", Some(CardFault::MissingOperand)),
-        (b" OCT", Some(CardFault::MissingOperand)),
-        (b" ORG 1,1", Some(CardFault::ExtraOperand)),
-        (b" BSS ,", Some(CardFault::ExtraOperand)),
-        (b"A EQU 8A,", Some(CardFault::ExtraOperand)),
-        (b" DEC 1,2", Some(CardFault::ExtraOperand)),
-        (b" OCT ,9", Some(CardFault::ExtraOperand)),
-        (b" CLA 1,", Some(CardFault::BadExpression)),
-        (b" CLA 1,2", Some(CardFault::BadExpression)),
-        (b" CLA 1,1,1", Some(CardFault::BadExpression)),
-        (b" CLA ,1", Some(CardFault::BadExpression)),
-        (b" CLA 1+", Some(CardFault::BadExpression)),
-        (b" CLA --1", Some(CardFault::BadExpression)),
-        (b" CLA /8", Some(CardFault::BadExpression)),
-        (b" CLA /1234567", Some(CardFault::BadExpression)),
-        (b" CLA 1234567", Some(CardFault::BadExpression)),
-        (b" ORG **", Some(CardFault::BadExpression)),
-        (b" BSS A*", Some(CardFault::BadExpression)),
-        (b" DEC 1B61", Some(CardFault::BadDecimal)),
-        (b" DEC 12345678901", Some(CardFault::BadDecimal)),
-        (b" DEC /1", Some(CardFault::BadDecimal)),
-        (b" OCT 8", Some(CardFault::BadOctal)),
-        (b" OCT 1234567", Some(CardFault::BadOctal)),
-        (b" OCT -", Some(CardFault::BadOctal)),
+    let bytes: [&[u8]; 5] = [b" CLA 1\0", b"*\x7f", b"\xff", b" CLA 1\r", &long];
+    expect_all(&rt, &bytes, Some(CardFault::BadByte));
+    expect_all(&rt, &[&blanks], Some(CardFault::LongCard));
+}
+
+#[test]
+fn bad_symbols_are_told_before_unknown_operations(rt: HostRuntime) {
+    let symbols: [&[u8]; 7] = [
+        b"ABCDEFG CLA 1",
+        b"123 CLA 1",
+        b"a XYZ",
+        b"A. CLA 1",
+        b" EQU 1",
+        b" EQU",
+        b" EQU 1,2",
     ];
-    for (row, (line, fault)) in rows.into_iter().enumerate() {
-        assert!(rt; fault_of(line) == fault, "row {row}");
-    }
+    expect_all(&rt, &symbols, Some(CardFault::BadSymbol));
+    let operations: [&[u8]; 6] = [
+        b"CLA",
+        b"CLA 1",
+        b" CLAX 1",
+        b" cla 1",
+        b" * REMARK",
+        b" SYN 1",
+    ];
+    expect_all(&rt, &operations, Some(CardFault::UnknownOperation));
+}
+
+#[test]
+fn missing_and_extra_operands_are_told(rt: HostRuntime) {
+    let missing: [&[u8]; 3] = [b" CLA", b"A EQU \t", b" OCT"];
+    expect_all(&rt, &missing, Some(CardFault::MissingOperand));
+    let extra: [&[u8]; 5] = [
+        b" ORG 1,1",
+        b" BSS ,",
+        b"A EQU 8A,",
+        b" DEC 1,2",
+        b" OCT ,9",
+    ];
+    expect_all(&rt, &extra, Some(CardFault::ExtraOperand));
+}
+
+#[test]
+fn bad_expressions_are_told(rt: HostRuntime) {
+    let lines: [&[u8]; 11] = [
+        b" CLA 1,",
+        b" CLA 1,2",
+        b" CLA 1,1,1",
+        b" CLA ,1",
+        b" CLA 1+",
+        b" CLA --1",
+        b" CLA /8",
+        b" CLA /1234567",
+        b" CLA 1234567",
+        b" ORG **",
+        b" BSS A*",
+    ];
+    expect_all(&rt, &lines, Some(CardFault::BadExpression));
+}
+
+#[test]
+fn bad_constants_are_told(rt: HostRuntime) {
+    let decimals: [&[u8]; 3] = [b" DEC 1B61", b" DEC 12345678901", b" DEC /1"];
+    expect_all(&rt, &decimals, Some(CardFault::BadDecimal));
+    let octals: [&[u8]; 3] = [b" OCT 8", b" OCT 1234567", b" OCT -"];
+    expect_all(&rt, &octals, Some(CardFault::BadOctal));
 }
 
 #[test]
