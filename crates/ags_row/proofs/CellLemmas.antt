@@ -1,4 +1,5 @@
--- The cells of a row are erasable, each stands above the one before it, and one is found by halving.
+-- The cells of a row are erasable, each stands above the one before it, and one is found by halving. The crates above cite:
+--     cells_below    each of cells that ascend is erasable
 use Rattle.std.proofs.Common.{◌≡◌, ◌≢◌, ℕ, zero, suc, ◌+◌, ◌<◌, ◌≤◌, Bool, true, false, refl, sym, ap, ◌∙◌, ⊎_elim, List, [], ◌∷◌, length, get_or, arith}
 use Rattle.std.specs.Prelude.{◌&&◌, ◌==◌, nat_le, nat_lt, Option, Some, None, if◌then◌else◌}
 use Rattle.std.proofs.lemmas.Bool.{eq-eqb, cases_lt}
@@ -13,27 +14,28 @@ and_left a b h = grind (arith, nat_tests)
 and_right : (a b : Bool) → (a && b) ≡ true → b ≡ true
 and_right a b h = grind (arith, nat_tests)
 
+-- the parts of what it is to ascend
+module _ {D : Type 0} (from : ℕ) (cell : At D) (cells : List (At D)) (ascends : cells_ascend from (cell ∷ cells) ≡ true) where
+  abbrev later : Bool
+  later = cells_ascend (cell.address + 1) cells
+
+  first_from : from ≤ cell.address
+  first_from = let first = and_left (nat_le from cell.address) (nat_lt cell.address 2048 && later) ascends in grind (arith, nat_tests)
+
+  below_and_later : (nat_lt cell.address 2048 && later) ≡ true
+  below_and_later = and_right (nat_le from cell.address) (nat_lt cell.address 2048 && later) ascends
+
+  first_below : cell.address < 2048
+  first_below = let below = and_left (nat_lt cell.address 2048) later below_and_later in grind (arith, nat_tests)
+
+  rest_ascends : later ≡ true
+  rest_ascends = and_right (nat_lt cell.address 2048) later below_and_later
+
 pub cells_below : {D : Type 0} (from : ℕ) (cells : List (At D)) → cells_ascend from cells ≡ true
     → (k : ℕ) (d : At D) → k < length cells → (get_or cells k d).address < 2048
 cells_below from [] ascends k d inside = absurd (omega arith)
-cells_below from (cell ∷ cells) ascends zero d inside =
-    let rest = and_right (nat_le from cell.address) (nat_lt cell.address 2048 && cells_ascend (cell.address + 1) cells) ascends in
-    let below = and_left (nat_lt cell.address 2048) (cells_ascend (cell.address + 1) cells) rest in
-    grind (arith, nat_tests)
-cells_below from (cell ∷ cells) ascends (suc k) d inside =
-    let rest = and_right (nat_le from cell.address) (nat_lt cell.address 2048 && cells_ascend (cell.address + 1) cells) ascends in
-    cells_below (cell.address + 1) cells (and_right (nat_lt cell.address 2048) (cells_ascend (cell.address + 1) cells) rest) k d (omega arith)
-
--- the parts of what it is to ascend
-module _ {D : Type 0} (from : ℕ) (cell : At D) (cells : List (At D)) (ascends : cells_ascend from (cell ∷ cells) ≡ true) where
-  first_from : from ≤ cell.address
-  first_from =
-      let first = and_left (nat_le from cell.address) (nat_lt cell.address 2048 && cells_ascend (cell.address + 1) cells) ascends in
-      grind (arith, nat_tests)
-
-  rest_ascends : cells_ascend (cell.address + 1) cells ≡ true
-  rest_ascends = and_right (nat_lt cell.address 2048) (cells_ascend (cell.address + 1) cells)
-      (and_right (nat_le from cell.address) (nat_lt cell.address 2048 && cells_ascend (cell.address + 1) cells) ascends)
+cells_below from (cell ∷ cells) ascends zero d inside = first_below from cell cells ascends
+cells_below from (cell ∷ cells) ascends (suc k) d inside = cells_below (cell.address + 1) cells (rest_ascends from cell cells ascends) k d (omega arith)
 
 cells_from : {D : Type 0} (from : ℕ) (cells : List (At D)) → cells_ascend from cells ≡ true
     → (k : ℕ) (d : At D) → k < length cells → from ≤ (get_or cells k d).address
@@ -91,32 +93,22 @@ module _ {D : Type 0} (cells : List (At D)) (ascends : cells_ascend 0 cells ≡ 
   read_found here = sym (found_at 0 cells address ascends middle cell inside (sym (ap (λ (at : At D). at.address) is) ∙ here)
       ∙ ap (λ (at : At D). Some at.value) (sym is))
 
+  at_middle : (k : ℕ) (d : At D) → k ≡ middle → k < length cells → cell.address ≡ (get_or cells k d).address
+  at_middle k d here within = ap (λ (at : At D). at.address)
+      (is ∙ ap (λ (n : ℕ). get_or cells n cell) (sym here) ∙ get_or_default cells k cell d within)
+
   -- the cells up to the middle stand no higher than it
   up_to_middle : (k : ℕ) (d : At D) → k < middle + 1 → (get_or cells k d).address ≤ cell.address
   up_to_middle k d near = ⊎_elim
-      (λ less.
-      let above = cells_above 0 cells ascends k middle d cell less inside in
-      let same : cell.address ≡ (get_or cells middle cell).address = ap (λ (at : At D). at.address) is in
-      omega arith)
-      (λ more.
-      let here : k ≡ middle = omega arith in
-      let same : cell.address ≡ (get_or cells k d).address = ap (λ (at : At D). at.address)
-      (is ∙ ap (λ (n : ℕ). get_or cells n cell) (sym here) ∙ get_or_default cells k cell d (omega arith)) in
-      omega arith)
+      (λ less. omega (arith, cells_above 0 cells ascends k middle d cell less inside, at_middle middle cell refl inside))
+      (λ more. omega (arith, at_middle k d (omega arith) (omega arith)))
       (cases_lt k middle)
 
   -- the cells from the middle on stand no lower than it
   from_middle : (k : ℕ) (d : At D) → middle ≤ k → k < length cells → cell.address ≤ (get_or cells k d).address
   from_middle k d far within = ⊎_elim
-      (λ less.
-      let above = cells_above 0 cells ascends middle k cell d less within in
-      let same : cell.address ≡ (get_or cells middle cell).address = ap (λ (at : At D). at.address) is in
-      omega arith)
-      (λ more.
-      let here : k ≡ middle = omega arith in
-      let same : cell.address ≡ (get_or cells k d).address = ap (λ (at : At D). at.address)
-      (is ∙ ap (λ (n : ℕ). get_or cells n cell) (sym here) ∙ get_or_default cells k cell d within) in
-      omega arith)
+      (λ less. omega (arith, cells_above 0 cells ascends middle k cell d less within, at_middle middle cell refl inside))
+      (λ more. omega (arith, at_middle k d (omega arith) within))
       (cases_lt middle k)
 
   pub all_below : cell.address < address → (k : ℕ) (d : At D) → k < middle + 1 → k < length cells → (get_or cells k d).address < address

@@ -1,4 +1,5 @@
--- What a change of one entry changes, and what the first limits say.
+-- What a change of one entry changes, and what the first limits say. The crates above cite:
+--     each_same    a list of one entry has it at each place
 use Rattle.std.proofs.Common.{◌≡◌, ℕ, ◌<◌, List, length, get_or, set, refl, sym, subst, ⊎_elim, true, false, Bool}
 use Rattle.std.specs.Prelude.{replicate}
 use Rattle.std.proofs.lemmas.Bool.{cases_lt}
