@@ -1,5 +1,5 @@
 -- Each order follows the posts of its case.
-use Rattle.std.proofs.Common.{◌≡◌, ℕ, ◌-◌, ◌%◌, ◌<◌, ◌≤◌, Bool, true, false, refl, sym, ap, subst, ◌∙◌, arith, List, inl, inr}
+use Rattle.std.proofs.Common.{◌≡◌, ℕ, ◌-◌, ◌%◌, ◌<◌, ◌≤◌, ◌^◌, Bool, true, false, refl, sym, ap, subst, ◌∙◌, arith, List, inl, inr}
 use Rattle.std.specs.Prelude.{Option, Some, None, Ok, ◌==◌, ◌&&◌, nat_eq, IsSome, if◌then◌else◌}
 use Rattle.std.proofs.lemmas.Bool.{ltb-true, eqb-true}
 use Rattle.std.proofs.lemmas.Bool.Decides.{nat_tests}
@@ -14,8 +14,9 @@ use Rattle.ags_domain.specs.Hull.{no_cell}
 use Rattle.ags_domain.specs.Candidates.{sum_candidates, difference_candidates, sign_candidates, left_shift_candidates, product_candidates, long_left_candidates, quotient_candidates}
 use Rattle.ags_domain.specs.declared.operands.Operands.{Operands}
 use Rattle.ags_image.specs.Image.{word_at}
+use Rattle.ags_ports.specs.declared.events.Phase.{Phase}
 use Rattle.ags_ports.specs.Port.{place_of, register_at}
-use Rattle.ags_ports.specs.State.{State, IsState, cell}
+use Rattle.ags_ports.specs.State.{State, IsState, cell, next_location}
 use Rattle.ags_ports.specs.Effect.{effect, leaves, moved_on, gone_to, then_clears, loads as loads_a}
 use Rattle.ags_row.specs.Limit.{input_limit}
 use Rattle.ags_row.specs.Cover.{cell_value}
@@ -29,7 +30,7 @@ use Rattle.ags_posts.specs.OneStep.{AgreesWith, AgreesWithOne}
 use Rattle.ags_posts.specs.declared.answers.PostPair.{PostPair}
 use Rattle.ags_posts.specs.declared.answers.Stop.TheVariants.{FixedWrite}
 use Rattle.ags_posts.proofs.AgreementLemmas.{told_held, IsInLine, line_agrees}
-use Rattle.ags_posts.proofs.SoundLemmas.{IsSound, never, goes_on, single_agrees, leaves_sound, next_is, clear_stays, set_stays, moves_in_line, cell_word, stored_sound, chosen, computed, met, computed_in_line, met_between}
+use Rattle.ags_posts.proofs.SoundLemmas.{IsSound, never, goes_on, single_agrees, leaves_sound, next_is, clear_stays, set_stays, cell_word, stored_sound, chosen, computed, met, computed_in_line, met_between}
 
 -- the one word of an operation without a cell
 zero_between : IsBetween no_cell 0
@@ -47,6 +48,10 @@ port_found meaning c (Some n) follows pair h = (n, refl, h)
 and_both : (a b : Bool) → a ≡ true → b ≡ true → (a && b) ≡ true
 and_both a b h k = rw (h, k) refl
 
+-- a word that is among what is told
+abbrev IsWordAmong : {D : Type 0} → Meaning D → Told D → ℕ → Type 0
+IsWordAmong meaning told w = (w < 2 ^ 18) × IsAmong meaning told w
+
 module _ {D : Type 0} (meaning : Meaning D) (lawful : IsMeaning D meaning) (c : Case D) (s : State) (is : IsState c.machine s)
     (in_case : IsInCase meaning c s) where
   -- ---- the word of a cell
@@ -63,10 +68,48 @@ module _ {D : Type 0} (meaning : Meaning D) (lawful : IsMeaning D meaning) (c : 
   cell_among : (address : ℕ) → address < 4096 → IsAmong meaning (cell_in_case c address) (cell s address)
   cell_among address below = cell_by address (is_erasable address) (address == c.row.location) below refl refl
 
+  cell_word_among : (address : ℕ) → address < 4096 → IsWordAmong meaning (cell_in_case c address) (cell s address)
+  cell_word_among address below = (cell_word meaning lawful c s is in_case address below, cell_among address below)
+
   cell_between : (address : ℕ) (m : D) → address < 4096 → IsTold meaning (cell_in_case c address) m → IsBetween (meaning.ends m) (cell s address)
   cell_between address m below told =
       let word = cell_word meaning lawful c s is in_case address below in
       lawful.between m (cell s address) word (told_held meaning (cell_in_case c address) m (cell s address) told word (cell_among address below))
+
+  -- ---- what stays
+
+  -- what leaves the indicator and the cells as they are is in a line where its location, A, Q and index are
+  left_in_line : {location a q index next x : ℕ} {inputs outputs : List ℕ} {phase : Phase} {a_told q_told : Told D}
+      → location ≡ next → IsWordAmong meaning a_told a → IsWordAmong meaning q_told q → index ≡ x
+      → IsInLine meaning s
+      (record s { location = location; a = a; q = q; index = index; inputs = inputs; outputs = outputs; phase = phase })
+      (record (moves_on c) { next = next; a = a_told; q = q_told; x = x })
+  left_in_line goes a_among q_among counts = record {
+    next = goes;
+    a_word = a_among.0;
+    a = a_among.1;
+    q_word = q_among.0;
+    q = q_among.1;
+    x = counts;
+    clear = clear_stays meaning lawful c s is in_case;
+    set = set_stays meaning lawful c s is in_case;
+    cells = refl;
+  }
+
+  next_here : next_location s ≡ next_of_row c.row
+  next_here = next_is meaning lawful c s is in_case
+
+  a_stays : IsWordAmong meaning (These c.row.a) s.a
+  a_stays = (is.a, in_case.in_row.a)
+
+  q_stays : IsWordAmong meaning (These c.row.q) s.q
+  q_stays = (is.q, in_case.in_row.q)
+
+  moves_in_line : IsInLine meaning s (moved_on s) (moves_on c)
+  moves_in_line = left_in_line next_here a_stays q_stays in_case.index
+
+  gone_in_line : (e : ℕ) → IsInLine meaning s (gone_to s e) (record (moves_on c) { next = e })
+  gone_in_line e = left_in_line refl a_stays q_stays in_case.index
 
   -- ---- operations
 
@@ -103,23 +146,15 @@ module _ {D : Type 0} (meaning : Meaning D) (lawful : IsMeaning D meaning) (c : 
 
   -- the post for those words of A that a test chooses is there where A's word is chosen
   part_agrees : (chooses : ℕ → Bool) (line : Line D) (part : Option D) (post : Option (Post D)) (after : State)
-      → IsPart meaning chooses c.row.a part → IsPostOfPart meaning c line part post → chooses s.a ≡ true → after.a ≡ s.a
-      → IsInLine meaning s after line → IsState c.machine after → AgreesWith meaning c.limits c.row post after
-  part_agrees chooses line None post after is_part is_post chosen same in_line is_state =
+      → IsPart meaning chooses c.row.a part → IsPostOfPart meaning c line part post → chooses s.a ≡ true
+      → ((told : Told D) → IsAmong meaning told s.a → IsInLine meaning s after (record line { a = told })) → IsState c.machine after
+      → AgreesWith meaning c.limits c.row post after
+  part_agrees chooses line None post after is_part is_post chosen in_line is_state =
       absurd (never (sym (is_part s.a is.a in_case.in_row.a) ∙ chosen))
-  part_agrees chooses line (Some part) None after is_part is_post chosen same in_line is_state = absurd is_post
-  part_agrees chooses line (Some part) (Some post) after is_part is_post chosen same in_line is_state =
-      line_agrees meaning c s is in_case (record line { a = These part }) post after is_post (record {
-        next = in_line.next;
-        a_word = in_line.a_word;
-        a = ap (λ (w : ℕ). meaning.held part w) same ∙ is_part.1 s.a is.a ∙ and_both (meaning.held c.row.a s.a) (chooses s.a) in_case.in_row.a chosen;
-        q_word = in_line.q_word;
-        q = in_line.q;
-        x = in_line.x;
-        clear = in_line.clear;
-        set = in_line.set;
-        cells = in_line.cells;
-      }) is_state
+  part_agrees chooses line (Some part) None after is_part is_post chosen in_line is_state = absurd is_post
+  part_agrees chooses line (Some part) (Some post) after is_part is_post chosen in_line is_state =
+      line_agrees meaning c s is in_case (record line { a = These part }) post after is_post (in_line (These part)
+      (is_part.1 s.a is.a ∙ and_both (meaning.held c.row.a s.a) (chooses s.a) in_case.in_row.a chosen)) is_state
 
   first_of_pair : (first second : Option (Post D)) (after : State) → AgreesWith meaning c.limits c.row first after
       → AgreesWithOne meaning c.limits c.row (pair_of meaning c first second) after
@@ -134,19 +169,6 @@ module _ {D : Type 0} (meaning : Meaning D) (lawful : IsMeaning D meaning) (c : 
   leaves_one : (pair : PostPair D) (after : State) → AgreesWithOne meaning c.limits c.row pair after → IsSound meaning c pair (leaves after)
   leaves_one pair after h = record { agrees = h; overflow = λ over. absurd (never over); stored = tt; took = tt; gave = tt }
 
-  gone_in_line : (e : ℕ) → IsInLine meaning s (gone_to s e) (record (moves_on c) { next = e })
-  gone_in_line e = record {
-    next = refl;
-    a_word = is.a;
-    a = in_case.in_row.a;
-    q_word = is.q;
-    q = in_case.in_row.q;
-    x = in_case.index;
-    clear = clear_stays meaning lawful c s is in_case;
-    set = set_stays meaning lawful c s is in_case;
-    cells = refl;
-  }
-
   splits : (negative : Bool) (e : ℕ) (pair : PostPair D) → is_negative s.a ≡ negative
       → IsSplit meaning c (record (moves_on c) { next = e }) (moves_on c) (Ok pair)
       → IsState c.machine (if negative then gone_to s e else moved_on s)
@@ -154,13 +176,15 @@ module _ {D : Type 0} (meaning : Meaning D) (lawful : IsMeaning D meaning) (c : 
   splits true e pair negative p is_state = leaves_one pair (gone_to s e)
       (subst (λ (q : PostPair D). AgreesWithOne meaning c.limits c.row q (gone_to s e)) (sym p.4)
       (first_of_pair p.0 p.1 (gone_to s e)
-      (part_agrees is_negative (record (moves_on c) { next = e }) p.2.0 p.0 (gone_to s e) p.2.1 p.2.2 negative refl (gone_in_line e) is_state)))
+      (part_agrees is_negative (record (moves_on c) { next = e }) p.2.0 p.0 (gone_to s e) p.2.1 p.2.2 negative
+      (λ told among. left_in_line refl (is.a, among) q_stays in_case.index) is_state)))
   splits false e pair other p is_state =
       let not_negative : is_not_negative s.a ≡ true = rw other refl in
       leaves_one pair (moved_on s)
       (subst (λ (q : PostPair D). AgreesWithOne meaning c.limits c.row q (moved_on s)) (sym p.4)
       (second_of_pair p.0 p.1 (moved_on s)
-      (part_agrees is_not_negative (moves_on c) p.3.0 p.1 (moved_on s) p.3.1 p.3.2 not_negative refl (moves_in_line meaning lawful c s is in_case) is_state)))
+      (part_agrees is_not_negative (moves_on c) p.3.0 p.1 (moved_on s) p.3.1 p.3.2 not_negative
+      (λ told among. left_in_line next_here (is.a, among) q_stays in_case.index) is_state)))
 
   -- ---- orders that look at the indicator, or at the index
 
@@ -181,66 +205,38 @@ module _ {D : Type 0} (meaning : Meaning D) (lawful : IsMeaning D meaning) (c : 
         cells = refl;
       }) is_state
   clears false e pair set p is_state =
-      leaves_sound meaning lawful c s is in_case (moves_on c) pair (moved_on s) p (moves_in_line meaning lawful c s is in_case) is_state
+      leaves_sound meaning lawful c s is in_case (moves_on c) pair (moved_on s) p moves_in_line is_state
 
   counts_down : (zero : Bool) (y : ℕ) (pair : PostPair D)
       → IsSingle meaning c (if zero then moves_on c else (record (moves_on c) { next = y; x = c.index - 1 })) (Ok pair)
       → IsState c.machine (if zero then moved_on s else (record s { index = s.index - 1; location = y }))
       → IsSound meaning c pair (leaves (if zero then moved_on s else (record s { index = s.index - 1; location = y })))
   counts_down true y pair p is_state =
-      leaves_sound meaning lawful c s is in_case (moves_on c) pair (moved_on s) p (moves_in_line meaning lawful c s is in_case) is_state
+      leaves_sound meaning lawful c s is in_case (moves_on c) pair (moved_on s) p moves_in_line is_state
   counts_down false y pair p is_state = leaves_sound meaning lawful c s is in_case (record (moves_on c) { next = y; x = c.index - 1 }) pair
-      (record s { index = s.index - 1; location = y }) p (record {
-        next = refl;
-        a_word = is.a;
-        a = in_case.in_row.a;
-        q_word = is.q;
-        q = in_case.in_row.q;
-        x = ap (λ (n : ℕ). n - 1) in_case.index;
-        clear = clear_stays meaning lawful c s is in_case;
-        set = set_stays meaning lawful c s is in_case;
-        cells = refl;
-      }) is_state
+      (record s { index = s.index - 1; location = y }) p
+      (left_in_line refl a_stays q_stays (ap (λ (n : ℕ). n - 1) in_case.index)) is_state
 
   -- ---- the table
 
   loads_in_line : (e : ℕ) → e < 4096 → IsInLine meaning s ((loads_a s (cell s e)).after) (loads meaning c e)
-  loads_in_line e below = record {
-    next = next_is meaning lawful c s is in_case;
-    a_word = cell_word meaning lawful c s is in_case e below;
-    a = cell_among e below;
-    q_word = is.q;
-    q = in_case.in_row.q;
-    x = in_case.index;
-    clear = clear_stays meaning lawful c s is in_case;
-    set = set_stays meaning lawful c s is in_case;
-    cells = refl;
-  }
+  loads_in_line e below = left_in_line next_here (cell_word_among e below) q_stays in_case.index
 
   pub order_sound : (order : Order) (e y : ℕ) (pair_found : PostPair D) → e < 4096 → IsPosts meaning c order e y (Ok pair_found)
       → IsState c.machine ((effect c.machine s order e y).after) → IsSound meaning c pair_found (effect c.machine s order e y)
   order_sound Cla e y both below p kept =
       leaves_sound meaning lawful c s is in_case (loads meaning c e) both _ p (loads_in_line e below) kept
   order_sound Ldq e y both below p kept =
-      leaves_sound meaning lawful c s is in_case (record (moves_on c) { q = cell_in_case c e }) both _ p (record {
-        next = next_is meaning lawful c s is in_case;
-        a_word = is.a;
-        a = in_case.in_row.a;
-        q_word = cell_word meaning lawful c s is in_case e below;
-        q = cell_among e below;
-        x = in_case.index;
-        clear = clear_stays meaning lawful c s is in_case;
-        set = set_stays meaning lawful c s is in_case;
-        cells = refl;
-      }) kept
+      leaves_sound meaning lawful c s is in_case (record (moves_on c) { q = cell_in_case c e }) both _ p
+      (left_in_line next_here a_stays (cell_word_among e below) in_case.index) kept
   order_sound Sto e y both below p kept =
       let goes = goes_on (is_erasable e) (IsStored meaning c e (These c.row.a) (moves_on c) (Ok both)) both (FixedWrite e) p in
       stored_sound meaning lawful c s is in_case e (These c.row.a) (moves_on c) both (leaves (moved_on s)) s.a goes.0 goes.1
-      (moves_in_line meaning lawful c s is in_case) refl kept is.a in_case.in_row.a (λ over. absurd (never over)) refl refl
+      moves_in_line refl kept is.a in_case.in_row.a (λ over. absurd (never over)) refl refl
   order_sound Stq e y both below p kept =
       let goes = goes_on (is_erasable e) (IsStored meaning c e (These c.row.q) (moves_on c) (Ok both)) both (FixedWrite e) p in
       stored_sound meaning lawful c s is in_case e (These c.row.q) (moves_on c) both (leaves (moved_on s)) s.q goes.0 goes.1
-      (moves_in_line meaning lawful c s is in_case) refl kept is.q in_case.in_row.q (λ over. absurd (never over)) refl refl
+      moves_in_line refl kept is.q in_case.in_row.q (λ over. absurd (never over)) refl refl
   order_sound Add e y both below p kept = computes_single sum sum_candidates (meaning.ends p.0) (cell s e) s.q (These c.row.q) both
       (cell_between e p.0 below p.1) p.2 in_case.in_row.q kept
   order_sound Sub e y both below p kept = computes_single difference difference_candidates (meaning.ends p.0) (cell s e) s.q (These c.row.q) both
@@ -285,45 +281,20 @@ module _ {D : Type 0} (meaning : Meaning D) (lawful : IsMeaning D meaning) (c : 
       (subst (λ (n : ℕ). IsSingle meaning c (if nat_eq n 0 then moves_on c else (record (moves_on c) { next = y; x = c.index - 1 })) (Ok both))
       (sym in_case.index) p) kept
   order_sound Axt e y both below p kept =
-      leaves_sound meaning lawful c s is in_case (record (moves_on c) { x = y % 8 }) both _ p (record {
-        next = next_is meaning lawful c s is in_case;
-        a_word = is.a;
-        a = in_case.in_row.a;
-        q_word = is.q;
-        q = in_case.in_row.q;
-        x = refl;
-        clear = clear_stays meaning lawful c s is in_case;
-        set = set_stays meaning lawful c s is in_case;
-        cells = refl;
-      }) kept
+      leaves_sound meaning lawful c s is in_case (record (moves_on c) { x = y % 8 }) both _ p
+      (left_in_line next_here a_stays q_stays refl) kept
   order_sound Tsq e y both below p kept =
       leaves_sound meaning lawful c s is in_case
-      (record (moves_on c) { next = e; q = OneWord (order_word c.machine.codes Tra false (next_of_row c.row)) }) both _ p (record {
-        next = refl;
-        a_word = is.a;
-        a = in_case.in_row.a;
-        q_word = kept.q;
-        q = ap (λ (n : ℕ). order_word c.machine.codes Tra false n) (next_is meaning lawful c s is in_case);
-        x = in_case.index;
-        clear = clear_stays meaning lawful c s is in_case;
-        set = set_stays meaning lawful c s is in_case;
-        cells = refl;
-      }) kept
+      (record (moves_on c) { next = e; q = OneWord (order_word c.machine.codes Tra false (next_of_row c.row)) }) both _ p
+      (left_in_line refl a_stays (kept.q, ap (λ (n : ℕ). order_word c.machine.codes Tra false n) next_here) in_case.index) kept
   order_sound Inp e y both below p kept =
       let place = place_of c.machine.ports.inputs y in
       let found = port_found meaning c place (IsSingle meaning c (record (moves_on c) { a = These (input_limit c.limits y) })) both p in
+      let input_held : meaning.held (input_limit c.limits y) (register_at s.inputs place) ≡ true =
+      subst (λ (at : Option ℕ). meaning.held (input_limit c.limits y) (register_at s.inputs at) ≡ true) (sym found.1) (in_case.inputs y found.0 found.1) in
       record {
-        agrees = single_agrees meaning lawful c s is in_case (record (moves_on c) { a = These (input_limit c.limits y) }) both _ found.2 (record {
-          next = next_is meaning lawful c s is in_case;
-          a_word = kept.a;
-          a = subst (λ (at : Option ℕ). meaning.held (input_limit c.limits y) (register_at s.inputs at) ≡ true) (sym found.1) (in_case.inputs y found.0 found.1);
-          q_word = is.q;
-          q = in_case.in_row.q;
-          x = in_case.index;
-          clear = clear_stays meaning lawful c s is in_case;
-          set = set_stays meaning lawful c s is in_case;
-          cells = refl;
-        }) kept;
+        agrees = single_agrees meaning lawful c s is in_case (record (moves_on c) { a = These (input_limit c.limits y) }) both _ found.2
+            (left_in_line next_here (kept.a, input_held) q_stays in_case.index) kept;
         overflow = λ over. absurd (never over);
         stored = tt;
         took = subst (λ (at : Option ℕ). IsSome at) (sym found.1) refl;
@@ -333,31 +304,13 @@ module _ {D : Type 0} (meaning : Meaning D) (lawful : IsMeaning D meaning) (c : 
       let place = place_of c.machine.ports.outputs y in
       let found = port_found meaning c place (IsGiven meaning c y (moves_on c)) both p in
       record {
-        agrees = single_agrees meaning lawful c s is in_case (moves_on c) both _ found.2.1 (record {
-          next = next_is meaning lawful c s is in_case;
-          a_word = is.a;
-          a = in_case.in_row.a;
-          q_word = is.q;
-          q = in_case.in_row.q;
-          x = in_case.index;
-          clear = clear_stays meaning lawful c s is in_case;
-          set = set_stays meaning lawful c s is in_case;
-          cells = refl;
-        }) kept;
+        agrees = single_agrees meaning lawful c s is in_case (moves_on c) both _ found.2.1
+            (left_in_line next_here a_stays q_stays in_case.index) kept;
         overflow = λ over. absurd (never over);
         stored = tt;
         took = tt;
         gave = (subst (λ (at : Option ℕ). IsSome at) (sym found.1) refl, found.2.0 s.a is.a in_case.in_row.a);
       }
   order_sound Dly e y both below p kept =
-      leaves_sound meaning lawful c s is in_case (record (moves_on c) { next = y }) both _ p (record {
-        next = refl;
-        a_word = is.a;
-        a = in_case.in_row.a;
-        q_word = is.q;
-        q = in_case.in_row.q;
-        x = in_case.index;
-        clear = clear_stays meaning lawful c s is in_case;
-        set = set_stays meaning lawful c s is in_case;
-        cells = refl;
-      }) kept
+      leaves_sound meaning lawful c s is in_case (record (moves_on c) { next = y }) both _ p
+      (left_in_line refl a_stays q_stays in_case.index) kept

@@ -9,7 +9,7 @@ use Rattle.ags_domain.specs.Hull.{Answers, IsOperands, new_a_at, overflows_at}
 use Rattle.ags_domain.specs.declared.operands.Operands.{Operands}
 use Rattle.ags_ports.specs.Port.{place_of}
 use Rattle.ags_ports.specs.State.{State, IsState, cell, next_location}
-use Rattle.ags_ports.specs.Effect.{Effect, leaves, moved_on, overflowing, then_stores}
+use Rattle.ags_ports.specs.Effect.{Effect, leaves, overflowing, then_stores}
 use Rattle.ags_row.specs.Limit.{is_named}
 use Rattle.ags_row.specs.declared.posts.Post.{Post}
 use Rattle.ags_posts.specs.Case.{Case, is_erasable, next_of_row}
@@ -84,19 +84,6 @@ module _ {D : Type 0} (meaning : Meaning D) (lawful : IsMeaning D meaning) (c : 
 
   pub set_stays : s.indicator ≡ true → c.indicator ≡ true
   set_stays h = sym in_case.indicator ∙ h
-
-  pub moves_in_line : IsInLine meaning s (moved_on s) (moves_on c)
-  moves_in_line = record {
-    next = next_is;
-    a_word = is.a;
-    a = in_case.in_row.a;
-    q_word = is.q;
-    q = in_case.in_row.q;
-    x = in_case.index;
-    clear = clear_stays;
-    set = set_stays;
-    cells = refl;
-  }
 
   pub cell_word : (address : ℕ) → address < 4096 → cell s address < 2 ^ 18
   cell_word address below = is.cells address 0 (omega (arith, is.cells_count))
