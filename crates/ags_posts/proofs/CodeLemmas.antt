@@ -1,9 +1,10 @@
 -- The code of a row has the word of each state of the row, and a row has one code.
-use Rattle.std.proofs.Common.{◌≡◌, ℕ, ◌+◌, ◌<◌, ◌≤◌, ◌^◌, Bool, true, false, refl, sym, ap, ◌∙◌, arith, List, [], ◌∷◌}
-use Rattle.std.specs.Prelude.{Option, Some, None, ◌&&◌, ◌||◌, eqb, nat_le, nat_lt, MatchBool}
-use Rattle.std.proofs.lemmas.Bool.{eq-eqb, eqb-true, ltb-true}
+use Rattle.std.proofs.Common.{◌≡◌, ℕ, ◌<◌, ◌≤◌, ◌^◌, Bool, true, false, refl, sym, ap, ◌∙◌, arith, List, [], ◌∷◌}
+use Rattle.std.specs.Prelude.{Option, Some, None, ◌||◌, eqb, MatchBool}
+use Rattle.std.proofs.lemmas.Bool.{eq-eqb, ltb-true}
 use Rattle.std.proofs.lemmas.Bool.Decides.{nat_tests}
-use Rattle.ags_domain.specs.WordSet.{ascends_from, lists, HoldsMore}
+use Rattle.ags_domain.specs.ListLaws.{lists_word}
+use Rattle.ags_domain.specs.WordSet.{lists, HoldsMore}
 use Rattle.ags_domain.specs.Domain.{Meaning, AreFew}
 use Rattle.ags_domain.specs.MeaningLaws.{value_lawful}
 use Rattle.ags_domain.specs.declared.word_sets.WordSet.{WordSet}
@@ -26,31 +27,6 @@ or_false b h = rw h refl
 
 fixed_from : (address : ℕ) → is_erasable address ≡ false → 2048 ≤ address
 fixed_from address h = grind (arith, nat_tests)
-
-and_left : (a b : Bool) → (a && b) ≡ true → a ≡ true
-and_left true b h = refl
-and_left false b h = h
-
-and_right : (a b : Bool) → (a && b) ≡ true → b ≡ true
-and_right true b h = h
-and_right false b h = absurd cc
-
-or_cases : (a b : Bool) (P : Type 0) → (a || b) ≡ true → (a ≡ true → P) → (b ≡ true → P) → P
-or_cases true b P h p r = p refl
-or_cases false b P h p r = r h
-
--- a word of an ascending list is a word
-listed_word : (from : ℕ) (words : List ℕ) (w : ℕ) → ascends_from from words ≡ true → lists words w ≡ true → w < 2 ^ 18
-listed_word from [] w ascends listed = absurd cc
-listed_word from (word ∷ words) w ascends listed =
-    let behind : (nat_lt word (2 ^ 18) && ascends_from (word + 1) words) ≡ true =
-    and_right (nat_le from word) (nat_lt word (2 ^ 18) && ascends_from (word + 1) words) ascends in
-    or_cases (eqb word w) (lists words w) (w < 2 ^ 18) listed
-    (λ same.
-    let at : word ≡ w = eqb-true word w same in
-    let below : word < 2 ^ 18 = ltb-true word (2 ^ 18) (and_left (nat_lt word (2 ^ 18)) (ascends_from (word + 1) words) behind) in
-    omega arith)
-    (λ later. listed_word (word + 1) words w (and_right (nat_lt word (2 ^ 18)) (ascends_from (word + 1) words) behind) later)
 
 module _ {D : Type 0} (meaning : Meaning D) (image : List (Option ℕ)) (limits : Limiting D) (row : Row D) where
   -- ---- the word of a state
@@ -91,7 +67,7 @@ module _ {D : Type 0} (meaning : Meaning D) (image : List (Option ℕ)) (limits 
   none_many true set low few more = value_lawful.listed (Words set) refl (record {
     words = more.words;
     once = more.once;
-    are_held = λ w listed. sym (few w (listed_word 0 more.words w more.once listed)) ∙ more.are_held w listed;
+    are_held = λ w listed. sym (few w (lists_word 0 more.words w more.once listed)) ∙ more.are_held w listed;
     more = more.more;
   })
   none_many false set low few more = differ (sym low)

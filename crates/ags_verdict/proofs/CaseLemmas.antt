@@ -1,25 +1,14 @@
--- The cases of a row are each word with each index and each indicator of it.
+-- The cases of a row are each word with each index and each indicator of it. The crates above cite:
+--     cases_each, each_cases    what holds of each such is what holds of each case, both ways
 use Rattle.std.proofs.Common.{◌≡◌, ℕ, zero, suc, ◌+◌, Bool, true, false, refl, subst, arith, List, [], ◌∷◌}
-use Rattle.std.specs.Prelude.{eqb, ◌||◌, if◌then◌else◌}
+use Rattle.std.specs.Prelude.{if◌then◌else◌}
 use Rattle.std.specs.List.{AllByRecursion}
-use Rattle.std.proofs.lemmas.Bool.{eq-eqb, eqb-true}
+use Rattle.ags_domain.specs.ListLaws.{lists_head, lists_rest, one_of}
 use Rattle.ags_domain.specs.WordSet.{lists}
 use Rattle.ags_row.specs.Flag.{has_flag, indicator_number}
 use Rattle.ags_row.specs.declared.rows.Row.{Row}
 use Rattle.ags_verdict.specs.RowCase.{RowCase, flagged, indicators, with_index, with_word, cases_in}
 use Rattle.ags_verdict.proofs.EachLemmas.{append_each, left_each, right_each, map_each, each_map, flat_each, each_flat}
-
-or_cases : (a b : Bool) (P : Type 0) → (a || b) ≡ true → (a ≡ true → P) → (b ≡ true → P) → P
-or_cases true b P h p r = p refl
-or_cases false b P h p r = r h
-
-or_left : (a b : Bool) → a ≡ true → (a || b) ≡ true
-or_left true b h = refl
-or_left false b h = absurd cc
-
-or_right : (a b : Bool) → b ≡ true → (a || b) ≡ true
-or_right true b h = refl
-or_right false b h = h
 
 module _ (P : ℕ → Type 0) where
   -- ---- the flags that are set
@@ -43,15 +32,13 @@ module _ (P : ℕ → Type 0) where
 
   words_each : (words : List ℕ) → ((w : ℕ) → lists words w ≡ true → P w) → AllByRecursion P words
   words_each [] each = tt
-  words_each (word ∷ words) each = (
-    each word (or_left (eqb word word) (lists words word) (eq-eqb word word refl)),
-    words_each words (λ w listed. each w (or_right (eqb word w) (lists words w) listed)),
-  )
+  words_each (word ∷ words) each =
+      (each word (lists_head word words), words_each words (λ w listed. each w (lists_rest word words w listed)))
 
   each_words : (words : List ℕ) → AllByRecursion P words → (w : ℕ) → lists words w ≡ true → P w
   each_words [] each w listed = absurd cc
-  each_words (word ∷ words) each w listed = or_cases (eqb word w) (lists words w) (P w) listed
-      (λ same. subst P (eqb-true word w same) each.0)
+  each_words (word ∷ words) each w listed = one_of word words w listed
+      (λ same. subst P same each.0)
       (λ later. each_words words each.1 w later)
 
 module _ (P : Bool → Type 0) where

@@ -1,17 +1,9 @@
--- What holds of each element, by recursion, over the lists that the cases of a row are made of.
-use Rattle.std.proofs.Common.{zero, arith, List, [], ◌∷◌, ◌++◌, map}
-use Rattle.std.specs.List.{All, AllByRecursion, flat_map}
-use Rattle.std.proofs.lemmas.List.Elements.{All-nil, All-cons, All-tail}
+-- What holds of each element, by recursion, over the lists that the cases of a row are made of. The crates above cite:
+--     append_each, map_each, flat_each    it holds of each of a list that was made where it holds of each of what it was made of
+use Rattle.std.proofs.Common.{List, [], ◌∷◌, ◌++◌, map}
+use Rattle.std.specs.List.{AllByRecursion, flat_map}
 
 module _ {X : Type 0} (P : X → Type 0) where
-  pub from_all : (xs : List X) → All P xs → AllByRecursion P xs
-  from_all [] all = tt
-  from_all (x ∷ xs) all = (all zero x (omega arith), from_all xs (All-tail P x xs all))
-
-  pub to_all : (xs : List X) → AllByRecursion P xs → All P xs
-  to_all [] each = All-nil P
-  to_all (x ∷ xs) each = All-cons P x xs each.0 (to_all xs each.1)
-
   pub append_each : (xs ys : List X) → AllByRecursion P xs → AllByRecursion P ys → AllByRecursion P (xs ++ ys)
   append_each [] ys left right = right
   append_each (x ∷ xs) ys left right = (left.0, append_each xs ys left.1 right)

@@ -1,4 +1,4 @@
-mod EachLemmas
-mod CaseLemmas
+pub mod EachLemmas
+pub mod CaseLemmas
 mod InOrderLemmas
 pub mod VerdictLemmas

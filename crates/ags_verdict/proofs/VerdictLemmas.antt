@@ -2,6 +2,7 @@
 --     verdict_one, certified_of, accepted_of, counted_of, refused_of, first_of
 use Rattle.std.proofs.Common.{◌≡◌, ℕ, ◌+◌, ◌<◌, refl, sym, ap, subst, ◌∙◌, arith, List, [], ◌∷◌, length, inl, inr}
 use Rattle.std.specs.Prelude.{Option, Some, None, IfSome, Result, Ok, Err}
+use Rattle.std.proofs.lemmas.List.Elements.{All-from_recursion, recursion_from_All}
 use Rattle.ags_domain.specs.Domain.{Meaning, IsMeaning}
 use Rattle.ags_domain.specs.declared.word_sets.WordSet.{WordSet}
 use Rattle.ags_ports.specs.declared.machines.Machine.{Machine}
@@ -25,7 +26,6 @@ use Rattle.ags_verdict.specs.declared.verdicts.RowFault.TheVariants.{CodeUnknown
 use Rattle.ags_verdict.specs.declared.verdicts.Refusal.{Refusal}
 use Rattle.ags_verdict.specs.declared.verdicts.Verdict.{Verdict}
 use Rattle.ags_verdict.specs.declared.verdicts.Verdict.TheVariants.{Certified, Refused}
-use Rattle.ags_verdict.proofs.EachLemmas.{from_all, to_all}
 use Rattle.ags_verdict.proofs.CaseLemmas.{cases_each, each_cases}
 use Rattle.ags_verdict.proofs.InOrderLemmas.{each_in_order, in_order_each, counts_each, first_fault_of, in_order_one}
 
@@ -70,7 +70,7 @@ module _ {D : Type 0} (meaning : Meaning D) (machine : Machine) (image : List (O
   accepted_of rows cases is = record {
     first_words = is.0.first_words;
     start = is.0.start;
-    rows = to_all (IsRowAccepted meaning machine image cert) cert.rows
+    rows = All-from_recursion (IsRowAccepted meaning machine image cert) cert.rows
         (each_in_order RowJudgedAt (IsRowAccepted meaning machine image cert)
         (λ place row count judged. accepted_with row count judged.0 judged.1 judged.2) 1 cert.rows cases is.0.rows);
   }
@@ -86,7 +86,7 @@ module _ {D : Type 0} (meaning : Meaning D) (machine : Machine) (image : List (O
   pub certified_of : Accepted meaning machine image cert → (cases : ℕ) × IsVerdict meaning machine image cert (Certified (length cert.rows) cases)
   certified_of accepted =
       let rows = in_order_each RowJudgedAt (IsRowAccepted meaning machine image cert) (λ place row is. judged_of row is) 1 cert.rows
-      (from_all (IsRowAccepted meaning machine image cert) cert.rows accepted.rows) in
+      (recursion_from_All (IsRowAccepted meaning machine image cert) cert.rows accepted.rows) in
       (rows.0, (record { first_words = accepted.first_words; start = accepted.start; rows = rows.1 }, refl))
 
   -- ---- the number of cases
@@ -123,7 +123,7 @@ module _ {D : Type 0} (meaning : Meaning D) (machine : Machine) (image : List (O
         fails = first.thing;
         behind = first.behind;
         splits = first.splits;
-        accepted = to_all (CaseAccepted row) first.before first.passed;
+        accepted = All-from_recursion (CaseAccepted row) first.before first.passed;
         fault = first.is;
       }
 
@@ -140,7 +140,7 @@ module _ {D : Type 0} (meaning : Meaning D) (machine : Machine) (image : List (O
         fails = first.thing;
         behind = first.behind;
         splits = first.splits;
-        accepted = to_all (IsRowAccepted meaning machine image cert) first.before first.passed;
+        accepted = All-from_recursion (IsRowAccepted meaning machine image cert) first.before first.passed;
         code = judged.0;
         is_code = judged.1;
         fault = found.0;

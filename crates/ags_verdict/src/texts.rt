@@ -96,54 +96,33 @@ impl fmt::Display for Refusal<Value> {
     fn fmt<W: fmt::Write>(&self, f: &mut fmt::Formatter<W>) -> fmt::Result {
         match *self {
             Refusal::InitRange { address, word } => {
-                let address = FourDigits(address);
-                let word = SixDigits(word);
-                write!(f, "1 InitRange {address} {word}")
+                write!(f, "1 InitRange {} {}", FourDigits(address), SixDigits(word))
             }
             Refusal::StartUncovered => f.write_str("2 StartUncovered"),
             Refusal::CodeUnknown { row } => write!(f, "3 CodeUnknown ROW {row}"),
-            Refusal::NoOrder { row, word } => {
-                let at = At(row, word);
-                write!(f, "4 NoOrder{at}")
-            }
-            Refusal::BadPort { row, word } => {
-                let at = At(row, word);
-                write!(f, "5 BadPort{at}")
-            }
+            Refusal::NoOrder { row, word } => write!(f, "4 NoOrder{}", At(row, word)),
+            Refusal::BadPort { row, word } => write!(f, "5 BadPort{}", At(row, word)),
             Refusal::FixedWrite { row, word, address } => {
-                let at = At(row, word);
                 let address = FourDigits(address);
-                write!(f, "6 FixedWrite{at} AT {address}")
+                write!(f, "6 FixedWrite{} AT {address}", At(row, word))
             }
             Refusal::MayOverflow {
                 row,
                 word,
                 operands,
-            } => {
-                let at = At(row, word);
-                let operands = Overflowing(operands);
-                write!(f, "7 MayOverflow{at}{operands}")
-            }
+            } => write!(f, "7 MayOverflow{}{}", At(row, word), Overflowing(operands)),
             Refusal::CellRange {
                 row,
                 word,
                 address,
                 value,
-            } => {
-                let at = At(row, word);
-                let place = Place(address, value);
-                write!(f, "8 CellRange{at}{place}")
-            }
+            } => write!(f, "8 CellRange{}{}", At(row, word), Place(address, value)),
             Refusal::OutputRange {
                 row,
                 word,
                 address,
                 value,
-            } => {
-                let at = At(row, word);
-                let place = Place(address, value);
-                write!(f, "9 OutputRange{at}{place}")
-            }
+            } => write!(f, "9 OutputRange{}{}", At(row, word), Place(address, value)),
             Refusal::NotCovered {
                 row,
                 word,
