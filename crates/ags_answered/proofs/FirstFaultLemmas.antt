@@ -5,6 +5,7 @@ use Rattle.std.proofs.Common.{◌≡◌, ℕ, ◌+◌, ◌<◌, Bool, true, refl
 use Rattle.std.specs.Prelude.{Option, Some, None, Ok, Err}
 use Rattle.std.specs.List.{AllByRecursion}
 use Rattle.std.proofs.lemmas.List.{get_or_append_left}
+use Rattle.std.proofs.lemmas.List.Elements.{recursion_from_All}
 use Rattle.ags_domain.specs.Domain.{Meaning, IsMeaning}
 use Rattle.ags_domain.specs.WordSet.{lists}
 use Rattle.ags_domain.specs.Value.{value_meaning}
@@ -31,10 +32,9 @@ use Rattle.ags_verdict.specs.declared.verdicts.RowFault.{RowFault}
 use Rattle.ags_verdict.specs.declared.verdicts.Refusal.{Refusal}
 use Rattle.ags_verdict.specs.declared.verdicts.Verdict.{Verdict}
 use Rattle.ags_verdict.specs.declared.verdicts.Verdict.TheVariants.{Certified, Refused}
+use Rattle.ags_verdict.proofs.CaseLemmas.{cases_each, each_cases}
 use Rattle.ags_verdict.proofs.VerdictLemmas.{accepted_of, first_of}
 use Rattle.ags_answered.specs.Told.{refusal_of_fault}
-use Rattle.ags_answered.proofs.EachLemmas.{from_all}
-use Rattle.ags_answered.proofs.CaseLemmas.{cases_each, each_cases}
 use Rattle.ags_answered.proofs.OrderLemmas.{InTurn, StandsBefore, numbers_of, one_way, cases_in_turn, earlier_hold}
 use Rattle.ags_answered.proofs.UnfailingLemmas.{one_row, accepted_or_fails, one_code, some_or_none, row_or_case}
 use Rattle.ags_answered.proofs.VerdictLemmas.{some_verdict}
@@ -179,7 +179,7 @@ module _ {D : Type 0} (meaning : Meaning D) (lawful : IsMeaning D meaning) (mach
       each_earlier = subst (λ (cs : List RowCase). AllByRecursion IsFine cs) (sym first.splits)
           (earlier_hold StandsBefore (λ x y. one_way (numbers_of x) (numbers_of y)) (CaseAccepted is.fails) c first.before first.behind
           (subst (λ (cs : List RowCase). InTurn StandsBefore cs) first.splits (cases_in_turn is.fails code.list code.ascending))
-          (from_all (CaseAccepted is.fails) first.before first.accepted))
+          (recursion_from_All (CaseAccepted is.fails) first.before first.accepted))
 
       earlier_case : (word index : ℕ) (indicator : Bool) → IsJudged meaning machine image cert is.fails word index indicator
           → StandsBefore (record { word = word; index = index; indicator = indicator }) c

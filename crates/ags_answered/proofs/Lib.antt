@@ -14,6 +14,5 @@ mod RangeLemmas
 mod OperationLemmas
 mod ToldLemmas
 mod EachLemmas
-mod CaseLemmas
 mod OrderLemmas
 mod UnfailingLemmas

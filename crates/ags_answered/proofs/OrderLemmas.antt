@@ -10,7 +10,8 @@ use Rattle.ags_row.specs.Flag.{has_flag, indicator_number}
 use Rattle.ags_row.specs.declared.rows.Row.{Row}
 use Rattle.ags_safe.specs.Failing.{Precedes}
 use Rattle.ags_verdict.specs.RowCase.{RowCase, flagged, indicators, with_index, with_word, cases_in}
-use Rattle.ags_answered.proofs.EachLemmas.{append_each, each_of, each_if, map_each, map_if, flat_if}
+use Rattle.ags_verdict.proofs.EachLemmas.{append_each, map_each}
+use Rattle.ags_answered.proofs.EachLemmas.{each_of, each_if, map_if, flat_if}
 
 -- ---- lists of which each element stands in its turn
 
@@ -108,7 +109,8 @@ HasIndex word index c = (c.word ≡ word) × (c.index ≡ index)
 
 module _ (set : List Bool) (set_turn : InTurn IsLess set) (word : ℕ) where
   index_marked : (index : ℕ) → AllByRecursion (HasIndex word index) (with_index word index set)
-  index_marked index = map_each (HasIndex word index) (λ indicator. record { word = word; index = index; indicator = indicator }) (λ indicator. (refl, refl)) set
+  index_marked index = map_each (HasIndex word index) (λ indicator. record { word = word; index = index; indicator = indicator }) set
+      (each_of (λ indicator. HasIndex word index (record { word = word; index = index; indicator = indicator })) (λ indicator. (refl, refl)) set)
 
   index_turn : (index : ℕ) → InTurn StandsBefore (with_index word index set)
   index_turn index = map_turn StandsBefore IsLess (λ indicator. record { word = word; index = index; indicator = indicator })

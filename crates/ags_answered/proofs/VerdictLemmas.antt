@@ -1,14 +1,13 @@
 -- Each certificate has a verdict. Behind the law of the same name is
 --     some_verdict    the verdict of a certificate
-use Rattle.std.proofs.Common.{◌≡◌, ℕ, zero, suc, ◌+◌, ◌<◌, ◌≤◌, ◌^◌, Bool, true, refl, sym, subst, ◌⊎◌, inl, inr, ⊎_elim, arith, List, [], ◌∷◌, length}
+use Rattle.std.proofs.Common.{ℕ, zero, suc, ◌+◌, ◌<◌, ◌≤◌, refl, sym, subst, ◌⊎◌, inl, inr, ⊎_elim, arith, List, [], ◌∷◌, length}
 use Rattle.std.specs.Prelude.{Option, Some, None, IfSome, Result, Ok, Err, unwrap_or}
 use Rattle.std.specs.List.{AllByRecursion}
 use Rattle.std.proofs.lemmas.Bool.{cases_eq}
 use Rattle.ags_image.specs.Image.{IsImage, entry_at}
 use Rattle.ags_ports.specs.declared.machines.Machine.{Machine}
 use Rattle.ags_ports.specs.Machine.{IsMachine}
-use Rattle.ags_domain.specs.WordSet.{ascends_from}
-use Rattle.ags_domain.specs.ListLaws.{ascends_word, ascends_tail}
+use Rattle.ags_domain.specs.ListLaws.{lists_word}
 use Rattle.ags_domain.specs.Value.{value_meaning}
 use Rattle.ags_domain.specs.declared.word_sets.WordSet.{WordSet}
 use Rattle.ags_domain.specs.declared.values.Value.{Value}
@@ -22,7 +21,7 @@ use Rattle.ags_safe.specs.Certificate.{Certificate}
 use Rattle.ags_safe.specs.Accepted.{IsFirstHeld, IsCovered}
 use Rattle.ags_safe.proofs.DecisionLemmas.{is_covered, start_is_held, first_held}
 use Rattle.ags_verdict.specs.InOrder.{InOrder}
-use Rattle.ags_verdict.specs.RowCase.{RowCase, flagged, indicators, with_index, with_word, cases_in, case_in}
+use Rattle.ags_verdict.specs.RowCase.{RowCase, cases_in, case_in}
 use Rattle.ags_verdict.specs.Fault.{refusal_of, IsUncovered, IsCaseJudged, IsRowJudged, IsRowJudgedAt}
 use Rattle.ags_verdict.specs.Verdict.{AreHeldBelow, IsInitRefused, IsStartHeld, AreRowsJudged, IsVerdict}
 use Rattle.ags_verdict.specs.declared.verdicts.RowFault.{RowFault}
@@ -31,7 +30,8 @@ use Rattle.ags_verdict.specs.declared.verdicts.Refusal.{Refusal}
 use Rattle.ags_verdict.specs.declared.verdicts.Refusal.TheVariants.{InitRange, StartUncovered}
 use Rattle.ags_verdict.specs.declared.verdicts.Verdict.{Verdict}
 use Rattle.ags_verdict.specs.declared.verdicts.Verdict.TheVariants.{Certified, Refused}
-use Rattle.ags_answered.proofs.EachLemmas.{append_each, each_of, map_each, flat_each}
+use Rattle.ags_verdict.proofs.CaseLemmas.{cases_each}
+use Rattle.ags_answered.proofs.EachLemmas.{each_of}
 use Rattle.ags_answered.proofs.PostsLemmas.{some_posts}
 use Rattle.ags_answered.proofs.CodeLemmas.{some_code}
 
@@ -53,21 +53,6 @@ module _ {X F : Type 0} (judged : ℕ → X → Result ℕ F → Type 0) where
   in_order : (place : ℕ) (xs : List X) → AllByRecursion IsJudged xs → HasSum place xs
   in_order place [] each = (Ok 0, refl)
   in_order place (x ∷ xs) each = summed place x xs (each.0 place) (in_order (place + 1) xs each.1)
-
--- ---- the cases of a row: the word of each is one of the machine
-
-module _ (row : Row Value) (P : RowCase → Type 0) (each : (word index : ℕ) (indicator : Bool) → word < 2 ^ 18
-    → P (record { word = word; index = index; indicator = indicator })) where
-  word_each : (word : ℕ) → word < 2 ^ 18 → AllByRecursion P (with_word word (flagged 0 row.x) (indicators row.v))
-  word_each word is = flat_each P (λ index. with_index word index (indicators row.v))
-      (λ index. map_each P (λ indicator. record { word = word; index = index; indicator = indicator })
-      (λ indicator. each word index indicator is) (indicators row.v))
-      (flagged 0 row.x)
-
-  cases_each : (from : ℕ) (words : List ℕ) → ascends_from from words ≡ true → AllByRecursion P (cases_in row words)
-  cases_each from [] ascends = tt
-  cases_each from (word ∷ words) ascends = append_each P (with_word word (flagged 0 row.x) (indicators row.v)) (cases_in row words)
-      (word_each word (ascends_word from word words ascends)) (cases_each (word + 1) words (ascends_tail from word words ascends))
 
 module _ (machine : Machine) (image : List (Option ℕ)) (cert : Certificate Value) (is_machine : IsMachine machine) (is_image : IsImage image) where
   -- ---- a case
@@ -108,11 +93,10 @@ module _ (machine : Machine) (image : List (Option ℕ)) (cert : Certificate Val
   row_by row None is = (Err fault.CodeUnknown, (None, is, refl))
   row_by row (Some code) is =
       let sum = in_order (IsJudgedIn row) 0 (cases_in row code.list)
-      (cases_each row (IsJudged (IsJudgedIn row))
-      (λ word index indicator below place.
+      (cases_each row (IsJudged (IsJudgedIn row)) code.list
+      (λ word index indicator listed index_set may place.
       let c = case_in machine image cert.limits row (record { word = word; index = index; indicator = indicator }) in
-      case_judged c (some_posts c is_machine is_image below))
-      0 code.list code.ascending) in
+      case_judged c (some_posts c is_machine is_image (lists_word 0 code.list word code.ascending listed)))) in
       (sum.0, (Some code, is, sum.1))
 
   numbered : (number : ℕ) (row : Row Value) → (result : Result ℕ (RowFault Value)) × IsRowJudged value_meaning cert machine image row result
