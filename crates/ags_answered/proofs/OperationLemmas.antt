@@ -1,13 +1,14 @@
 -- Each operation on two intervals has an answer: the least interval of all new A, or operands that overflow.
-use Rattle.std.proofs.Common.{◌≡◌, ℕ, Bool, true, false, refl, arith, pos, ◌≤ℤ◌, ◌+ℤ◌, ◌-ℤ◌, List, [], ◌∷◌}
-use Rattle.std.specs.Prelude.{Result, Ok, Err}
+use Rattle.std.proofs.Common.{◌≡◌, ℕ, Bool, true, false, refl, arith, pos, ℤ, ◌≤ℤ◌, ◌+ℤ◌, ◌-ℤ◌, List, [], ◌∷◌}
+use Rattle.std.specs.Prelude.{Result, Ok, Err, not}
 use Rattle.std.specs.Int.RustNames.{int_le}
 use Rattle.std.proofs.lemmas.Int.{ints}
 use Rattle.ags_word.specs.Word.{val}
-use Rattle.ags_word.specs.Operation.{Operation, sum, difference, negative, size, left_shift, product_high, product_rounded, quotient, long_left_high, long_right_high}
+use Rattle.ags_word.specs.Long.{fits_long}
+use Rattle.ags_word.specs.Operation.{Operation, product, sum, difference, negative, size, left_shift, product_high, product_rounded, quotient, long_left_high, long_right_high}
 use Rattle.ags_domain.specs.LowBits.{all_ones}
 use Rattle.ags_domain.specs.Domain.{Ends}
-use Rattle.ags_domain.specs.Hull.{IsInterval, Answers, tried, new_a_at, no_cell}
+use Rattle.ags_domain.specs.Hull.{IsInterval, Answers, tried, new_a_at, overflows_at, no_cell}
 use Rattle.ags_domain.specs.Candidates.{operands, sum_candidates, difference_candidates, sign_candidates, left_shift_candidates, product_candidates, long_left_candidates, has_zero, quotient_candidates}
 use Rattle.ags_domain.specs.Range.{range_meaning, greater}
 use Rattle.ags_domain.specs.Corners.{IsFromZero}
@@ -18,8 +19,8 @@ use Rattle.ags_domain.specs.declared.operands.Operands.{Operands}
 use Rattle.ags_domain.specs.declared.ranges.Range.{Range}
 use Rattle.ags_domain.specs.declared.values.Value.{Value}
 use Rattle.ags_domain.specs.declared.values.Value.TheVariants.{Range as ByEnds}
-use Rattle.ags_domain.proofs.HullLaws.{AreEnds, span_ordered, span_interval}
-use Rattle.ags_domain.proofs.CornerLaws.{answers_along}
+use Rattle.ags_domain.proofs.HullLaws.{AreEnds, IsExact, span_ordered, span_interval}
+use Rattle.ags_domain.proofs.CornerLaws.{IsCornered, answers_along}
 use Rattle.ags_domain.proofs.SumLaws.{settled_exact, sum_span, difference_span}
 use Rattle.ags_domain.proofs.SignLaws.{negative_number, size_number, negative_exact, size_exact, negative_span, size_span_above, size_span_below, negative_told, size_told, at_least, at_greatest, zero_below, across_answers, val_zero}
 use Rattle.ags_domain.proofs.ShiftLaws.{left_number, left_exact, left_span, long_left_number, long_left_exact, long_left_span, long_right_number, long_right_exact, long_right_span}
@@ -75,23 +76,21 @@ module _ (a m : Ends) (is_a : AreEnds a) (is_m : AreEnds m) where
   abbrev c4 : Operands
   c4 = operands a.greatest 0 m.greatest
 
-  pub high_answer : HasAnswer product_high product_candidates a m
-  high_answer =
-      let found = around_answer product_high high_number a m (high_exact a m) c1 c2 c3 c4 (high_corners a m is_a is_m) in
-      valued product_high product_candidates a m (
+  product_answer : (operation : Operation) (number : Operands → ℤ) → ((o : Operands) → overflows_at operation o ≡ not (fits_long (product o.a o.m)))
+      → IsExact operation number a m → IsCornered number a m c1 c2 c3 c4 → HasAnswer operation product_candidates a m
+  product_answer operation number is_over is_exact cornered =
+      let found = around_answer operation number a m is_exact c1 c2 c3 c4 cornered in
+      valued operation product_candidates a m (
         found.0,
-        answers_along product_high a m (λ a_ends m_ends. c1 ∷ c2 ∷ c3 ∷ c4 ∷ []) product_candidates
-            (product_told product_high (λ o. refl) a m a.least a.least a.greatest a.greatest m.least m.greatest m.least m.greatest) found.0 found.1,
+        answers_along operation a m (λ a_ends m_ends. c1 ∷ c2 ∷ c3 ∷ c4 ∷ []) product_candidates
+            (product_told operation is_over a m a.least a.least a.greatest a.greatest m.least m.greatest m.least m.greatest) found.0 found.1,
       )
 
+  pub high_answer : HasAnswer product_high product_candidates a m
+  high_answer = product_answer product_high high_number (λ o. refl) (high_exact a m) (high_corners a m is_a is_m)
+
   pub rounded_answer : HasAnswer product_rounded product_candidates a m
-  rounded_answer =
-      let found = around_answer product_rounded rounded_number a m (rounded_exact a m) c1 c2 c3 c4 (rounded_corners a m is_a is_m) in
-      valued product_rounded product_candidates a m (
-        found.0,
-        answers_along product_rounded a m (λ a_ends m_ends. c1 ∷ c2 ∷ c3 ∷ c4 ∷ []) product_candidates
-            (product_told product_rounded (λ o. refl) a m a.least a.least a.greatest a.greatest m.least m.greatest m.least m.greatest) found.0 found.1,
-      )
+  rounded_answer = product_answer product_rounded rounded_number (λ o. refl) (rounded_exact a m) (rounded_corners a m is_a is_m)
 
   -- ---- quotients
 
