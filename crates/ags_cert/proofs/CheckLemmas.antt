@@ -1,32 +1,14 @@
--- What the checks of the parts of a certificate cite: the cells of a row are erasable, and rows are counted one after another.
-use Rattle.std.proofs.Common.{◌≡◌, ◌≢◌, ℕ, zero, suc, ◌+◌, ◌<◌, ◌≤◌, Bool, true, false, refl, sym, ap, subst, ◌∙◌, ⊎_elim, List, [], ◌∷◌, length, get_or, take, set, arith}
-use Rattle.std.specs.Prelude.{◌&&◌, ◌==◌, nat_le, nat_lt, IsTrue, replicate, if◌then◌else◌}
+-- What the checks of the parts of a certificate cite: rows are counted one after another.
+use Rattle.std.proofs.Common.{◌≡◌, ◌≢◌, ℕ, ◌+◌, ◌<◌, ◌≤◌, Bool, true, false, refl, sym, ap, subst, ◌∙◌, ⊎_elim, List, length, get_or, take, set, arith}
+use Rattle.std.specs.Prelude.{◌==◌, IsTrue, replicate, if◌then◌else◌}
 use Rattle.std.proofs.lemmas.Bool.{eq-eqb, cases_lt}
 use Rattle.std.proofs.lemmas.Bool.Decides.{nat_tests}
-use Rattle.std.proofs.lemmas.List.{get_or-set_same, get_or-set_other, get_or_past, get_or-replicate, length-replicate, length-set, take_all}
+use Rattle.std.proofs.lemmas.List.{get_or-set_same, get_or-set_other, length-replicate, length-set, take_all}
 use Rattle.std.proofs.lemmas.Grind.{get_or_default_zero}
 use Rattle.std.proofs.lemmas.List.Sums.{sum_by_more, sum_by-take-le}
-use Rattle.ags_row.specs.Cell.{cells_ascend}
-use Rattle.ags_row.specs.declared.ats.At.{At}
 use Rattle.ags_row.specs.declared.rows.Row.{Row}
+use Rattle.ags_row.proofs.LimitLemmas.{each_same}
 use Rattle.ags_cert.specs.Cert.{rows_at}
-
-and_left : (a b : Bool) → (a && b) ≡ true → a ≡ true
-and_left a b h = grind (arith, nat_tests)
-
-and_right : (a b : Bool) → (a && b) ≡ true → b ≡ true
-and_right a b h = grind (arith, nat_tests)
-
-pub cells_below : {D : Type 0} (from : ℕ) (cells : List (At D)) → cells_ascend from cells ≡ true
-    → (k : ℕ) (d : At D) → k < length cells → (get_or cells k d).address < 2048
-cells_below from [] ascends k d inside = absurd (omega arith)
-cells_below from (cell ∷ cells) ascends zero d inside =
-    let rest = and_right (nat_le from cell.address) (nat_lt cell.address 2048 && cells_ascend (cell.address + 1) cells) ascends in
-    let below = and_left (nat_lt cell.address 2048) (cells_ascend (cell.address + 1) cells) rest in
-    grind (arith, nat_tests)
-cells_below from (cell ∷ cells) ascends (suc k) d inside =
-    let rest = and_right (nat_le from cell.address) (nat_lt cell.address 2048 && cells_ascend (cell.address + 1) cells) ascends in
-    cells_below (cell.address + 1) cells (and_right (nat_lt cell.address 2048) (cells_ascend (cell.address + 1) cells) rest) k d (omega arith)
 
 -- ---- answers of checks
 
@@ -50,12 +32,6 @@ pub record Counted {D : Type 0} (rows : List (Row D)) (i : ℕ) (counts : List �
   pub places : length counts ≡ 4096
   pub are : (location : ℕ) → get_or counts location 0 ≡ rows_at (take i rows) location
   pub few : (location : ℕ) → rows_at (take i rows) location ≤ 512
-
-each_same : {E : Type 0} (count : ℕ) (entry : E) (place : ℕ) → get_or (replicate count entry) place entry ≡ entry
-each_same count entry place = ⊎_elim
-    (λ below. get_or-replicate count place entry entry below)
-    (λ above. get_or_past (replicate count entry) place entry (rw (length-replicate count entry) above))
-    (cases_lt place count)
 
 pub none_counted : {D : Type 0} (rows : List (Row D)) (counts : List ℕ) → counts ≡ replicate 4096 0 → Counted rows 0 counts
 none_counted rows counts is = record {

@@ -1,4 +1,4 @@
-use Rattle.ags_cert.proofs.CheckLemmas.{cells_below}
+use Rattle.ags_row.proofs.CellLemmas.{cells_below}
 use Rattle.ags_cert.proofs.checks.is_row_within.Goals as goal
 
 pub are_cells_within-requires : goal.are_cells_within-requires
