@@ -68,79 +68,53 @@ set_other cells address word n erasable fixed = grind (arith, common_steps)
 fixed_stays : (cells : List ℕ) (address word n : ℕ) → address < 2048 → 2048 ≤ n → get_or (cells_with_word cells address word) n 0 ≡ get_or cells n 0
 fixed_stays cells address word n erasable fixed = chosen_cell (nat_lt address 2048) (set cells address word) cells n (set_other cells address word n erasable fixed)
 
-fresh_setting : (machine : Machine) (image : List (Option ℕ)) (s : State) (command : Command) → NamesLocation command → NamesWord command → IsFresh machine image s
-    → IsFresh machine image (with_setting machine s command)
-fresh_setting machine image s (Start address) place word p = record {
-  state = record {
-    a = p.state.a;
-    q = p.state.q;
-    index = p.state.index;
-    location = place;
-    cells_count = p.state.cells_count;
-    cells = p.state.cells;
-    inputs_count = p.state.inputs_count;
-    inputs = p.state.inputs;
-    outputs_count = p.state.outputs_count;
-    outputs = p.state.outputs;
-  };
-  running = p.running;
-  a = p.a;
-  q = p.q;
-  index = p.index;
-  indicator = p.indicator;
-  outputs = p.outputs;
-  fixed = p.fixed;
-}
-fresh_setting machine image s (Cell address word) place below p = record {
-  state = record {
-    a = p.state.a;
-    q = p.state.q;
-    index = p.state.index;
-    location = p.state.location;
-    cells_count = chosen_length (nat_lt address 2048) (set s.cells address word) s.cells 4096 (length-set s.cells address word ∙ p.state.cells_count) p.state.cells_count;
-    cells = chosen_words (nat_lt address 2048) (set s.cells address word) s.cells (All-set (λ w. w < 2 ^ 18) s.cells address word below p.state.cells) p.state.cells;
-    inputs_count = p.state.inputs_count;
-    inputs = p.state.inputs;
-    outputs_count = p.state.outputs_count;
-    outputs = p.state.outputs;
-  };
-  running = p.running;
-  a = p.a;
-  q = p.q;
-  index = p.index;
-  indicator = p.indicator;
-  outputs = p.outputs;
-  fixed = λ n from inside. fixed_stays s.cells address word n place from ∙ p.fixed n from inside;
-}
-fresh_setting machine image s (Port address word) place below p = record {
-  state = record {
-    a = p.state.a;
-    q = p.state.q;
-    index = p.state.index;
-    location = p.state.location;
-    cells_count = p.state.cells_count;
-    cells = p.state.cells;
-    inputs_count = set_length s.inputs (place_of machine.ports.inputs address) word ∙ p.state.inputs_count;
-    inputs = set_words s.inputs (place_of machine.ports.inputs address) word p.state.inputs below;
-    outputs_count = p.state.outputs_count;
-    outputs = p.state.outputs;
-  };
-  running = p.running;
-  a = p.a;
-  q = p.q;
-  index = p.index;
-  indicator = p.indicator;
-  outputs = p.outputs;
-  fixed = p.fixed;
-}
-fresh_setting machine image s _ place word p = p
+-- a setting changes the location, a cell or an input register, and no more
+module _ (machine : Machine) (image : List (Option ℕ)) (s : State) (p : IsFresh machine image s) where
+  fresh_with : {location : ℕ} {cells inputs : List ℕ} → location < 4096 → length cells ≡ 4096 → AreWords cells
+      → length inputs ≡ length machine.ports.inputs → AreWords inputs → HasFixedWords image (record s { cells = cells })
+      → IsFresh machine image (record s { location = location; cells = cells; inputs = inputs })
+  fresh_with below cells_count cells inputs_count inputs fixed = record {
+    state = record {
+      a = p.state.a;
+      q = p.state.q;
+      index = p.state.index;
+      location = below;
+      cells_count = cells_count;
+      cells = cells;
+      inputs_count = inputs_count;
+      inputs = inputs;
+      outputs_count = p.state.outputs_count;
+      outputs = p.state.outputs;
+    };
+    running = p.running;
+    a = p.a;
+    q = p.q;
+    index = p.index;
+    indicator = p.indicator;
+    outputs = p.outputs;
+    fixed = fixed;
+  }
+
+  fresh_setting : (command : Command) → NamesLocation command → NamesWord command → IsFresh machine image (with_setting machine s command)
+  fresh_setting (Start address) place word =
+      fresh_with place p.state.cells_count p.state.cells p.state.inputs_count p.state.inputs p.fixed
+  fresh_setting (Cell address word) place below = fresh_with p.state.location
+      (chosen_length (nat_lt address 2048) (set s.cells address word) s.cells 4096 (length-set s.cells address word ∙ p.state.cells_count) p.state.cells_count)
+      (chosen_words (nat_lt address 2048) (set s.cells address word) s.cells (All-set (λ w. w < 2 ^ 18) s.cells address word below p.state.cells) p.state.cells)
+      p.state.inputs_count p.state.inputs
+      (λ n from inside. fixed_stays s.cells address word n place from ∙ p.fixed n from inside)
+  fresh_setting (Port address word) place below = fresh_with p.state.location p.state.cells_count p.state.cells
+      (set_length s.inputs (place_of machine.ports.inputs address) word ∙ p.state.inputs_count)
+      (set_words s.inputs (place_of machine.ports.inputs address) word p.state.inputs below)
+      p.fixed
+  fresh_setting _ place word = p
 
 fresh_settings : (machine : Machine) (image : List (Option ℕ)) (s : State) (commands : List Command) → All NamesLocation commands → All NamesWord commands → IsFresh machine image s
     → IsFresh machine image (with_settings machine s commands)
 fresh_settings machine image s [] places words p = p
 fresh_settings machine image s (command ∷ commands) places words p =
     fresh_settings machine image (with_setting machine s command) commands (All-tail NamesLocation command commands places) (All-tail NamesWord command commands words)
-    (fresh_setting machine image s command (All-head NamesLocation command commands places) (All-head NamesWord command commands words) p)
+    (fresh_setting machine image s p command (All-head NamesLocation command commands places) (All-head NamesWord command commands words))
 
 fresh_start : (machine : Machine) (image : List (Option ℕ)) (start : ℕ) → IsImage image → start < 4096 → IsFresh machine image (start_state machine image start)
 fresh_start machine image start is below = record {
