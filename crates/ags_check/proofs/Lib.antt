@@ -1,4 +1,3 @@
-mod CellLemmas
 mod CoverageLemmas
 mod JudgingLemmas
 mod MovedLemmas

@@ -1,4 +1,4 @@
-use Rattle.ags_check.proofs.CellLemmas.{cells_below}
+use Rattle.ags_row.proofs.CellLemmas.{cells_below}
 use Rattle.ags_check.proofs.starts.holds_start.Goals as goal
 
 pub cells_hold_start-requires : goal.cells_hold_start-requires
