@@ -1,3 +1,4 @@
+pub mod CertifiedLineLemmas
 pub mod CertifyLemmas
 pub mod CommandLemmas
 pub mod CompareLemmas

@@ -1,9 +1,9 @@
 -- What `ags_main` says, from its content: command by command and status by status.
-use Rattle.std.proofs.Common.{◌≡◌, ℕ, List, ◌++◌, length, ◌⊎◌, Option, Some, None, Ok, refl, sym, ap, subst, ◌∙◌, inl, inr}
+use Rattle.std.proofs.Common.{◌≡◌, ℕ, ◌≤◌, List, ◌++◌, length, ◌⊎◌, Option, Some, None, Ok, refl, sym, ap, subst, ◌∙◌, inl, inr}
 use Rattle.ags_outside.specs.ToldFile.{Stored}
 use Rattle.ags_outside.specs.Sink.{appended}
 use Rattle.ags_plan.specs.Plan.{Plan, End, AbsentAt, LongAt, RefusedAt, WorkAt}
-use Rattle.ags_plan.specs.Walk.{Told, Agrees, Tells, RefusesWithin, EndsAt, LeadsTo, IsGiven}
+use Rattle.ags_plan.specs.Walk.{Told, Agrees, Tells, EndsAt, LeadsTo, IsGiven}
 use Rattle.ags_plan.specs.Answer.{ComesWith, IsAnswer}
 use Rattle.ags_plan.specs.Outcome.{Answered, Ends, EndsExactly, FindsRefusal}
 use Rattle.ags_plan.proofs.WalkLemmas.{told_bytes, way_to_refused}
@@ -43,8 +43,8 @@ use Rattle.ags_top.specs.declared.status.Status.{Status}
 use Rattle.ags_top.specs.declared.status.Status.TheVariants.{Done, No, BadMachine, BadSource, BadWords, BadCert, BadText}
 use Rattle.ags_top.specs.declared.source_texts.SourceText.{SourceText}
 use Rattle.ags_top.specs.Command.{Command, Write, Compare, Certify, Run, Guard, CommandLine, line_arguments, line_of, AreNoForm}
-use Rattle.ags_top.specs.Files.{Kind, MachineFile, Source, Listing, Certificate, Script, refused_status}
-use Rattle.ags_top.specs.Outcome.{EndsWith, IsMachineOf, WritesWhatIsDefined, IsComparedOn, ComparesWhatIsDefined, IsJudgedOn, JudgesWhatIsDefined, IsCertifiedOn, CertifiesWhatIsSafe, TellsMachine, TellsAccepted, CertifiesAccepted, ReadsCertificateFault, BadCertExactly, IsOneImage, EqualsWhatIsDefined, IsShownOn, PlaysWhatIsDefined, IsGuardedOn, GuardsWhatIsDefined, IsDeclaredOn, PlaysWhatIsDeclared, DoneAlways, NoExactly, BadWordsExactly, ReadsMachineFault, BadMachineExactly, ReadsFault, BadSourceExactly, ReadsScriptFault, ReadsListingFault, BadTextExactly}
+use Rattle.ags_top.specs.Files.{Kind, MachineFile, Source, Listing, Certificate, Script, limit_of, Refuses, refused_status}
+use Rattle.ags_top.specs.Outcome.{EndsWith, IsMachineOf, WritesWhatIsDefined, IsComparedOn, ComparesWhatIsDefined, IsJudgedOn, JudgesWhatIsDefined, IsCertifiedOn, CertifiesWhatIsSafe, TellsMachine, TellsAccepted, CertifiesAccepted, BadCertExactly, IsOneImage, EqualsWhatIsDefined, IsShownOn, PlaysWhatIsDefined, IsGuardedOn, GuardsWhatIsDefined, IsDeclaredOn, PlaysWhatIsDeclared, DoneAlways, NoExactly, BadWordsExactly, ReadsFault, BadMachineExactly, BadSourceExactly, BadTextExactly}
 use Rattle.ags_top.specs.Program.{program, command_plan, plan_on, asked_plan, plan_of}
 use Rattle.ags_top.specs.ProgramLaws.{IsWorkStatus, comes_to_no_form, lawful_program, not_refused_work}
 use Rattle.ags_top.specs.Text.{words_line, certificate_fault_line, fault_line, listing_fault_line, machine_fault_line, script_fault_line, verdict_line}
@@ -228,7 +228,7 @@ module _ (told : Told) (arguments : List (List ℕ)) (old new : Option (List ℕ
   answer_with status is = subst (λ (s : Status). Ends program (IsAnswer program told (plan_of arguments)) old new s) is ends
 
   -- the machine of a command line that these arguments are, and the way to the work in which they end
-  way_asked : (machine_file : Option (List ℕ)) (command : Command) (work : Work) → arguments ≡ line_arguments (record { command = command; machine = machine_file })
+  pub way_asked : (machine_file : Option (List ℕ)) (command : Command) (work : Work) → arguments ≡ line_arguments (record { command = command; machine = machine_file })
       → EndsAt program Agrees told (plan_of arguments) (WorkAt work)
       → (machine : Machine) × IsMachineOf told machine_file machine × IsMachine machine × LeadsTo program Agrees told (command_plan machine command) work
   way_asked machine_file command work asked found =
@@ -391,126 +391,86 @@ module _ (told : Told) (arguments : List (List ℕ)) (old new : Option (List ℕ
       no_line None is none = rw is refl
       no_line (Some line) is none = absurd (none line (line_arguments-line_of arguments line is))
 
+  -- the file that a run refused, of a kind with that status
+  refused_file : (status : Status) → FindsRefusal program told (plan_of arguments) old new result status
+      → (kind : Kind) × (refused_status kind ≡ status) × ReadsFault kind told arguments old new
+  refused_file status found = (
+    found.kind,
+    found.status_is,
+    record {
+      name = found.name;
+      bytes = found.bytes;
+      given = found.given;
+      short = found.refuses.short;
+      line = found.line;
+      refuses = found.refuses.refuses;
+      sent = found.sent;
+    },
+  )
+
+  -- where the walk comes to a file with a fault, the run ends with the status of its kind
+  refused_always : (kind : Kind) (name bytes line : List ℕ) → IsGiven program Tells told (plan_of arguments) kind name bytes → length bytes ≤ limit_of kind
+      → Refuses kind bytes line → EndsWith result (refused_status kind)
+  refused_always kind name bytes line given short refuses =
+      (refused_exactly program plan_of lawful_program told arguments old new result ends kind).always name bytes line given
+      (record { short = short; refuses = refuses })
+
   pub bad_machine_exactly : BadMachineExactly told arguments old new result
   bad_machine_exactly = record {
-    only = λ is. of_refusal ((refused_exactly program plan_of lawful_program told arguments old new result ends MachineFile).only is);
+    only = λ is. of_kind (refused_file BadMachine ((refused_exactly program plan_of lawful_program told arguments old new result ends MachineFile).only is));
     always = λ name bytes error given short faulty.
-        (refused_exactly program plan_of lawful_program told arguments old new result ends MachineFile).always name bytes (machine_fault_line error) given
-        (record { short = short; refuses = record { error = error; faulty = faulty; line_is = refl } });
+        refused_always MachineFile name bytes (machine_fault_line error) given short (record { error = error; faulty = faulty; line_is = refl });
   }
     where
-      of_refusal : FindsRefusal program told (plan_of arguments) old new result BadMachine → ReadsMachineFault told arguments old new
-      of_refusal found = of_kind found.kind found.status_is found.given found.refuses found.sent
-        where
-          of_kind : (kind : Kind) → refused_status kind ≡ BadMachine → IsGiven program Agrees told (plan_of arguments) kind found.name found.bytes
-              → RefusesWithin program kind found.bytes found.line → new ≡ appended old found.line → ReadsMachineFault told arguments old new
-          of_kind MachineFile is given refuses sent = record {
-            name = found.name;
-            bytes = found.bytes;
-            given = given;
-            short = refuses.short;
-            error = refuses.refuses.error;
-            faulty = refuses.refuses.faulty;
-            sent = sent ∙ ap (appended old) refuses.refuses.line_is;
-          }
-          of_kind (Source machine) is given refuses sent = absurd cc
-          of_kind Listing is given refuses sent = absurd cc
-          of_kind (Certificate machine) is given refuses sent = absurd cc
-          of_kind (Script machine) is given refuses sent = absurd cc
+      of_kind : (kind : Kind) × (refused_status kind ≡ BadMachine) × ReadsFault kind told arguments old new → ReadsFault MachineFile told arguments old new
+      of_kind (MachineFile, is, found) = found
+      of_kind (Source machine, is, found) = absurd cc
+      of_kind (Listing, is, found) = absurd cc
+      of_kind (Certificate machine, is, found) = absurd cc
+      of_kind (Script machine, is, found) = absurd cc
 
   pub bad_source_exactly : BadSourceExactly told arguments old new result
   bad_source_exactly = record {
-    only = λ is. of_refusal ((refused_exactly program plan_of lawful_program told arguments old new result ends (Source standard_machine)).only is);
+    only = λ is. of_kind (refused_file BadSource ((refused_exactly program plan_of lawful_program told arguments old new result ends (Source standard_machine)).only is));
     always = λ machine name bytes error given short faulty.
-        (refused_exactly program plan_of lawful_program told arguments old new result ends (Source machine)).always name bytes (fault_line error) given
-        (record { short = short; refuses = record { error = error; faulty = faulty; line_is = refl } });
+        refused_always (Source machine) name bytes (fault_line error) given short (record { error = error; faulty = faulty; line_is = refl });
   }
     where
-      of_refusal : FindsRefusal program told (plan_of arguments) old new result BadSource → ReadsFault told arguments old new
-      of_refusal found = of_kind found.kind found.status_is found.given found.refuses found.sent
-        where
-          of_kind : (kind : Kind) → refused_status kind ≡ BadSource → IsGiven program Agrees told (plan_of arguments) kind found.name found.bytes
-              → RefusesWithin program kind found.bytes found.line → new ≡ appended old found.line → ReadsFault told arguments old new
-          of_kind MachineFile is given refuses sent = absurd cc
-          of_kind (Source machine) is given refuses sent = record {
-            machine = machine;
-            name = found.name;
-            bytes = found.bytes;
-            given = given;
-            short = refuses.short;
-            error = refuses.refuses.error;
-            faulty = refuses.refuses.faulty;
-            sent = sent ∙ ap (appended old) refuses.refuses.line_is;
-          }
-          of_kind Listing is given refuses sent = absurd cc
-          of_kind (Certificate machine) is given refuses sent = absurd cc
-          of_kind (Script machine) is given refuses sent = absurd cc
+      of_kind : (kind : Kind) × (refused_status kind ≡ BadSource) × ReadsFault kind told arguments old new → (machine : Machine) × ReadsFault (Source machine) told arguments old new
+      of_kind (Source machine, is, found) = (machine, found)
+      of_kind (MachineFile, is, found) = absurd cc
+      of_kind (Listing, is, found) = absurd cc
+      of_kind (Certificate machine, is, found) = absurd cc
+      of_kind (Script machine, is, found) = absurd cc
 
   pub bad_cert_exactly : BadCertExactly told arguments old new result
   bad_cert_exactly = record {
-    only = λ is. of_refusal ((refused_exactly program plan_of lawful_program told arguments old new result ends (Certificate standard_machine)).only is);
+    only = λ is. of_kind (refused_file BadCert ((refused_exactly program plan_of lawful_program told arguments old new result ends (Certificate standard_machine)).only is));
     always = λ machine name bytes line kind given short faulty.
-        (refused_exactly program plan_of lawful_program told arguments old new result ends (Certificate machine)).always name bytes (certificate_fault_line (certificate.At line kind)) given
-        (record { short = short; refuses = record { number = line; kind = kind; faulty = faulty; line_is = refl } });
+        refused_always (Certificate machine) name bytes (certificate_fault_line (certificate.At line kind)) given short
+        (record { number = line; kind = kind; faulty = faulty; line_is = refl });
   }
     where
-      of_refusal : FindsRefusal program told (plan_of arguments) old new result BadCert → ReadsCertificateFault told arguments old new
-      of_refusal found = of_kind found.kind found.status_is found.given found.refuses found.sent
-        where
-          of_kind : (kind : Kind) → refused_status kind ≡ BadCert → IsGiven program Agrees told (plan_of arguments) kind found.name found.bytes
-              → RefusesWithin program kind found.bytes found.line → new ≡ appended old found.line → ReadsCertificateFault told arguments old new
-          of_kind MachineFile is given refuses sent = absurd cc
-          of_kind (Source machine) is given refuses sent = absurd cc
-          of_kind Listing is given refuses sent = absurd cc
-          of_kind (Script machine) is given refuses sent = absurd cc
-          of_kind (Certificate machine) is given refuses sent = record {
-            machine = machine;
-            name = found.name;
-            bytes = found.bytes;
-            given = given;
-            short = refuses.short;
-            line = refuses.refuses.number;
-            kind = refuses.refuses.kind;
-            faulty = refuses.refuses.faulty;
-            sent = sent ∙ ap (appended old) refuses.refuses.line_is;
-          }
+      of_kind : (kind : Kind) × (refused_status kind ≡ BadCert) × ReadsFault kind told arguments old new → (machine : Machine) × ReadsFault (Certificate machine) told arguments old new
+      of_kind (Certificate machine, is, found) = (machine, found)
+      of_kind (MachineFile, is, found) = absurd cc
+      of_kind (Source machine, is, found) = absurd cc
+      of_kind (Listing, is, found) = absurd cc
+      of_kind (Script machine, is, found) = absurd cc
 
   pub bad_text_exactly : BadTextExactly told arguments old new result
   bad_text_exactly = record {
-    only = λ is. of_refusal ((refused_exactly program plan_of lawful_program told arguments old new result ends Listing).only is);
+    only = λ is. of_kind (refused_file BadText ((refused_exactly program plan_of lawful_program told arguments old new result ends Listing).only is));
     always = λ machine name bytes line kind given short faulty.
-        (refused_exactly program plan_of lawful_program told arguments old new result ends (Script machine)).always name bytes (script_fault_line (At line kind)) given
-        (record { short = short; refuses = record { number = line; kind = kind; faulty = faulty; line_is = refl } });
+        refused_always (Script machine) name bytes (script_fault_line (At line kind)) given short (record { number = line; kind = kind; faulty = faulty; line_is = refl });
     always_listing = λ name bytes error given short faulty.
-        (refused_exactly program plan_of lawful_program told arguments old new result ends Listing).always name bytes (listing_fault_line error) given
-        (record { short = short; refuses = record { error = error; faulty = faulty; line_is = refl } });
+        refused_always Listing name bytes (listing_fault_line error) given short (record { error = error; faulty = faulty; line_is = refl });
   }
     where
-      of_refusal : FindsRefusal program told (plan_of arguments) old new result BadText → ReadsScriptFault told arguments old new ⊎ ReadsListingFault told arguments old new
-      of_refusal found = of_kind found.kind found.status_is found.given found.refuses found.sent
-        where
-          of_kind : (kind : Kind) → refused_status kind ≡ BadText → IsGiven program Agrees told (plan_of arguments) kind found.name found.bytes
-              → RefusesWithin program kind found.bytes found.line → new ≡ appended old found.line → ReadsScriptFault told arguments old new ⊎ ReadsListingFault told arguments old new
-          of_kind MachineFile is given refuses sent = absurd cc
-          of_kind (Source machine) is given refuses sent = absurd cc
-          of_kind Listing is given refuses sent = inr (record {
-            name = found.name;
-            bytes = found.bytes;
-            given = given;
-            short = refuses.short;
-            error = refuses.refuses.error;
-            faulty = refuses.refuses.faulty;
-            sent = sent ∙ ap (appended old) refuses.refuses.line_is;
-          })
-          of_kind (Certificate machine) is given refuses sent = absurd cc
-          of_kind (Script machine) is given refuses sent = inl (record {
-            machine = machine;
-            name = found.name;
-            bytes = found.bytes;
-            given = given;
-            short = refuses.short;
-            line = refuses.refuses.number;
-            kind = refuses.refuses.kind;
-            faulty = refuses.refuses.faulty;
-            sent = sent ∙ ap (appended old) refuses.refuses.line_is;
-          })
+      of_kind : (kind : Kind) × (refused_status kind ≡ BadText) × ReadsFault kind told arguments old new
+          → ((machine : Machine) × ReadsFault (Script machine) told arguments old new) ⊎ ReadsFault Listing told arguments old new
+      of_kind (Script machine, is, found) = inl (machine, found)
+      of_kind (Listing, is, found) = inr found
+      of_kind (MachineFile, is, found) = absurd cc
+      of_kind (Source machine, is, found) = absurd cc
+      of_kind (Certificate machine, is, found) = absurd cc

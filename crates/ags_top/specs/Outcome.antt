@@ -1,7 +1,7 @@
 -- What `ags_main` comes to, command by command and status by status, in the program's own words.
 use Rattle.std.specs.Prelude.{◌≡◌, ℕ, ◌≤◌, ◌⊎◌, List, [], ◌++◌, length, Option, Some, None, Ok, Err}
 use Rattle.ags_outside.specs.ToldFile.{Stored}
-use Rattle.ags_outside.specs.Sink.{appended}
+use Rattle.ags_outside.specs.Sink.{appended, WroteFront}
 use Rattle.ags_plan.specs.Plan.{WorkAt}
 use Rattle.ags_plan.specs.Walk.{Told, Agrees, Tells, EndsAt, IsGiven}
 use Rattle.ags_plan.specs.Outcome as plan
@@ -11,7 +11,6 @@ use Rattle.ags_asm.specs.Source.{Defines, IsFaulty, placed_words}
 use Rattle.ags_cert.specs.Cert.{Stated, certificate_of}
 use Rattle.ags_certread.specs.declared.reading.TheConstants.{CERT_LIMIT}
 use Rattle.ags_certtext.specs.declared.cert_error.CertKind.{CertKind}
-use Rattle.ags_certtext.specs.declared.cert_error.CertError.TheVariants as certificate
 use Rattle.ags_certtext.specs.Text.{IsCertOf, IsFaultyCert}
 use Rattle.ags_domain.specs.Value.{value_meaning}
 use Rattle.ags_domain.specs.declared.values.Value.{Value}
@@ -32,7 +31,6 @@ use Rattle.ags_verdict.specs.declared.verdicts.Refusal.{Refusal}
 use Rattle.ags_verdict.specs.declared.verdicts.Verdict.TheVariants.{Certified, Refused}
 use Rattle.ags_script.specs.declared.commands.Command.{Command}
 use Rattle.ags_script.specs.declared.script_errors.ScriptKind.{ScriptKind}
-use Rattle.ags_script.specs.declared.script_errors.ScriptError.TheVariants.{At}
 use Rattle.ags_script.specs.declared.scripts.TheConstants.{SCRIPT_LIMIT}
 use Rattle.ags_script.specs.Script.{IsScript, IsFaultyScript}
 use Rattle.ags_play.specs.Begun.{IsRunOf}
@@ -44,9 +42,9 @@ use Rattle.ags_top.specs.declared.status.Status.TheVariants.{Done, No, BadMachin
 use Rattle.ags_top.specs.declared.source_texts.SourceText.{SourceText}
 use Rattle.ags_top.specs.Command as command
 use Rattle.ags_top.specs.Command.{line_arguments, AreNoForm}
-use Rattle.ags_top.specs.Files as file
+use Rattle.ags_top.specs.Files.{Kind, MachineFile, Source, Listing, Certificate, Script, limit_of, Refuses}
 use Rattle.ags_top.specs.Program.{program, plan_of}
-use Rattle.ags_top.specs.Text.{certificate_fault_line, fault_line, listing_fault_line, machine_fault_line, met_line, script_fault_line, verdict_line, words_line}
+use Rattle.ags_top.specs.Text.{certified_word, met_line, verdict_line, words_line}
 use Rattle.ags_top.specs.Work.{Work, IsTextOf, IsComparisonOf, IsJudgementOf, IsShownBy, IsGuardedBy, met_status, Makes}
 use Rattle.ags_listing.specs.Listing.{listing}
 
@@ -235,9 +233,9 @@ pub record IsDeclaredPlay (machine : Machine) (image : List (Option ℕ)) (cert 
   pub text_is : text ≡ verdict_line (Certified (length cert.rows) cases) ++ shown ++ met_line met
   pub status_is : status ≡ met_status met
 
--- The source defines words, the certificate is one for the machine's registers and the script has commands for the machine; and for the
--- image of exactly these words the certificate is refused, or the play is a run of it.
-pub record IsDeclaredOn (machine : Machine) (source script certificate text : List ℕ) (status : Status) : Type 0 where
+-- The source defines words, the certificate is one for the machine's registers and the script has commands for the machine; and this
+-- comes of them for the image of exactly these words.
+pub record ComesOn (Comes : (image : List (Option ℕ)) → Stated → List Command → Type 0) (machine : Machine) (source script certificate : List ℕ) : Type 0 where
   pub defined : List (Option PlacedWord)
   pub defines : Defines machine.codes source defined
   pub image : List (Option ℕ)
@@ -246,7 +244,17 @@ pub record IsDeclaredOn (machine : Machine) (source script certificate text : Li
   pub is_cert : IsCertOf machine.ports certificate cert
   pub commands : List Command
   pub is_script : IsScript machine script commands
-  pub comes : IsRefusedFor machine image cert text status ⊎ IsDeclaredPlay machine image cert commands text status
+  pub comes : Comes image cert commands
+
+-- the certificate is refused for the words that the source defines, or the script's play on them is a run of it
+abbrev pub IsDeclaredOn : Machine → (source script certificate text : List ℕ) → Status → Type 0
+IsDeclaredOn machine source script certificate text status =
+    ComesOn (λ image cert commands. IsRefusedFor machine image cert text status ⊎ IsDeclaredPlay machine image cert commands text status) machine source script certificate
+
+-- the certificate is accepted for the words that the source defines, and the script's play on them is a run of it
+abbrev pub IsSafeOn : Machine → (source script certificate text : List ℕ) → Status → Type 0
+IsSafeOn machine source script certificate text status =
+    ComesOn (λ image cert commands. IsDeclaredPlay machine image cert commands text status) machine source script certificate
 
 -- The actual run: where the run of `guard` ends with Done or with No, and the shelf tells, what is played is a run of the certificate,
 -- every run of which is safe, or the certificate is refused; and where the sink tells, it took what is shown of that run.
@@ -257,6 +265,17 @@ PlaysWhatIsDeclared told arguments old new result = (source script certificate s
     → told script ≡ Stored script_bytes → told certificate ≡ Stored certificate_bytes
     → (machine : Machine) × IsMachineOf told machine_file machine
     × ((text : List ℕ) × IsDeclaredOn machine source_bytes script_bytes certificate_bytes text result × (new ≡ appended old text))
+
+-- Where the shelf and the sink tell, and what the sink took of a run of `guard` begins as the line of a certificate that is certified
+-- does, then, whatever the run ends with, the certificate is accepted for the words that the source defines, so that every run of
+-- them is safe; and what the sink took is a front, or all, of what is shown of a play that is such a run.
+abbrev pub SafeWhereCertifiedIsWritten : (told : Told) (arguments : List (List ℕ)) (old new : Option (List ℕ)) → Type 0
+SafeWhereCertifiedIsWritten told arguments old new =
+    (source script certificate source_bytes script_bytes certificate_bytes held behind : List ℕ) (machine_file : Option (List ℕ))
+    → arguments ≡ line_arguments (record { command = command.Guard source script certificate; machine = machine_file }) → told source ≡ Stored source_bytes
+    → told script ≡ Stored script_bytes → told certificate ≡ Stored certificate_bytes → old ≡ Some held → new ≡ Some (held ++ (certified_word ++ behind))
+    → (machine : Machine) × IsMachineOf told machine_file machine
+    × ((text : List ℕ) × (status : Status) × IsSafeOn machine source_bytes script_bytes certificate_bytes text status × WroteFront old new text)
 
 -- Where the walk over told files comes to a work that is done with Done, the run ends so, unless it stops: each file on the way
 -- is there, within its limit and without a fault.
@@ -289,86 +308,39 @@ pub record BadWordsExactly (arguments : List (List ℕ)) (old new : Option (List
   pub only : result ≡ BadWords → SaysNoForm arguments old new
   pub always : AreNoForm arguments → EndsWith result BadWords
 
--- Over files that agree with what the shelf tells, the walk comes to a machine file that fails that test, and the sink took its
--- line.
-pub record ReadsMachineFault (told : Told) (arguments : List (List ℕ)) (old new : Option (List ℕ)) : Type 0 where
+-- Over files that agree with what the shelf tells, the walk comes to a file of that kind that is within its limit and has a fault, and
+-- the sink took the line of its first one.
+pub record ReadsFault (kind : Kind) (told : Told) (arguments : List (List ℕ)) (old new : Option (List ℕ)) : Type 0 where
   pub name : List ℕ
   pub bytes : List ℕ
-  pub given : IsGiven program Agrees told (plan_of arguments) file.MachineFile name bytes
-  pub short : length bytes ≤ MACHINE_LIMIT
-  pub error : MachError
-  pub faulty : machine_of bytes ≡ Err error
-  pub sent : new ≡ appended old (machine_fault_line error)
+  pub given : IsGiven program Agrees told (plan_of arguments) kind name bytes
+  pub short : length bytes ≤ limit_of kind
+  pub line : List ℕ
+  pub refuses : Refuses kind bytes line
+  pub sent : new ≡ appended old line
 
 -- BadMachine comes exactly where the walk comes to a machine file that fails a test; the first one is printed
 pub record BadMachineExactly (told : Told) (arguments : List (List ℕ)) (old new : Option (List ℕ)) (result : Status) : Type 0 where
-  pub only : result ≡ BadMachine → ReadsMachineFault told arguments old new
-  pub always : (name bytes : List ℕ) (error : MachError) → IsGiven program Tells told (plan_of arguments) file.MachineFile name bytes → length bytes ≤ MACHINE_LIMIT
+  pub only : result ≡ BadMachine → ReadsFault MachineFile told arguments old new
+  pub always : (name bytes : List ℕ) (error : MachError) → IsGiven program Tells told (plan_of arguments) MachineFile name bytes → length bytes ≤ MACHINE_LIMIT
       → machine_of bytes ≡ Err error → EndsWith result BadMachine
-
--- Over files that agree with what the shelf tells, the walk comes to a source with that fault, and the sink took the fault's line.
-pub record ReadsFault (told : Told) (arguments : List (List ℕ)) (old new : Option (List ℕ)) : Type 0 where
-  pub machine : Machine
-  pub name : List ℕ
-  pub bytes : List ℕ
-  pub given : IsGiven program Agrees told (plan_of arguments) (file.Source machine) name bytes
-  pub short : length bytes ≤ SOURCE_LIMIT
-  pub error : SourceError
-  pub faulty : IsFaulty bytes error
-  pub sent : new ≡ appended old (fault_line error)
 
 -- BadSource comes exactly where the walk comes to a source that has a faulty card, whose number and fault are printed
 pub record BadSourceExactly (told : Told) (arguments : List (List ℕ)) (old new : Option (List ℕ)) (result : Status) : Type 0 where
-  pub only : result ≡ BadSource → ReadsFault told arguments old new
-  pub always : (machine : Machine) (name bytes : List ℕ) (error : SourceError) → IsGiven program Tells told (plan_of arguments) (file.Source machine) name bytes
+  pub only : result ≡ BadSource → (machine : Machine) × ReadsFault (Source machine) told arguments old new
+  pub always : (machine : Machine) (name bytes : List ℕ) (error : SourceError) → IsGiven program Tells told (plan_of arguments) (Source machine) name bytes
       → length bytes ≤ SOURCE_LIMIT → IsFaulty bytes error → EndsWith result BadSource
-
--- Over files that agree with what the shelf tells, the walk comes to a script with that fault for its machine, and the sink took
--- the fault's line.
-pub record ReadsScriptFault (told : Told) (arguments : List (List ℕ)) (old new : Option (List ℕ)) : Type 0 where
-  pub machine : Machine
-  pub name : List ℕ
-  pub bytes : List ℕ
-  pub given : IsGiven program Agrees told (plan_of arguments) (file.Script machine) name bytes
-  pub short : length bytes ≤ SCRIPT_LIMIT
-  pub line : ℕ
-  pub kind : ScriptKind
-  pub faulty : IsFaultyScript machine bytes line kind
-  pub sent : new ≡ appended old (script_fault_line (At line kind))
-
--- Over files that agree with what the shelf tells, the walk comes to a certificate with that fault for its machine, and the sink took
--- the fault's line.
-pub record ReadsCertificateFault (told : Told) (arguments : List (List ℕ)) (old new : Option (List ℕ)) : Type 0 where
-  pub machine : Machine
-  pub name : List ℕ
-  pub bytes : List ℕ
-  pub given : IsGiven program Agrees told (plan_of arguments) (file.Certificate machine) name bytes
-  pub short : length bytes ≤ CERT_LIMIT
-  pub line : ℕ
-  pub kind : CertKind
-  pub faulty : IsFaultyCert machine.ports bytes line kind
-  pub sent : new ≡ appended old (certificate_fault_line (certificate.At line kind))
 
 -- BadCert comes exactly where the walk comes to a certificate that has a faulty line, whose number and fault are printed
 pub record BadCertExactly (told : Told) (arguments : List (List ℕ)) (old new : Option (List ℕ)) (result : Status) : Type 0 where
-  pub only : result ≡ BadCert → ReadsCertificateFault told arguments old new
-  pub always : (machine : Machine) (name bytes : List ℕ) (line : ℕ) (kind : CertKind) → IsGiven program Tells told (plan_of arguments) (file.Certificate machine) name bytes
+  pub only : result ≡ BadCert → (machine : Machine) × ReadsFault (Certificate machine) told arguments old new
+  pub always : (machine : Machine) (name bytes : List ℕ) (line : ℕ) (kind : CertKind) → IsGiven program Tells told (plan_of arguments) (Certificate machine) name bytes
       → length bytes ≤ CERT_LIMIT → IsFaultyCert machine.ports bytes line kind → EndsWith result BadCert
-
--- Over files that agree with what the shelf tells, the walk comes to a listing with that fault, and the sink took the fault's line.
-pub record ReadsListingFault (told : Told) (arguments : List (List ℕ)) (old new : Option (List ℕ)) : Type 0 where
-  pub name : List ℕ
-  pub bytes : List ℕ
-  pub given : IsGiven program Agrees told (plan_of arguments) file.Listing name bytes
-  pub short : length bytes ≤ LISTING_LIMIT
-  pub error : ListError
-  pub faulty : IsFaultyListing bytes error
-  pub sent : new ≡ appended old (listing_fault_line error)
 
 -- BadText comes exactly where the walk comes to a listing or a script that has a faulty line, whose number and fault are printed
 pub record BadTextExactly (told : Told) (arguments : List (List ℕ)) (old new : Option (List ℕ)) (result : Status) : Type 0 where
-  pub only : result ≡ BadText → ReadsScriptFault told arguments old new ⊎ ReadsListingFault told arguments old new
-  pub always : (machine : Machine) (name bytes : List ℕ) (line : ℕ) (kind : ScriptKind) → IsGiven program Tells told (plan_of arguments) (file.Script machine) name bytes
+  pub only : result ≡ BadText → ((machine : Machine) × ReadsFault (Script machine) told arguments old new) ⊎ ReadsFault Listing told arguments old new
+  pub always : (machine : Machine) (name bytes : List ℕ) (line : ℕ) (kind : ScriptKind) → IsGiven program Tells told (plan_of arguments) (Script machine) name bytes
       → length bytes ≤ SCRIPT_LIMIT → IsFaultyScript machine bytes line kind → EndsWith result BadText
-  pub always_listing : (name bytes : List ℕ) (error : ListError) → IsGiven program Tells told (plan_of arguments) file.Listing name bytes
+  pub always_listing : (name bytes : List ℕ) (error : ListError) → IsGiven program Tells told (plan_of arguments) Listing name bytes
       → length bytes ≤ LISTING_LIMIT → IsFaultyListing bytes error → EndsWith result BadText

@@ -58,6 +58,10 @@ compared_line (Differs location left right) =
 abbrev pub verdict_line : Verdict Value → List ℕ
 verdict_line verdict = verdict_text verdict ++ codes "\n"
 
+-- the word with which the line of a certificate begins that is certified
+abbrev pub certified_word : List ℕ
+certified_word = codes "CERTIFIED"
+
 -- what a play met, where it met something
 abbrev pub met_line : Met → List ℕ
 met_line Nothing = []

@@ -5,7 +5,7 @@ ghost use Rattle.std.specs.String.{string_bytes};
 ghost use Rattle.ags_outside.specs.Count.{Rose};
 ghost use Rattle.ags_plan.specs.Answer.{IsAnswer, TellsFiles};
 ghost use Rattle.ags_plan.specs.Outcome.{AbsentExactly, Ends, EndsExactly, IsCleanOnShelf, IsCleanOnSink, LongExactly};
-ghost use Rattle.ags_top.specs.Outcome.{BadCertExactly, BadMachineExactly, BadSourceExactly, BadTextExactly, BadWordsExactly, CertifiesAccepted, CertifiesWhatIsSafe, ComparesWhatIsDefined, DoneAlways, EqualsWhatIsDefined, GuardsWhatIsDefined, JudgesWhatIsDefined, NoExactly, PlaysWhatIsDeclared, PlaysWhatIsDefined, WritesWhatIsDefined};
+ghost use Rattle.ags_top.specs.Outcome.{BadCertExactly, BadMachineExactly, BadSourceExactly, BadTextExactly, BadWordsExactly, CertifiesAccepted, CertifiesWhatIsSafe, ComparesWhatIsDefined, DoneAlways, EqualsWhatIsDefined, GuardsWhatIsDefined, JudgesWhatIsDefined, NoExactly, PlaysWhatIsDeclared, PlaysWhatIsDefined, SafeWhereCertifiedIsWritten, WritesWhatIsDefined};
 ghost use Rattle.ags_top.specs.Program.{plan_of, program};
 
 use crate::program::Ags;
@@ -34,7 +34,7 @@ pub fn ags_main<S: Shelf, K: Sink>(
     // The headline: where it answers certified, what is printed is what the source defines, and every run of it is safe. What is
     // written of a source is what it defines, a listing is said to be equal only where its words are those, and what is shown is
     // a play of the script on them. What is shown under a guard is shown of an actual run that is safe: one of a certificate that
-    // is accepted for those words.
+    // is accepted for those words; and wherever it is written that it is certified, that is so, even where the output stops there.
     ensures certified { CertifiesWhatIsSafe (S.told shelf.old) (map string_bytes arguments.now) (K.told out.old) (K.told out.new) result }
     ensures judged { JudgesWhatIsDefined (S.told shelf.old) (map string_bytes arguments.now) (K.told out.old) (K.told out.new) result }
     ensures listed { WritesWhatIsDefined SourceText.Listing (S.told shelf.old) (map string_bytes arguments.now) (K.told out.old) (K.told out.new) result }
@@ -45,6 +45,7 @@ pub fn ags_main<S: Shelf, K: Sink>(
     ensures played { PlaysWhatIsDefined (S.told shelf.old) (map string_bytes arguments.now) (K.told out.old) (K.told out.new) result }
     ensures guarded { GuardsWhatIsDefined (S.told shelf.old) (map string_bytes arguments.now) (K.told out.old) (K.told out.new) result }
     ensures actual { PlaysWhatIsDeclared (S.told shelf.old) (map string_bytes arguments.now) (K.told out.old) (K.told out.new) result }
+    ensures certified_line { SafeWhereCertifiedIsWritten (S.told shelf.old) (map string_bytes arguments.now) (K.told out.old) (K.told out.new) }
     // Good files are answered, and an accepted certificate is certified.
     ensures accepted { CertifiesAccepted (S.told shelf.old) (map string_bytes arguments.now) result }
     ensures done { DoneAlways (S.told shelf.old) (map string_bytes arguments.now) result }

@@ -4,6 +4,7 @@ use Rattle.ags_plan.proofs.StatusLemmas.{absent_exactly, long_exactly, ends_exac
 use Rattle.ags_top.specs.declared.source_texts.SourceText.TheVariants.{Listing, Tape, CrossReference}
 use Rattle.ags_top.specs.Program.{plan_of, program}
 use Rattle.ags_top.specs.ProgramLaws.{lawful_program}
+use Rattle.ags_top.proofs.CertifiedLineLemmas.{safe_where_certified_is_written}
 use Rattle.ags_top.proofs.MainLemmas.{writes_what_is_defined, compares_what_is_defined, equals_what_is_defined, judges_what_is_defined, certifies_what_is_safe, certifies_accepted, bad_cert_exactly, plays_what_is_defined, guards_what_is_defined, plays_what_is_declared, done_always, no_exactly, bad_words_exactly, bad_machine_exactly, bad_source_exactly, bad_text_exactly}
 use Rattle.ags_top.proofs.main_call.ags_main.Goals as goal
 
@@ -58,6 +59,10 @@ returns-clause-guarded g c =
 pub returns-clause-actual : goal.returns-clause-actual
 returns-clause-actual g c =
     plays_what_is_declared (g.S.Shelf.told c.args.shelf.now) (map string_bytes c.args.arguments.now) (g.K.Sink.told c.args.out.now) (g.K.Sink.told c.run.new.out) c.run.result c.run.ensures.content
+
+pub returns-clause-certified_line : goal.returns-clause-certified_line
+returns-clause-certified_line g c =
+    safe_where_certified_is_written (g.S.Shelf.told c.args.shelf.now) (map string_bytes c.args.arguments.now) (g.K.Sink.told c.args.out.now) (g.K.Sink.told c.run.new.out) c.run.result c.run.ensures.content
 
 pub returns-clause-done : goal.returns-clause-done
 returns-clause-done g c =
