@@ -4,23 +4,8 @@ ghost use Rattle.std.specs.Prelude.{Some};
 
 use ags_certtext::{Entry, RowLine, Statement};
 use ags_domain::Value;
-use ags_text::octal4;
+use ags_text::FourDigits;
 use std::fmt;
-
-/// An address that prints as four octal digits.
-#[derive(Clone, Copy)]
-struct FourDigits(u16);
-
-impl fmt::Display for FourDigits {
-    ghost use Rattle.ags_text.specs.Numeral.{octal4_text};
-
-    ghost output = { λ address. Some (octal4_text address.0) };
-
-    fn fmt<W: fmt::Write>(&self, f: &mut fmt::Formatter<W>) -> fmt::Result {
-        let digits = octal4(u32::from(self.0));
-        f.write_str(str::from_utf8(&digits).unwrap())
-    }
-}
 
 /// The flags of eight indices, which print as the digits of those that are set.
 #[derive(Clone, Copy)]

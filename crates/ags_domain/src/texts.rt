@@ -8,21 +8,8 @@ ghost use Rattle.ags_domain.specs.ValueText.{are_full};
 use crate::named_words::{first_word, low_bits};
 use crate::ranges::Range;
 use crate::values::Value;
-use ags_word::Word;
+use ags_word::{SixDigits, Word};
 use std::fmt;
-
-/// A word that prints as six octal digits.
-#[derive(Clone, Copy)]
-struct SixDigits(Word);
-
-impl fmt::Display for SixDigits {
-    ghost output = { λ word. Some (octal6_text word.0) };
-
-    fn fmt<W: fmt::Write>(&self, f: &mut fmt::Formatter<W>) -> fmt::Result {
-        let digits = self.0.octal6();
-        f.write_str(str::from_utf8(&digits).unwrap())
-    }
-}
 
 /// Words that print with a blank before each.
 #[derive(Clone, Copy)]

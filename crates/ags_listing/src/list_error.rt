@@ -1,6 +1,6 @@
 //! Why a listing has no image.
 
-use ags_text::octal4;
+use ags_text::FourDigits;
 use std::fmt;
 
 /// The first fault of a listing, or want of memory.
@@ -20,22 +20,6 @@ pub enum ListError {
     },
     /// Number 3: there was too little memory.
     NoMemory,
-}
-
-/// A number that prints as its last four octal digits.
-#[derive(Clone, Copy)]
-struct FourDigits(u16);
-
-impl fmt::Display for FourDigits {
-    ghost use Rattle.std.specs.Prelude.{Some};
-    ghost use Rattle.ags_text.specs.Numeral.{octal4_text};
-
-    ghost output = { λ number. Some (octal4_text number.0) };
-
-    fn fmt<W: fmt::Write>(&self, f: &mut fmt::Formatter<W>) -> fmt::Result {
-        let digits = octal4(u32::from(self.0));
-        f.write_str(str::from_utf8(&digits).unwrap())
-    }
 }
 
 /// A place that comes twice, as it stands in the line of a listing's fault: the number and the name of the fault, and the place.

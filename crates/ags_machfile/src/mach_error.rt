@@ -2,7 +2,7 @@
 
 use crate::keys::Key;
 use ags_isa::Order;
-use ags_text::octal4;
+use ags_text::FourDigits;
 use std::fmt;
 
 /// Why a machine file wasn't read: the first test that it fails, in the order of docs/MACHINE.md (Machine files), or want of
@@ -35,22 +35,6 @@ pub enum MachError {
     },
     /// The memory didn't suffice.
     NoMemory,
-}
-
-/// An address that prints as its last four octal digits.
-#[derive(Clone, Copy)]
-struct FourDigits(u16);
-
-impl fmt::Display for FourDigits {
-    ghost use Rattle.std.specs.Prelude.{Some};
-    ghost use Rattle.ags_text.specs.Numeral.{octal4_text};
-
-    ghost output = { λ address. Some (octal4_text address.0) };
-
-    fn fmt<W: fmt::Write>(&self, f: &mut fmt::Formatter<W>) -> fmt::Result {
-        let digits = octal4(u32::from(self.0));
-        f.write_str(str::from_utf8(&digits).unwrap())
-    }
 }
 
 /// Prints the line of a machine file's fault, without a line feed, and nothing where memory didn't suffice.

@@ -5,6 +5,7 @@
 mod faults;
 mod field_laws;
 mod fields;
+mod four_digits;
 mod line_laws;
 mod lines;
 mod numerals;
@@ -18,6 +19,7 @@ pub use field_laws::{
     standing_fields_are_cut,
 };
 pub use fields::{are_blanks, split_field, split_leading_field};
+pub use four_digits::FourDigits;
 pub use line_laws::{lines_follow, lines_make_up_the_text, text_is_cut_in_one_way};
 pub use lines::{Line, Lines};
 pub use numerals::{decimal7, numeral_writes, octal4, octal6, read_decimal, read_octal};

@@ -4,39 +4,9 @@ ghost use Rattle.std.specs.Prelude.{Some};
 
 use crate::verdicts::{Refusal, Verdict};
 use ags_domain::{Operands, Value};
-use ags_text::octal4;
-use ags_word::Word;
+use ags_text::FourDigits;
+use ags_word::{SixDigits, Word};
 use std::fmt;
-
-/// A word that prints as six octal digits.
-#[derive(Clone, Copy)]
-struct SixDigits(Word);
-
-impl fmt::Display for SixDigits {
-    ghost use Rattle.ags_text.specs.Numeral.{octal6_text};
-
-    ghost output = { λ word. Some (octal6_text word.0) };
-
-    fn fmt<W: fmt::Write>(&self, f: &mut fmt::Formatter<W>) -> fmt::Result {
-        let digits = self.0.octal6();
-        f.write_str(str::from_utf8(&digits).unwrap())
-    }
-}
-
-/// An address that prints as its last four octal digits.
-#[derive(Clone, Copy)]
-struct FourDigits(u16);
-
-impl fmt::Display for FourDigits {
-    ghost use Rattle.ags_text.specs.Numeral.{octal4_text};
-
-    ghost output = { λ address. Some (octal4_text address.0) };
-
-    fn fmt<W: fmt::Write>(&self, f: &mut fmt::Formatter<W>) -> fmt::Result {
-        let digits = octal4(u32::from(self.0));
-        f.write_str(str::from_utf8(&digits).unwrap())
-    }
-}
 
 /// A row's number with a case's word.
 #[derive(Clone, Copy)]

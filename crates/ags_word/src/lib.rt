@@ -8,11 +8,13 @@ pub mod laws;
 mod longs;
 mod octals;
 mod products;
+mod six_digits;
 mod sums;
 mod whole;
 mod words;
 
 pub use longs::Long;
+pub use six_digits::SixDigits;
 pub use words::Word;
 
 #[cfg(test)]

@@ -1,6 +1,6 @@
 use Rattle.std.proofs.Common.{arith}
 use Rattle.ags_text.proofs.NumeralLemmas.{text_of_digits, IsAscii-numeral}
-use Rattle.ags_domain.proofs.texts.SixDigitsDisplay.fmt.Goals as goal
+use Rattle.ags_word.proofs.six_digits.SixDigitsDisplay.fmt.Goals as goal
 
 pub unwrap-requires : goal.unwrap-requires
 unwrap-requires g c =
