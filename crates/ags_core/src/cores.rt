@@ -1,6 +1,6 @@
 //! The core: what it holds, how it begins, and what is read of it and set in it.
 
-ghost use Rattle.std.specs.Prelude.{◌≡◌, ◌<◌, length, IfOk, bit_or, slice_index, slice_set};
+ghost use Rattle.std.specs.Prelude.{◌≡◌, ◌<◌, length, IfOk, slice_index, slice_set};
 ghost use Rattle.ags_ports.specs.declared.machines.Machine.{Machine};
 ghost use Rattle.ags_ports.specs.State.{IsState, cell, next_location, cells_with_word};
 ghost use Rattle.ags_ports.specs.Effect.{moved_on, overflowing};
@@ -191,15 +191,6 @@ impl Core {
         ensures { self.new ≡ moved_on self.old }
     {
         self.location = self.next_location();
-    }
-
-    /// An address with the bits of the index register.
-    pub(crate) fn with_index(&self, address: u16) -> u16
-        requires { address < 4096 }
-        ensures bits { result ≡ bit_or address self.now.index }
-        ensures below { result < 4096 }
-    {
-        address | u16::from(self.index)
     }
 
     /// Stores a word in the cell at an address, if it isn't fixed.

@@ -1,13 +1,13 @@
 //! One order: the address that it acts on, and what it does.
 
 ghost use Rattle.std.specs.Prelude.{◌≡◌, ◌<◌, length};
-ghost use Rattle.ags_ports.specs.Effect.{counts_index, effect, effective};
+ghost use Rattle.ags_ports.specs.Effect.{effect, effective};
 ghost use Rattle.ags_core.specs.OrderReport.{Does};
 
 use crate::cores::Core;
 use crate::order_reports::OrderReport;
 use ags_isa::{Decoded, Order};
-use ags_ports::Machine;
+use ags_ports::{Machine, effective_address};
 
 impl Core {
     /// Does what an order does.
@@ -18,7 +18,7 @@ impl Core {
         ensures { Does (effect machine.now self.old decoded.order
             (effective self.old decoded.order decoded.indexed decoded.address) decoded.address) self.new result }
     {
-        let e = self.effective(decoded);
+        let e = effective_address(decoded, self.index);
         self.do_order(machine, decoded.order, e, decoded.address)
     }
 
@@ -59,37 +59,5 @@ impl Core {
             Order::Tra => self.tra(e),
             Order::Tsq => self.tsq(machine, e),
         }
-    }
-
-    /// The address that an order acts on.
-    fn effective(&self, decoded: Decoded) -> u16
-        requires { decoded.address < 4096 }
-        ensures address { result ≡ effective self.now decoded.order decoded.indexed decoded.address }
-        ensures below { result < 4096 }
-    {
-        if decoded.indexed && counts_index(decoded.order) {
-            self.with_index(decoded.address)
-        } else {
-            decoded.address
-        }
-    }
-}
-
-/// Whether the index bit counts in an order.
-fn counts_index(order: Order) -> bool
-    ensures { result ≡ counts_index order }
-{
-    match order {
-        Order::Tix
-        | Order::Axt
-        | Order::Als
-        | Order::Lls
-        | Order::Lrs
-        | Order::Com
-        | Order::Abs
-        | Order::Inp
-        | Order::Out
-        | Order::Dly => false,
-        _ => true,
     }
 }

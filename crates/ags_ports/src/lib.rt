@@ -5,6 +5,7 @@
 //! how long its steps take. No call takes memory.
 #![tactic(auto)]
 
+mod addressing;
 mod events;
 pub mod exact_laws;
 pub mod laws;
@@ -14,6 +15,7 @@ pub mod run_laws;
 pub mod time_laws;
 mod time_tables;
 
+pub use addressing::effective_address;
 pub use events::{Event, Phase, Report, Stored};
 pub use machines::Machine;
 pub use registers::{Port, Ports};

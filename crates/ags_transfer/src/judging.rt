@@ -1,10 +1,9 @@
 //! The posts of a case: its word is read, and the order that it names is judged.
 
-ghost use Rattle.std.specs.Prelude.{◌≡◌, ◌<◌, bit_or, Ok};
+ghost use Rattle.std.specs.Prelude.{◌≡◌, ◌<◌, Ok};
 ghost use Rattle.ags_ports.specs.declared.events.Event.TheVariants.{Step};
 ghost use Rattle.ags_ports.specs.declared.events.Report.{Report};
 ghost use Rattle.ags_ports.specs.State.{State, IsState};
-ghost use Rattle.ags_ports.specs.Effect.{counts_index, effective_at};
 ghost use Rattle.ags_ports.specs.Step.{Steps};
 ghost use Rattle.ags_posts.specs.Case.{case_of};
 ghost use Rattle.ags_posts.specs.InRow.{IsInCase};
@@ -15,9 +14,9 @@ ghost use Rattle.ags_posts.specs.declared.answers.PostPair.{PostPair};
 use crate::cases::Case;
 use ags_domain::Domain;
 use ags_image::Image;
-use ags_isa::{Decoded, Order, decode};
-use ags_ports::Machine;
+use ags_isa::{Order, decode};
 use ags_ports::laws::machine_is_made_of_tables;
+use ags_ports::{Machine, effective_address};
 use ags_posts::laws::one_step_follows_the_posts;
 use ags_posts::{PostPair, Stop};
 use ags_row::{Limits, Row};
@@ -62,7 +61,7 @@ fn posts_of_case<'a, D: Domain>(case: &Case<'a, D>) -> Result<PostPair<D>, Stop<
 {
     match decode(&case.machine.codes, case.word) {
         Some(decoded) => {
-            let e = case.effective(decoded);
+            let e = effective_address(decoded, case.index);
             case.order(decoded.order, e, decoded.address)
         }
         None => Err(Stop::NoOrder),
@@ -70,20 +69,6 @@ fn posts_of_case<'a, D: Domain>(case: &Case<'a, D>) -> Result<PostPair<D>, Stop<
 }
 
 impl<'a, D: Domain> Case<'a, D> {
-    /// The address that an order acts on.
-    fn effective(&self, decoded: Decoded) -> u16
-        requires address { decoded.address < 4096 }
-        requires index { self.now.index < 8 }
-        ensures address { result ≡ effective_at self.now.index decoded.order decoded.indexed decoded.address }
-        ensures below { result < 4096 }
-    {
-        if decoded.indexed && counts_index(decoded.order) {
-            with_index(decoded.address, self.index)
-        } else {
-            decoded.address
-        }
-    }
-
     /// The posts of an order at an address y, where it acts on an address e.
     fn order(&self, order: Order, e: u16, y: u16) -> Result<PostPair<D>, Stop<D>>
         requires acts_on { e < 4096 }
@@ -119,34 +104,5 @@ impl<'a, D: Domain> Case<'a, D> {
             Order::Tra => self.tra(e),
             Order::Tsq => self.tsq(e),
         }
-    }
-}
-
-/// An address with the bits of the index register.
-fn with_index(address: u16, index: u8) -> u16
-    requires address { address < 4096 }
-    requires index { index < 8 }
-    ensures bits { result ≡ bit_or address index }
-    ensures below { result < 4096 }
-{
-    address | u16::from(index)
-}
-
-/// Whether the index bit counts in an order.
-fn counts_index(order: Order) -> bool
-    ensures { result ≡ counts_index order }
-{
-    match order {
-        Order::Tix
-        | Order::Axt
-        | Order::Als
-        | Order::Lls
-        | Order::Lrs
-        | Order::Com
-        | Order::Abs
-        | Order::Inp
-        | Order::Out
-        | Order::Dly => false,
-        _ => true,
     }
 }
