@@ -180,13 +180,27 @@ fn other_machines(rt: HostRuntime) -> Result<(), Fail> {
     Ok(())
 }
 
+/// Looks at the fault of each machine file.
+fn expect_faults(rt: &impl Abort, alloc: Global, rows: &[(&[u8], &str)]) -> Result<(), Fail> {
+    for (text, wanted) in rows.iter().copied() {
+        expect_fault(rt, alloc, text, wanted)?;
+    }
+    Ok(())
+}
+
 #[test]
-fn faults_of_registers(rt: HostRuntime) -> Result<(), Fail> {
-    let alloc = rt.alloc();
-    let rows: [(&[u8], &str); 36] = [
+fn faults_of_documents(rt: HostRuntime) -> Result<(), Fail> {
+    let rows: [(&[u8], &str); 3] = [
         (b"= =", "MACHINE ERROR 1 NotToml"),
         (b"# \xff", "MACHINE ERROR 1 NotToml"),
         (b"deda_in = 1\ndeda_in = 1", "MACHINE ERROR 1 NotToml"),
+    ];
+    expect_faults(&rt, rt.alloc(), &rows)
+}
+
+#[test]
+fn faults_of_tables(rt: HostRuntime) -> Result<(), Fail> {
+    let rows: [(&[u8], &str); 8] = [
         (b"codes = 1", "MACHINE ERROR 3 BadValue codes"),
         (b"[[codes]]", "MACHINE ERROR 3 BadValue codes"),
         (
@@ -198,6 +212,13 @@ fn faults_of_registers(rt: HostRuntime) -> Result<(), Fail> {
         (b"[times]", "MACHINE ERROR 2 MissingKey times.ABS"),
         (b"times = 1\ncodes = 1", "MACHINE ERROR 3 BadValue codes"),
         (b"input = 1\ntimes = 1", "MACHINE ERROR 3 BadValue times"),
+    ];
+    expect_faults(&rt, rt.alloc(), &rows)
+}
+
+#[test]
+fn faults_of_input_addresses(rt: HostRuntime) -> Result<(), Fail> {
+    let rows: [(&[u8], &str); 7] = [
         (b"input = { address = 1 }", "MACHINE ERROR 3 BadValue input"),
         (b"input = [1]", "MACHINE ERROR 3 BadValue input.0"),
         (b"input = [{}]", "MACHINE ERROR 2 MissingKey input.0"),
@@ -217,6 +238,13 @@ fn faults_of_registers(rt: HostRuntime) -> Result<(), Fail> {
             b"input = [{ address = \"16\" }]",
             "MACHINE ERROR 3 BadValue input.0",
         ),
+    ];
+    expect_faults(&rt, rt.alloc(), &rows)
+}
+
+#[test]
+fn faults_of_once_and_same_addresses(rt: HostRuntime) -> Result<(), Fail> {
+    let rows: [(&[u8], &str); 6] = [
         (
             b"input = [{ address = 1, once = 1 }]",
             "MACHINE ERROR 3 BadValue input.0",
@@ -241,6 +269,13 @@ fn faults_of_registers(rt: HostRuntime) -> Result<(), Fail> {
             b"input = [{ address = 9 }, { address = 4095 }, { address = 0o7777 }, {}]",
             "MACHINE ERROR 5 SamePort 7777",
         ),
+    ];
+    expect_faults(&rt, rt.alloc(), &rows)
+}
+
+#[test]
+fn faults_of_outputs(rt: HostRuntime) -> Result<(), Fail> {
+    let rows: [(&[u8], &str); 5] = [
         (
             b"output = 1\ninput = []\n",
             "MACHINE ERROR 3 BadValue output",
@@ -258,6 +293,13 @@ fn faults_of_registers(rt: HostRuntime) -> Result<(), Fail> {
             b"[[output]]\naddress = 5\n[[output]]",
             "MACHINE ERROR 2 MissingKey output.1",
         ),
+    ];
+    expect_faults(&rt, rt.alloc(), &rows)
+}
+
+#[test]
+fn faults_of_panel_registers(rt: HostRuntime) -> Result<(), Fail> {
+    let rows: [(&[u8], &str); 7] = [
         (b"deda_in = 4096", "MACHINE ERROR 3 BadValue deda_in"),
         (b"deda_in = true", "MACHINE ERROR 3 BadValue deda_in"),
         (
@@ -272,9 +314,12 @@ fn faults_of_registers(rt: HostRuntime) -> Result<(), Fail> {
             "MACHINE ERROR 3 BadValue output",
         ),
     ];
-    for (text, wanted) in rows {
-        expect_fault(&rt, alloc, text, wanted)?;
-    }
+    expect_faults(&rt, rt.alloc(), &rows)
+}
+
+#[test]
+fn too_many_registers_are_a_fault(rt: HostRuntime) -> Result<(), Fail> {
+    let alloc = rt.alloc();
     let mut many = String::from_str(alloc, "output = [")?;
     for _ in 0..33 {
         many.push_str("1,")?;
@@ -285,14 +330,18 @@ fn faults_of_registers(rt: HostRuntime) -> Result<(), Fail> {
         alloc,
         many.as_bytes(),
         "MACHINE ERROR 3 BadValue output",
-    )?;
-    let line = format!(in alloc; "{}", MachError::NoMemory)?;
+    )
+}
+
+#[test]
+fn want_of_memory_prints_nothing(rt: HostRuntime) -> Result<(), Fail> {
+    let line = format!(in rt.alloc(); "{}", MachError::NoMemory)?;
     assert!(rt; line.is_empty());
     Ok(())
 }
 
 #[test]
-fn faults_of_orders(rt: HostRuntime) -> Result<(), Fail> {
+fn missing_orders_are_a_fault(rt: HostRuntime) -> Result<(), Fail> {
     let alloc = rt.alloc();
     for (order, _) in CODES {
         let missing = table(alloc, "[codes]", &CODES, order, "")?;
@@ -302,44 +351,39 @@ fn faults_of_orders(rt: HostRuntime) -> Result<(), Fail> {
         let wanted = format!(in alloc; "MACHINE ERROR 2 MissingKey times.{order}")?;
         expect_fault(&rt, alloc, missing.as_bytes(), wanted.as_str())?;
     }
+    Ok(())
+}
+
+#[test]
+fn bad_codes_and_times_are_a_fault(rt: HostRuntime) -> Result<(), Fail> {
+    let alloc = rt.alloc();
     for value in [
         "63", "64", "1", "0o21", "-2", "16.0", "true", "\"16\"", "[16]",
     ] {
         let wrong = table(alloc, "[codes]", &CODES, "ADD", value)?;
-        expect_fault(
-            &rt,
-            alloc,
-            wrong.as_bytes(),
-            "MACHINE ERROR 3 BadValue codes.ADD",
-        )?;
+        let wanted = "MACHINE ERROR 3 BadValue codes.ADD";
+        expect_fault(&rt, alloc, wrong.as_bytes(), wanted)?;
     }
     for value in ["0", "1001", "-1", "10.0", "false", "\"10\"", "{}"] {
         let wrong = table(alloc, "[times]", &TIMES, "TSQ", value)?;
-        expect_fault(
-            &rt,
-            alloc,
-            wrong.as_bytes(),
-            "MACHINE ERROR 3 BadValue times.TSQ",
-        )?;
+        let wanted = "MACHINE ERROR 3 BadValue times.TSQ";
+        expect_fault(&rt, alloc, wrong.as_bytes(), wanted)?;
     }
+    Ok(())
+}
+
+#[test]
+fn orders_of_one_code_are_a_fault(rt: HostRuntime) -> Result<(), Fail> {
+    let alloc = rt.alloc();
     let same = table(alloc, "[codes]", &CODES, "ADD", "0o20")?;
-    expect_fault(
-        &rt,
-        alloc,
-        same.as_bytes(),
-        "MACHINE ERROR 4 SameCode ADD CLA",
-    )?;
+    let wanted = "MACHINE ERROR 4 SameCode ADD CLA";
+    expect_fault(&rt, alloc, same.as_bytes(), wanted)?;
     // TSQ and DVP have the code of ABS, and ABS and DVP are the least pair.
     let mut rows = CODES;
     rows[26] = ("TSQ", "0o62");
     let three = table(alloc, "[codes]", &rows, "DVP", "0o62")?;
-    expect_fault(
-        &rt,
-        alloc,
-        three.as_bytes(),
-        "MACHINE ERROR 4 SameCode ABS DVP",
-    )?;
-    Ok(())
+    let wanted = "MACHINE ERROR 4 SameCode ABS DVP";
+    expect_fault(&rt, alloc, three.as_bytes(), wanted)
 }
 
 #[test]

@@ -59,10 +59,8 @@ fn wants_digit(machine: &Machine, core: &Core) -> bool
 fn digit_word(digit: u8) -> Word
     ensures { result ≡ 16 + digit }
 {
-    match Word::of(DIGIT_BASE + u32::from(digit)) {
-        Some(word) => word,
-        None => Word::ZERO,
-    }
+    // a digit is a byte, so there is room for it
+    Word::of(DIGIT_BASE + u32::from(digit)).unwrap()
 }
 
 /// Puts a word where the guard lets it through.

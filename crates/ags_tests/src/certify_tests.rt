@@ -184,7 +184,17 @@ fn refuses_what_is_out_of_range(rt: HostRuntime) -> Result<(), Fail> {
     Ok(())
 }
 
-// A certificate with a fault is told by its line, without a listing; and the machine file and the source come before it.
+/// Compares the fault of a certificate.
+fn compare_fault(
+    rt: &(impl AllocGlobal + std::process::Abort),
+    certificate: &str,
+    line: &str,
+) -> Result<(), Fail> {
+    let files = [("S", RETURN.as_bytes()), ("C", certificate.as_bytes())];
+    compare_over(rt, &files, "certify S C", 9, Status::BadCert, line)
+}
+
+// A certificate with a fault is told by its line, without a listing.
 #[test]
 fn says_the_first_fault_of_a_certificate(rt: HostRuntime) -> Result<(), Fail> {
     let rows = [
@@ -213,9 +223,13 @@ fn says_the_first_fault_of_a_certificate(rt: HostRuntime) -> Result<(), Fail> {
         ("AGSCERT 1\nEND\n", "CERTIFICATE LINE 2 ERROR 9 NoRows\n"),
     ];
     for (certificate, line) in rows {
-        let files = [("S", RETURN.as_bytes()), ("C", certificate.as_bytes())];
-        compare_over(&rt, &files, "certify S C", 9, Status::BadCert, line)?;
+        compare_fault(&rt, certificate, line)?;
     }
+    Ok(())
+}
+
+#[test]
+fn reads_the_certificate_behind_machine_file_and_source(rt: HostRuntime) -> Result<(), Fail> {
     let files = [("S", b" _CLA 1\n".as_slice()), ("T", RETURN.as_bytes())];
     let others = [
         ("certify T Z", Status::AbsentFile, "ABSENT Z\n"),
@@ -284,21 +298,9 @@ fn add_row(text: &mut String, number: u8) -> Result<(), Fail> {
     Ok(())
 }
 
-/// Compares the fault of a certificate.
-fn compare_fault(
-    rt: &(impl AllocGlobal + std::process::Abort),
-    certificate: &str,
-    line: &str,
-) -> Result<(), Fail> {
-    let files = [("S", RETURN.as_bytes()), ("C", certificate.as_bytes())];
-    compare_over(rt, &files, "certify S C", 9, Status::BadCert, line)
-}
-
-// Numbers at their limits, and one past them: rows in all, rows at one location, cells of a row, and bytes of a line.
 #[test]
-fn counts_rows_cells_and_bytes(rt: HostRuntime) -> Result<(), Fail> {
-    let alloc = rt.alloc();
-    let mut rows = String::from_str(alloc, "AGSCERT 1\nSTART 4000\n")?;
+fn counts_rows(rt: HostRuntime) -> Result<(), Fail> {
+    let mut rows = String::from_str(rt.alloc(), "AGSCERT 1\nSTART 4000\n")?;
     for _ in 0..500 {
         for number in 0..40 {
             add_row(&mut rows, number)?;
@@ -306,21 +308,23 @@ fn counts_rows_cells_and_bytes(rt: HostRuntime) -> Result<(), Fail> {
     }
     add_row(&mut rows, 40)?;
     rows.push_str("END\n")?;
-    compare_fault(
-        &rt,
-        rows.as_str(),
-        "CERTIFICATE LINE 20003 ERROR 7 TooManyRows\n",
-    )?;
-    let mut at_one = String::from_str(alloc, "AGSCERT 1\n")?;
+    let line = "CERTIFICATE LINE 20003 ERROR 7 TooManyRows\n";
+    compare_fault(&rt, rows.as_str(), line)
+}
+
+#[test]
+fn counts_rows_at_one_location(rt: HostRuntime) -> Result<(), Fail> {
+    let mut rows = String::from_str(rt.alloc(), "AGSCERT 1\n")?;
     for _ in 0..513 {
-        add_row(&mut at_one, 0)?;
+        add_row(&mut rows, 0)?;
     }
-    compare_fault(
-        &rt,
-        at_one.as_str(),
-        "CERTIFICATE LINE 514 ERROR 7 TooManyRows\n",
-    )?;
-    let mut cells = String::from_str(alloc, "AGSCERT 1\nROW 4000 A ANY Q ANY X 0 V 0\n")?;
+    let line = "CERTIFICATE LINE 514 ERROR 7 TooManyRows\n";
+    compare_fault(&rt, rows.as_str(), line)
+}
+
+#[test]
+fn counts_cells_of_a_row(rt: HostRuntime) -> Result<(), Fail> {
+    let mut cells = String::from_str(rt.alloc(), "AGSCERT 1\nROW 4000 A ANY Q ANY X 0 V 0\n")?;
     for high in ["000", "001", "002", "003", "004", "005", "006", "007"] {
         for low in ["0", "1", "2", "3", "4", "5", "6", "7"] {
             for part in ["AT ", high, low, " ANY\n"] {
@@ -329,16 +333,18 @@ fn counts_rows_cells_and_bytes(rt: HostRuntime) -> Result<(), Fail> {
         }
     }
     cells.push_str("AT 0100 ANY\n")?;
-    compare_fault(
-        &rt,
-        cells.as_str(),
-        "CERTIFICATE LINE 67 ERROR 8 TooManyAt\n",
-    )?;
+    let line = "CERTIFICATE LINE 67 ERROR 8 TooManyAt\n";
+    compare_fault(&rt, cells.as_str(), line)
+}
+
+// A line has 512 bytes at most; the comment that is longer is no line.
+#[test]
+fn counts_bytes_of_a_line(rt: HostRuntime) -> Result<(), Fail> {
     for (bytes, line) in [
         (512, "CERTIFICATE LINE 3 ERROR 9 NoRows\n"),
         (513, "CERTIFICATE LINE 2 ERROR 1 BadLine\n"),
     ] {
-        let mut long = String::from_str(alloc, "AGSCERT 1\n")?;
+        let mut long = String::from_str(rt.alloc(), "AGSCERT 1\n")?;
         for _ in 0..bytes {
             long.push_str("#")?;
         }

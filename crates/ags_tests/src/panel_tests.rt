@@ -231,73 +231,73 @@ fn stops_before_a_start_outside(rt: HostRuntime) -> Result<(), Fail> {
 /// A source with a word in the cell 0020, which waits for a pulse at 4010.
 const ASSEMBLED: &str = " ORG /20\n OCT 7\n ORG /4010\n DLY /4010\n";
 
-/// A source, a script and a certificate, with the status and what stands behind the verdict.
-type Begun = (
-    &'static str,
-    &'static str,
-    &'static str,
-    Status,
-    &'static str,
-);
+/// A certificate that starts with 5 in the cell 0020.
+const STATED: &str = "AGSCERT 1\nINIT 0020 WORDS 000005\nROW 4000 A ANY Q ANY X 0 V 0\nEND\n";
 
-// Places that no line of the script names are tested too, and an assembled cell begins with its word alone.
+/// A certificate with 5 to 9 at the input register 2001.
+const NARROW: &str = "AGSCERT 1\nIN 2001 RANGE 5 9\nROW 4000 A ANY Q ANY X 0 V 0\nEND\n";
+
+/// A certificate that states a start of the cell 0020, which `ASSEMBLED` assembles.
+const RESTATED: &str =
+    "AGSCERT 1\nSTART 4010\nINIT 0020 RANGE 0 9\nROW 4010 A ANY Q ANY X 0 V 0\nEND\n";
+
+/// A script, with the status and what stands behind the verdict.
+type Begun = (&'static str, Status, &'static str);
+
+/// Compares how each script begins on a source, under a certificate.
+fn compare_starts(
+    rt: &(impl AllocGlobal + Abort),
+    source: &str,
+    certificate: &str,
+    rows: &[Begun],
+) -> Result<(), Fail> {
+    for (script, status, shown) in rows.iter().copied() {
+        let mut text = String::from_str(rt.alloc(), "CERTIFIED ROWS 1 CASES 1\n")?;
+        text.push_str(shown)?;
+        compare_guarded(rt, (source, script, certificate), status, text.as_str())?;
+    }
+    Ok(())
+}
+
 #[test]
-fn tests_each_start(rt: HostRuntime) -> Result<(), Fail> {
-    let stated = "AGSCERT 1\nINIT 0020 WORDS 000005\nROW 4000 A ANY Q ANY X 0 V 0\nEND\n";
-    let assembled =
-        "AGSCERT 1\nSTART 4010\nINIT 0020 RANGE 0 9\nROW 4010 A ANY Q ANY X 0 V 0\nEND\n";
-    let narrow = "AGSCERT 1\nIN 2001 RANGE 5 9\nROW 4000 A ANY Q ANY X 0 V 0\nEND\n";
-    let rows: [Begun; 7] = [
+fn tests_each_cell_of_the_start(rt: HostRuntime) -> Result<(), Fail> {
+    let rows = [
+        ("SHOW REG\n", Status::No, "OUTSIDE CELL 0020 000000\n"),
         (
-            WAITING,
-            "SHOW REG\n",
-            stated,
-            Status::No,
-            "OUTSIDE CELL 0020 000000\n",
-        ),
-        (
-            WAITING,
             "CELL 0020 000005\nSHOW CELL 0020\n",
-            stated,
             Status::Done,
             "CELL 0020 000005\n",
         ),
+    ];
+    compare_starts(&rt, WAITING, STATED, &rows)
+}
+
+#[test]
+fn tests_each_register_of_the_start(rt: HostRuntime) -> Result<(), Fail> {
+    let rows = [
+        ("SHOW REG\n", Status::No, "OUTSIDE PORT 2001 000000\n"),
+        ("PORT 2001 000005\n", Status::Done, ""),
+    ];
+    compare_starts(&rt, WAITING, NARROW, &rows)
+}
+
+// An assembled cell begins with its word alone.
+#[test]
+fn tests_assembled_cells_of_the_start(rt: HostRuntime) -> Result<(), Fail> {
+    let rows = [
         (
-            WAITING,
             "SHOW REG\n",
-            narrow,
-            Status::No,
-            "OUTSIDE PORT 2001 000000\n",
-        ),
-        (WAITING, "PORT 2001 000005\n", narrow, Status::Done, ""),
-        (
-            ASSEMBLED,
-            "SHOW REG\n",
-            assembled,
             Status::Done,
             "A 000000 Q 000000 X 0 V 0 P 4010 R\n",
         ),
         (
-            ASSEMBLED,
             "CELL 0020 000005\n",
-            assembled,
             Status::No,
             "OUTSIDE CELL 0020 000005\n",
         ),
-        (
-            ASSEMBLED,
-            "START 4000\n",
-            assembled,
-            Status::No,
-            "OUTSIDE START 4000 4010\n",
-        ),
+        ("START 4000\n", Status::No, "OUTSIDE START 4000 4010\n"),
     ];
-    for (source, script, certificate, status, shown) in rows {
-        let mut text = String::from_str(rt.alloc(), "CERTIFIED ROWS 1 CASES 1\n")?;
-        text.push_str(shown)?;
-        compare_guarded(&rt, (source, script, certificate), status, text.as_str())?;
-    }
-    Ok(())
+    compare_starts(&rt, ASSEMBLED, RESTATED, &rows)
 }
 
 // The digit of a FEED, and that of a cycle, are tested as the word of a SET is.
@@ -328,22 +328,31 @@ fn tests_what_the_panel_sends(rt: HostRuntime) -> Result<(), Fail> {
     Ok(())
 }
 
-// A refused certificate is all that is said, and the certificate is read before the script.
+/// A certificate that is refused for the source below.
+const REFUSED: &str = "AGSCERT 1\nROW 4000 A ANY Q ANY X 0 V 0\nEND\n";
+
+/// A source whose order stores in a fixed cell.
+const STORING: &str = " ORG /4000\n CLZ /4000\n";
+
 #[test]
-fn guards_nothing_that_is_refused(rt: HostRuntime) -> Result<(), Fail> {
-    let refused = "AGSCERT 1\nROW 4000 A ANY Q ANY X 0 V 0\nEND\n";
+fn plays_nothing_under_a_refused_certificate(rt: HostRuntime) -> Result<(), Fail> {
     compare_guarded(
         &rt,
-        (" ORG /4000\n CLZ /4000\n", "SHOW REG\n", refused),
+        (STORING, "SHOW REG\n", REFUSED),
         Status::No,
         "REFUSED 6 FixedWrite ROW 1 WORD 304000 AT 4000\n",
-    )?;
+    )
+}
+
+// The machine file is read first, then the source, the certificate and the script.
+#[test]
+fn reads_the_files_of_a_guarded_run_in_order(rt: HostRuntime) -> Result<(), Fail> {
     let files = [
         ("S", WAITING.as_bytes()),
         ("C", SMALL_DIGITS.as_bytes()),
         ("B", b"AGSCERT 2\n".as_slice()),
-        ("R", refused.as_bytes()),
-        ("T", b" ORG /4000\n CLZ /4000\n".as_slice()),
+        ("R", REFUSED.as_bytes()),
+        ("T", STORING.as_bytes()),
         ("P", b"STEP\n".as_slice()),
     ];
     let rows = [

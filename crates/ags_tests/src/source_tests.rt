@@ -17,9 +17,9 @@ fn compare_faults(rt: &(impl AllocGlobal + Abort), rows: &[Faulty<'_>]) -> Resul
 }
 
 #[test]
-fn says_what_is_no_card(rt: HostRuntime) -> Result<(), Fail> {
+fn says_which_line_is_no_text(rt: HostRuntime) -> Result<(), Fail> {
     let long = vec![in rt.alloc(); b'*'; 121]?;
-    let rows: [Faulty; 23] = [
+    let rows: [Faulty; 4] = [
         (b"\0".as_slice(), "SOURCE CARD 0000001 ERROR 1 BadByte\n"),
         (
             b"* \xff\n".as_slice(),
@@ -30,6 +30,13 @@ fn says_what_is_no_card(rt: HostRuntime) -> Result<(), Fail> {
             "SOURCE CARD 0000001 ERROR 1 BadByte\n",
         ),
         (long.as_slice(), "SOURCE CARD 0000001 ERROR 2 LongCard\n"),
+    ];
+    compare_faults(&rt, &rows)
+}
+
+#[test]
+fn says_which_field_is_no_symbol_and_no_operation(rt: HostRuntime) -> Result<(), Fail> {
+    let rows: [Faulty; 6] = [
         (
             b"a OCT 1\n".as_slice(),
             "SOURCE CARD 0000001 ERROR 3 BadSymbol\n",
@@ -54,6 +61,13 @@ fn says_what_is_no_card(rt: HostRuntime) -> Result<(), Fail> {
             b" * OCT 1\n".as_slice(),
             "SOURCE CARD 0000001 ERROR 4 UnknownOperation\n",
         ),
+    ];
+    compare_faults(&rt, &rows)
+}
+
+#[test]
+fn says_which_operand_is_wrong(rt: HostRuntime) -> Result<(), Fail> {
+    let rows: [Faulty; 7] = [
         (
             b" CLA\n".as_slice(),
             "SOURCE CARD 0000001 ERROR 5 MissingOperand\n",
@@ -82,6 +96,13 @@ fn says_what_is_no_card(rt: HostRuntime) -> Result<(), Fail> {
             b" CLA 1234567\n".as_slice(),
             "SOURCE CARD 0000001 ERROR 7 BadExpression\n",
         ),
+    ];
+    compare_faults(&rt, &rows)
+}
+
+#[test]
+fn says_which_number_is_wrong(rt: HostRuntime) -> Result<(), Fail> {
+    let rows: [Faulty; 4] = [
         (
             b" DEC 1B61\n".as_slice(),
             "SOURCE CARD 0000001 ERROR 8 BadDecimal\n",
@@ -98,6 +119,13 @@ fn says_what_is_no_card(rt: HostRuntime) -> Result<(), Fail> {
             b" OCT 8\n".as_slice(),
             "SOURCE CARD 0000001 ERROR 9 BadOctal\n",
         ),
+    ];
+    compare_faults(&rt, &rows)
+}
+
+#[test]
+fn says_the_first_card_that_is_faulty(rt: HostRuntime) -> Result<(), Fail> {
+    let rows: [Faulty; 2] = [
         (
             b" HLT 1\n OCT 1\0\n".as_slice(),
             "SOURCE CARD 0000001 ERROR 4 UnknownOperation\n",
@@ -111,8 +139,8 @@ fn says_what_is_no_card(rt: HostRuntime) -> Result<(), Fail> {
 }
 
 #[test]
-fn says_what_is_wrong_with_places_and_words(rt: HostRuntime) -> Result<(), Fail> {
-    let rows: [Faulty; 17] = [
+fn says_which_symbol_has_no_one_value(rt: HostRuntime) -> Result<(), Fail> {
+    let rows: [Faulty; 4] = [
         (
             b"A OCT 1\nA OCT 2\n".as_slice(),
             "SOURCE CARD 0000002 ERROR 10 SymbolTwice 0000001\n",
@@ -125,6 +153,17 @@ fn says_what_is_wrong_with_places_and_words(rt: HostRuntime) -> Result<(), Fail>
             b"A EQU A\n".as_slice(),
             "SOURCE CARD 0000001 ERROR 11 UndefinedEarly\n",
         ),
+        (
+            b" CLA X\n".as_slice(),
+            "SOURCE CARD 0000001 ERROR 13 Undefined\n",
+        ),
+    ];
+    compare_faults(&rt, &rows)
+}
+
+#[test]
+fn says_which_place_is_wrong(rt: HostRuntime) -> Result<(), Fail> {
+    let rows: [Faulty; 6] = [
         (
             b" ORG 4096\n".as_slice(),
             "SOURCE CARD 0000001 ERROR 12 PlaceRange\n",
@@ -146,9 +185,16 @@ fn says_what_is_wrong_with_places_and_words(rt: HostRuntime) -> Result<(), Fail>
             "SOURCE CARD 0000003 ERROR 12 PlaceRange\n",
         ),
         (
-            b" CLA X\n".as_slice(),
-            "SOURCE CARD 0000001 ERROR 13 Undefined\n",
+            b" ORG /10\n OCT 1\n ORG /10\n OCT 2\n".as_slice(),
+            "SOURCE CARD 0000004 ERROR 16 PlaceTwice 0000002\n",
         ),
+    ];
+    compare_faults(&rt, &rows)
+}
+
+#[test]
+fn says_which_value_has_no_room(rt: HostRuntime) -> Result<(), Fail> {
+    let rows: [Faulty; 3] = [
         (
             b" TRA 4096\n".as_slice(),
             "SOURCE CARD 0000001 ERROR 14 AddressRange 4096\n",
@@ -161,10 +207,13 @@ fn says_what_is_wrong_with_places_and_words(rt: HostRuntime) -> Result<(), Fail>
             b" DEC 1B0\n".as_slice(),
             "SOURCE CARD 0000001 ERROR 15 ValueRange\n",
         ),
-        (
-            b" ORG /10\n OCT 1\n ORG /10\n OCT 2\n".as_slice(),
-            "SOURCE CARD 0000004 ERROR 16 PlaceTwice 0000002\n",
-        ),
+    ];
+    compare_faults(&rt, &rows)
+}
+
+#[test]
+fn says_the_fault_of_the_first_phase(rt: HostRuntime) -> Result<(), Fail> {
+    let rows: [Faulty; 4] = [
         // the phase of cards comes before that of places, and that before words
         (
             b" CLA 1\n BSS -1\n XYZ\n".as_slice(),
