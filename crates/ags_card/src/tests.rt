@@ -162,7 +162,7 @@ fn lines_that_keep_to_their_form_have_no_fault(rt: HostRuntime) {
 }
 
 #[test]
-fn bad_bytes_are_told_before_long_lines(rt: HostRuntime) {
+fn bad_bytes_and_long_lines_are_told(rt: HostRuntime) {
     let blanks = [b' '; 121];
     let mut long = [b'*'; 121];
     long[120] = 0;
@@ -172,7 +172,7 @@ fn bad_bytes_are_told_before_long_lines(rt: HostRuntime) {
 }
 
 #[test]
-fn bad_symbols_are_told_before_unknown_operations(rt: HostRuntime) {
+fn bad_symbols_and_unknown_operations_are_told(rt: HostRuntime) {
     let symbols: [&[u8]; 7] = [
         b"ABCDEFG CLA 1",
         b"123 CLA 1",

@@ -1,5 +1,5 @@
 -- what serves inside
 pub mod Gathering
+pub mod LimitTable
 pub mod LineTaken
 pub mod OneMeaning
-pub mod LimitTable

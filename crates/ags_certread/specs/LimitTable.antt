@@ -1,4 +1,4 @@
--- The tables of limits, one like the other.
+-- The three tables of limits by name: how long each is, and what stands in it.
 use Rattle.std.specs.Prelude.{◌≡◌, ℕ}
 use Rattle.ags_domain.specs.declared.values.Value.{Value}
 use Rattle.ags_row.specs.Limit.{Limiting, cell_limit, input_limit, output_limit}

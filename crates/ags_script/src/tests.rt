@@ -169,7 +169,7 @@ fn first_faults_are_told(rt: HostRuntime) {
 }
 
 #[test]
-fn steps_are_few_and_registers_are_the_machines(rt: HostRuntime) {
+fn too_many_steps_and_unknown_registers_are_told(rt: HostRuntime) {
     let rows: [(&[u8], u32, ScriptKind); 5] = [
         (b"SET 2003 000001", 1, ScriptKind::NoPort),
         (b"CYCLE 5001", 1, ScriptKind::TooManySteps),

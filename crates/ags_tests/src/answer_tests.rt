@@ -5,7 +5,7 @@ use crate::command_lines::arguments_of;
 use ags_outside::{SteadyShelf, SteadySink};
 use ags_top::{
     Status, ags_main, arguments_ask_for_one_command, arguments_have_one_answer,
-    each_command_has_an_answer,
+    certified_lines_begin_with_certified, each_command_has_an_answer,
 };
 use std::process::Abort;
 use std::test::Fail;
@@ -94,6 +94,7 @@ fn laws_can_be_called() {
     each_command_has_an_answer();
     arguments_have_one_answer();
     arguments_ask_for_one_command();
+    certified_lines_begin_with_certified();
 }
 
 #[test]

@@ -298,6 +298,7 @@ fn add_row(text: &mut String, number: u8) -> Result<(), Fail> {
     Ok(())
 }
 
+// One row more than 20,000.
 #[test]
 fn counts_rows(rt: HostRuntime) -> Result<(), Fail> {
     let mut rows = String::from_str(rt.alloc(), "AGSCERT 1\nSTART 4000\n")?;
@@ -312,6 +313,7 @@ fn counts_rows(rt: HostRuntime) -> Result<(), Fail> {
     compare_fault(&rt, rows.as_str(), line)
 }
 
+// One row more than 512.
 #[test]
 fn counts_rows_at_one_location(rt: HostRuntime) -> Result<(), Fail> {
     let mut rows = String::from_str(rt.alloc(), "AGSCERT 1\n")?;
@@ -322,6 +324,7 @@ fn counts_rows_at_one_location(rt: HostRuntime) -> Result<(), Fail> {
     compare_fault(&rt, rows.as_str(), line)
 }
 
+// One cell more than 64.
 #[test]
 fn counts_cells_of_a_row(rt: HostRuntime) -> Result<(), Fail> {
     let mut cells = String::from_str(rt.alloc(), "AGSCERT 1\nROW 4000 A ANY Q ANY X 0 V 0\n")?;

@@ -10,8 +10,8 @@ use std::alloc::Global;
 use std::process::Abort;
 use std::test::Fail;
 
-/// Three files, a good source S, a source B with a fault and a script P, on a shelf that tells nothing and whose file of
-/// one name can't be read.
+/// A good source S, a source B with a fault, a script P, and a source T with its certificate C, on a shelf that tells nothing and
+/// whose file of one name can't be read.
 #[derive(Drop)]
 struct FailingShelf {
     held: SteadyShelf,
@@ -36,12 +36,14 @@ impl Shelf for FailingShelf {
 }
 
 impl FailingShelf {
-    /// The three files, with the name of the one that can't be read.
+    /// The files, with the name of the one that can't be read.
     fn new(alloc: Global, failing: &'static str) -> Result<FailingShelf, Fail> {
         let mut held = SteadyShelf::new(alloc);
         held.add("S", b"* FIRST\n ORG /4000\nA OCT 7\n")?;
         held.add("B", b" HLT 1\n")?;
         held.add("P", b"SHOW REG\nSHOW CELL 4000\n")?;
+        held.add("T", b" ORG /4000\n TRA /4000\n")?;
+        held.add("C", b"AGSCERT 1\nROW 4000 A ANY Q ANY X 0 V 0\nEND\n")?;
         Ok(FailingShelf {
             held,
             failing,
@@ -143,6 +145,11 @@ fn write_faults_end_the_run(rt: HostRuntime) -> Result<(), Fail> {
         count_puts(&rt, "run S P", at, Status::WriteFault, at)?;
     }
     count_puts(&rt, "run S P", 3, Status::Done, 2)?;
+    // the verdict, and the two lines of the script
+    for at in 1..4 {
+        count_puts(&rt, "guard T P C", at, Status::WriteFault, at)?;
+    }
+    count_puts(&rt, "guard T P C", 4, Status::Done, 3)?;
     for line in ["run S", "assemble Z", "assemble B", "run S S"] {
         count_puts(&rt, line, 1, Status::WriteFault, 1)?;
     }

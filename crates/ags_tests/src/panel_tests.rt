@@ -259,6 +259,7 @@ fn compare_starts(
     Ok(())
 }
 
+// A cell that no line of the script names begins with 0, or with its assembled word.
 #[test]
 fn tests_each_cell_of_the_start(rt: HostRuntime) -> Result<(), Fail> {
     let rows = [
@@ -272,6 +273,7 @@ fn tests_each_cell_of_the_start(rt: HostRuntime) -> Result<(), Fail> {
     compare_starts(&rt, WAITING, STATED, &rows)
 }
 
+// A register that no line of the script names begins with 0.
 #[test]
 fn tests_each_register_of_the_start(rt: HostRuntime) -> Result<(), Fail> {
     let rows = [
@@ -328,7 +330,7 @@ fn tests_what_the_panel_sends(rt: HostRuntime) -> Result<(), Fail> {
     Ok(())
 }
 
-/// A certificate that is refused for the source below.
+/// A certificate that is refused for `STORING`.
 const REFUSED: &str = "AGSCERT 1\nROW 4000 A ANY Q ANY X 0 V 0\nEND\n";
 
 /// A source whose order stores in a fixed cell.

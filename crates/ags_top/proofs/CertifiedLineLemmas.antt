@@ -1,9 +1,9 @@
 -- Where a run of `guard` wrote that the certificate is certified, it is, whatever the run ended with.
-use Rattle.std.proofs.Common.{◌≡◌, ℕ, List, ◌++◌, length, get_or, ◌⊎◌, [], Option, Some, refl, sym, ap, subst, ◌∙◌, inl, inr, arith, append_assoc, append-nil, length-append}
+use Rattle.std.proofs.Common.{◌≡◌, ℕ, List, [], ◌++◌, length, get_or, Option, Some, refl, sym, ap, ◌∙◌, inl, inr, arith, append_assoc, append-nil, length-append}
 use Rattle.std.specs.Prelude.{codes}
+use Rattle.std.specs.Fmt.{decimal}
 use Rattle.std.proofs.lemmas.List.{append_cancel_left}
-use Rattle.ags_outside.specs.ToldFile.{Stored}
-use Rattle.ags_outside.specs.Sink.{appended, Wrote, WroteFront}
+use Rattle.ags_outside.specs.Sink.{appended, WroteFront}
 use Rattle.ags_plan.specs.declared.causes.Cause.{Cause}
 use Rattle.ags_plan.specs.declared.causes.Cause.TheVariants.{Content, Absence, ReadFault, WriteFault, Memory}
 use Rattle.ags_plan.specs.Plan.{Plan, End, AbsentAt, LongAt, RefusedAt, WorkAt, absent_line, long_line}
@@ -12,19 +12,18 @@ use Rattle.ags_plan.specs.Answer.{ComesWith, IsAnswer}
 use Rattle.ags_plan.specs.Outcome.{Answered, TookPrefix, Ends, EndsBy}
 use Rattle.ags_plan.proofs.WalkLemmas.{way_to_refused}
 use Rattle.ags_certtext.specs.declared.cert_error.CertError.TheVariants as certificate
-use Rattle.ags_domain.specs.declared.values.Value.{Value}
 use Rattle.ags_listing.specs.declared.list_error.ListError.{ListError}
 use Rattle.ags_listing.specs.declared.list_error.ListError.TheVariants.{BadLine, PlaceTwice}
 use Rattle.ags_listing.specs.declared.list_error.ListError.TheVariants as listing
 use Rattle.ags_machfile.specs.declared.mach_error.MachError.{MachError}
 use Rattle.ags_machfile.specs.declared.mach_error.MachError.TheVariants.{NotToml, MissingKey, BadValue, SameCode, SamePort, NoMemory}
 use Rattle.ags_script.specs.declared.script_errors.ScriptError.TheVariants.{At}
-use Rattle.ags_verdict.specs.declared.verdicts.Verdict.TheVariants.{Refused}
+use Rattle.ags_verdict.specs.declared.verdicts.Verdict.TheVariants.{Certified, Refused}
 use Rattle.ags_ports.specs.declared.machines.Machine.{Machine}
 use Rattle.ags_top.specs.declared.status.Status.{Status}
-use Rattle.ags_top.specs.Command.{Guard, line_arguments}
+use Rattle.ags_top.specs.Command.{Guard}
 use Rattle.ags_top.specs.Files.{Kind, MachineFile, Source, Listing, Certificate, Script, Refuses}
-use Rattle.ags_top.specs.Outcome.{IsMachineOf, IsDeclaredOn, IsSafeOn, IsRefusedFor, SafeWhereCertifiedIsWritten}
+use Rattle.ags_top.specs.Outcome.{IsDeclaredOn, IsAcceptedPlayOn, SafeWhereCertifiedIsWritten}
 use Rattle.ags_top.specs.Program.{program, plan_of}
 use Rattle.ags_top.specs.Text.{certificate_fault_line, certified_word, fault_line, listing_fault_line, machine_fault_line, script_fault_line, verdict_line}
 use Rattle.ags_top.specs.Work.{Work, Makes}
@@ -34,6 +33,10 @@ use Rattle.ags_top.proofs.MainLemmas.{way_asked}
 -- the text begins as the line of a certificate that is certified does
 abbrev BeginsCertified : (text : List ℕ) → Type 0
 BeginsCertified text = (behind : List ℕ) × (text ≡ certified_word ++ behind)
+
+-- the line itself does
+pub line_begins : (rows cases : ℕ) → (behind : List ℕ) × (verdict_line (Certified rows cases) ≡ certified_word ++ behind)
+line_begins rows cases = (codes " ROWS " ++ decimal rows ++ codes " CASES " ++ decimal cases ++ codes "\n", refl)
 
 -- ---- no other line begins so: it has another letter at that place
 
@@ -74,7 +77,7 @@ certified_work told plan status (WorkAt work) text ends comes begins = (work, en
 
 -- where the play begins so, the certificate isn't refused
 safe_of_declared : (machine : Machine) (source script certificate text : List ℕ) (status : Status) → BeginsCertified text
-    → IsDeclaredOn machine source script certificate text status → IsSafeOn machine source script certificate text status
+    → IsDeclaredOn machine source script certificate text status → IsAcceptedPlayOn machine source script certificate text status
 safe_of_declared machine source script certificate text status (behind, is) declared = record {
   defined = declared.defined;
   defines = declared.defines;

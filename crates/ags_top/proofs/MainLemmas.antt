@@ -44,7 +44,7 @@ use Rattle.ags_top.specs.declared.status.Status.TheVariants.{Done, No, BadMachin
 use Rattle.ags_top.specs.declared.source_texts.SourceText.{SourceText}
 use Rattle.ags_top.specs.Command.{Command, Write, Compare, Certify, Run, Guard, CommandLine, line_arguments, line_of, AreNoForm}
 use Rattle.ags_top.specs.Files.{Kind, MachineFile, Source, Listing, Certificate, Script, limit_of, Refuses, refused_status}
-use Rattle.ags_top.specs.Outcome.{EndsWith, IsMachineOf, WritesWhatIsDefined, IsComparedOn, ComparesWhatIsDefined, IsJudgedOn, JudgesWhatIsDefined, IsCertifiedOn, CertifiesWhatIsSafe, TellsMachine, TellsAccepted, CertifiesAccepted, BadCertExactly, IsOneImage, EqualsWhatIsDefined, IsShownOn, PlaysWhatIsDefined, IsGuardedOn, GuardsWhatIsDefined, IsDeclaredOn, PlaysWhatIsDeclared, DoneAlways, NoExactly, BadWordsExactly, ReadsFault, BadMachineExactly, BadSourceExactly, BadTextExactly}
+use Rattle.ags_top.specs.Outcome.{EndsWith, IsMachineOf, WritesWhatIsDefined, IsComparedOn, ComparesWhatIsDefined, IsJudgedOn, JudgesWhatIsDefined, IsCertifiedOn, CertifiesWhatIsSafe, TellsMachine, TellsAccepted, CertifiesAccepted, BadCertExactly, IsOneImage, EqualsWhatIsDefined, IsShownOn, PlaysWhatIsDefined, IsGuardedOn, GuardsWhatIsDefined, IsDeclaredOn, PlaysWhatIsDeclared, DoneAlways, NoExactly, BadWordsExactly, FindsFault, BadMachineExactly, BadSourceExactly, BadTextExactly}
 use Rattle.ags_top.specs.Program.{program, command_plan, plan_on, asked_plan, plan_of}
 use Rattle.ags_top.specs.ProgramLaws.{IsWorkStatus, comes_to_no_form, lawful_program, not_refused_work}
 use Rattle.ags_top.specs.Text.{words_line, certificate_fault_line, fault_line, listing_fault_line, machine_fault_line, script_fault_line, verdict_line}
@@ -393,7 +393,7 @@ module _ (told : Told) (arguments : List (List ℕ)) (old new : Option (List ℕ
 
   -- the file that a run refused, of a kind with that status
   refused_file : (status : Status) → FindsRefusal program told (plan_of arguments) old new result status
-      → (kind : Kind) × (refused_status kind ≡ status) × ReadsFault kind told arguments old new
+      → (kind : Kind) × (refused_status kind ≡ status) × FindsFault kind told arguments old new
   refused_file status found = (
     found.kind,
     found.status_is,
@@ -422,7 +422,7 @@ module _ (told : Told) (arguments : List (List ℕ)) (old new : Option (List ℕ
         refused_always MachineFile name bytes (machine_fault_line error) given short (record { error = error; faulty = faulty; line_is = refl });
   }
     where
-      of_kind : (kind : Kind) × (refused_status kind ≡ BadMachine) × ReadsFault kind told arguments old new → ReadsFault MachineFile told arguments old new
+      of_kind : (kind : Kind) × (refused_status kind ≡ BadMachine) × FindsFault kind told arguments old new → FindsFault MachineFile told arguments old new
       of_kind (MachineFile, is, found) = found
       of_kind (Source machine, is, found) = absurd cc
       of_kind (Listing, is, found) = absurd cc
@@ -436,7 +436,7 @@ module _ (told : Told) (arguments : List (List ℕ)) (old new : Option (List ℕ
         refused_always (Source machine) name bytes (fault_line error) given short (record { error = error; faulty = faulty; line_is = refl });
   }
     where
-      of_kind : (kind : Kind) × (refused_status kind ≡ BadSource) × ReadsFault kind told arguments old new → (machine : Machine) × ReadsFault (Source machine) told arguments old new
+      of_kind : (kind : Kind) × (refused_status kind ≡ BadSource) × FindsFault kind told arguments old new → (machine : Machine) × FindsFault (Source machine) told arguments old new
       of_kind (Source machine, is, found) = (machine, found)
       of_kind (MachineFile, is, found) = absurd cc
       of_kind (Listing, is, found) = absurd cc
@@ -451,7 +451,7 @@ module _ (told : Told) (arguments : List (List ℕ)) (old new : Option (List ℕ
         (record { number = line; kind = kind; faulty = faulty; line_is = refl });
   }
     where
-      of_kind : (kind : Kind) × (refused_status kind ≡ BadCert) × ReadsFault kind told arguments old new → (machine : Machine) × ReadsFault (Certificate machine) told arguments old new
+      of_kind : (kind : Kind) × (refused_status kind ≡ BadCert) × FindsFault kind told arguments old new → (machine : Machine) × FindsFault (Certificate machine) told arguments old new
       of_kind (Certificate machine, is, found) = (machine, found)
       of_kind (MachineFile, is, found) = absurd cc
       of_kind (Source machine, is, found) = absurd cc
@@ -467,8 +467,8 @@ module _ (told : Told) (arguments : List (List ℕ)) (old new : Option (List ℕ
         refused_always Listing name bytes (listing_fault_line error) given short (record { error = error; faulty = faulty; line_is = refl });
   }
     where
-      of_kind : (kind : Kind) × (refused_status kind ≡ BadText) × ReadsFault kind told arguments old new
-          → ((machine : Machine) × ReadsFault (Script machine) told arguments old new) ⊎ ReadsFault Listing told arguments old new
+      of_kind : (kind : Kind) × (refused_status kind ≡ BadText) × FindsFault kind told arguments old new
+          → ((machine : Machine) × FindsFault (Script machine) told arguments old new) ⊎ FindsFault Listing told arguments old new
       of_kind (Script machine, is, found) = inl (machine, found)
       of_kind (Listing, is, found) = inr found
       of_kind (MachineFile, is, found) = absurd cc

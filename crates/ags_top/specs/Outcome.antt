@@ -246,14 +246,16 @@ pub record ComesOn (Comes : (image : List (Option ℕ)) → Stated → List Comm
   pub is_script : IsScript machine script commands
   pub comes : Comes image cert commands
 
--- the certificate is refused for the words that the source defines, or the script's play on them is a run of it
+-- the certificate is refused for the words that the source defines, or the script's play on them is a run of it, or is nothing, where the
+-- script sets a start that isn't one
 abbrev pub IsDeclaredOn : Machine → (source script certificate text : List ℕ) → Status → Type 0
 IsDeclaredOn machine source script certificate text status =
     ComesOn (λ image cert commands. IsRefusedFor machine image cert text status ⊎ IsDeclaredPlay machine image cert commands text status) machine source script certificate
 
--- the certificate is accepted for the words that the source defines, and the script's play on them is a run of it
-abbrev pub IsSafeOn : Machine → (source script certificate text : List ℕ) → Status → Type 0
-IsSafeOn machine source script certificate text status =
+-- the certificate is accepted for the words that the source defines, and the script's play on them is a run of it, or is nothing, where
+-- the script sets a start that isn't one
+abbrev pub IsAcceptedPlayOn : Machine → (source script certificate text : List ℕ) → Status → Type 0
+IsAcceptedPlayOn machine source script certificate text status =
     ComesOn (λ image cert commands. IsDeclaredPlay machine image cert commands text status) machine source script certificate
 
 -- The actual run: where the run of `guard` ends with Done or with No, and the shelf tells, what is played is a run of the certificate,
@@ -268,14 +270,14 @@ PlaysWhatIsDeclared told arguments old new result = (source script certificate s
 
 -- Where the shelf and the sink tell, and what the sink took of a run of `guard` begins as the line of a certificate that is certified
 -- does, then, whatever the run ends with, the certificate is accepted for the words that the source defines, so that every run of
--- them is safe; and what the sink took is a front, or all, of what is shown of a play that is such a run.
+-- them is safe; and what the sink took is a front, or all, of what is printed of such a play.
 abbrev pub SafeWhereCertifiedIsWritten : (told : Told) (arguments : List (List ℕ)) (old new : Option (List ℕ)) → Type 0
 SafeWhereCertifiedIsWritten told arguments old new =
     (source script certificate source_bytes script_bytes certificate_bytes held behind : List ℕ) (machine_file : Option (List ℕ))
     → arguments ≡ line_arguments (record { command = command.Guard source script certificate; machine = machine_file }) → told source ≡ Stored source_bytes
     → told script ≡ Stored script_bytes → told certificate ≡ Stored certificate_bytes → old ≡ Some held → new ≡ Some (held ++ (certified_word ++ behind))
     → (machine : Machine) × IsMachineOf told machine_file machine
-    × ((text : List ℕ) × (status : Status) × IsSafeOn machine source_bytes script_bytes certificate_bytes text status × WroteFront old new text)
+    × ((text : List ℕ) × (status : Status) × IsAcceptedPlayOn machine source_bytes script_bytes certificate_bytes text status × WroteFront old new text)
 
 -- Where the walk over told files comes to a work that is done with Done, the run ends so, unless it stops: each file on the way
 -- is there, within its limit and without a fault.
@@ -310,7 +312,7 @@ pub record BadWordsExactly (arguments : List (List ℕ)) (old new : Option (List
 
 -- Over files that agree with what the shelf tells, the walk comes to a file of that kind that is within its limit and has a fault, and
 -- the sink took the line of its first one.
-pub record ReadsFault (kind : Kind) (told : Told) (arguments : List (List ℕ)) (old new : Option (List ℕ)) : Type 0 where
+pub record FindsFault (kind : Kind) (told : Told) (arguments : List (List ℕ)) (old new : Option (List ℕ)) : Type 0 where
   pub name : List ℕ
   pub bytes : List ℕ
   pub given : IsGiven program Agrees told (plan_of arguments) kind name bytes
@@ -321,25 +323,25 @@ pub record ReadsFault (kind : Kind) (told : Told) (arguments : List (List ℕ)) 
 
 -- BadMachine comes exactly where the walk comes to a machine file that fails a test; the first one is printed
 pub record BadMachineExactly (told : Told) (arguments : List (List ℕ)) (old new : Option (List ℕ)) (result : Status) : Type 0 where
-  pub only : result ≡ BadMachine → ReadsFault MachineFile told arguments old new
+  pub only : result ≡ BadMachine → FindsFault MachineFile told arguments old new
   pub always : (name bytes : List ℕ) (error : MachError) → IsGiven program Tells told (plan_of arguments) MachineFile name bytes → length bytes ≤ MACHINE_LIMIT
       → machine_of bytes ≡ Err error → EndsWith result BadMachine
 
 -- BadSource comes exactly where the walk comes to a source that has a faulty card, whose number and fault are printed
 pub record BadSourceExactly (told : Told) (arguments : List (List ℕ)) (old new : Option (List ℕ)) (result : Status) : Type 0 where
-  pub only : result ≡ BadSource → (machine : Machine) × ReadsFault (Source machine) told arguments old new
+  pub only : result ≡ BadSource → (machine : Machine) × FindsFault (Source machine) told arguments old new
   pub always : (machine : Machine) (name bytes : List ℕ) (error : SourceError) → IsGiven program Tells told (plan_of arguments) (Source machine) name bytes
       → length bytes ≤ SOURCE_LIMIT → IsFaulty bytes error → EndsWith result BadSource
 
 -- BadCert comes exactly where the walk comes to a certificate that has a faulty line, whose number and fault are printed
 pub record BadCertExactly (told : Told) (arguments : List (List ℕ)) (old new : Option (List ℕ)) (result : Status) : Type 0 where
-  pub only : result ≡ BadCert → (machine : Machine) × ReadsFault (Certificate machine) told arguments old new
+  pub only : result ≡ BadCert → (machine : Machine) × FindsFault (Certificate machine) told arguments old new
   pub always : (machine : Machine) (name bytes : List ℕ) (line : ℕ) (kind : CertKind) → IsGiven program Tells told (plan_of arguments) (Certificate machine) name bytes
       → length bytes ≤ CERT_LIMIT → IsFaultyCert machine.ports bytes line kind → EndsWith result BadCert
 
 -- BadText comes exactly where the walk comes to a listing or a script that has a faulty line, whose number and fault are printed
 pub record BadTextExactly (told : Told) (arguments : List (List ℕ)) (old new : Option (List ℕ)) (result : Status) : Type 0 where
-  pub only : result ≡ BadText → ((machine : Machine) × ReadsFault (Script machine) told arguments old new) ⊎ ReadsFault Listing told arguments old new
+  pub only : result ≡ BadText → ((machine : Machine) × FindsFault (Script machine) told arguments old new) ⊎ FindsFault Listing told arguments old new
   pub always : (machine : Machine) (name bytes : List ℕ) (line : ℕ) (kind : ScriptKind) → IsGiven program Tells told (plan_of arguments) (Script machine) name bytes
       → length bytes ≤ SCRIPT_LIMIT → IsFaultyScript machine bytes line kind → EndsWith result BadText
   pub always_listing : (name bytes : List ℕ) (error : ListError) → IsGiven program Tells told (plan_of arguments) Listing name bytes

@@ -58,7 +58,7 @@ compared_line (Differs location left right) =
 abbrev pub verdict_line : Verdict Value → List ℕ
 verdict_line verdict = verdict_text verdict ++ codes "\n"
 
--- the word with which the line of a certificate begins that is certified
+-- the word that begins the line of a certificate that is certified
 abbrev pub certified_word : List ℕ
 certified_word = codes "CERTIFIED"
 

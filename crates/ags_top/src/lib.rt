@@ -24,7 +24,8 @@ mod works;
 mod write_command;
 
 pub use answer_laws::{
-    arguments_ask_for_one_command, arguments_have_one_answer, each_command_has_an_answer,
+    arguments_ask_for_one_command, arguments_have_one_answer, certified_lines_begin_with_certified,
+    each_command_has_an_answer,
 };
 pub use listed_laws::certified_listing_is_what_runs;
 pub use main_call::ags_main;

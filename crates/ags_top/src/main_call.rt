@@ -34,7 +34,7 @@ pub fn ags_main<S: Shelf, K: Sink>(
     // The headline: where it answers certified, what is printed is what the source defines, and every run of it is safe. What is
     // written of a source is what it defines, a listing is said to be equal only where its words are those, and what is shown is
     // a play of the script on them. What is shown under a guard is shown of an actual run that is safe: one of a certificate that
-    // is accepted for those words; and wherever it is written that it is certified, that is so, even where the output stops there.
+    // is accepted for those words; and wherever `guard` wrote that it is certified, that is so, even where the output stops there.
     ensures certified { CertifiesWhatIsSafe (S.told shelf.old) (map string_bytes arguments.now) (K.told out.old) (K.told out.new) result }
     ensures judged { JudgesWhatIsDefined (S.told shelf.old) (map string_bytes arguments.now) (K.told out.old) (K.told out.new) result }
     ensures listed { WritesWhatIsDefined SourceText.Listing (S.told shelf.old) (map string_bytes arguments.now) (K.told out.old) (K.told out.new) result }
