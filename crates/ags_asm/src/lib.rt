@@ -7,8 +7,6 @@ mod assembling;
 mod filling;
 mod laws;
 mod making;
-#[cfg(test)]
-mod tests;
 mod words;
 
 pub use ags_places::{AssembleError, Placed, SOURCE_LIMIT, SourceError, SourceKind};

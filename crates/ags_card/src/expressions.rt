@@ -1,11 +1,10 @@
 //! Expressions: the terms of a text, each with its sign.
 
-ghost use Rattle.std.specs.Prelude.{◌≡◌, ℕ, [], ◌+◌, ◌*◌, ◌^◌, ◌<◌, ◌≤◌, ◌==◌, ◌||◌, not, length, position, take, drop, IfSome, Some};
+ghost use Rattle.std.specs.Prelude.{◌≡◌, [], ◌+◌, ◌*◌, ◌^◌, ◌<◌, ◌≤◌, ◌==◌, length, position, IfSome, Some};
 ghost use Rattle.std.specs.List.{position_or_len};
-ghost use Rattle.std.specs.Option.{option_map};
 ghost use Rattle.std.specs.Str.Parse.{starts_with_minus, without_leading_sign};
 ghost use Rattle.ags_card.specs.Reading.{number_of, atom_reading, is_sign, terms_reading, expression_reading};
-ghost use Rattle.ags_card.specs.Term.{HasSmallNumber, AreTerms};
+ghost use Rattle.ags_card.specs.Term.{HasSmallNumber};
 
 use crate::names::Name;
 use crate::terms::{Atom, Term, Terms};

@@ -12,8 +12,6 @@ mod operations;
 mod reading;
 mod reading_laws;
 mod terms;
-#[cfg(test)]
-mod tests;
 
 pub use cards::{Body, Card, CardFault};
 pub use laws::symbols_are_capitals_and_digits;

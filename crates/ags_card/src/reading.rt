@@ -1,6 +1,6 @@
 //! From a line to its card or its fault (docs/SOURCE.md, Cards).
 
-ghost use Rattle.std.specs.Prelude.{◌≡◌, ◌≤◌, ◌&&◌, ◌||◌, ◌==◌, nat_lt, length, slice_index, codes, nat_eq};
+ghost use Rattle.std.specs.Prelude.{◌≡◌, ◌≤◌, ◌==◌, length, codes, nat_eq};
 ghost use Rattle.std.specs.List.{list_all};
 ghost use Rattle.std.specs.Cmp.Lexicographic.{pointwise};
 ghost use Rattle.ags_card.specs.Spelling.{is_allowed};

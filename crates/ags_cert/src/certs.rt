@@ -1,7 +1,7 @@
 //! Certificates.
 
-ghost use Rattle.std.specs.Prelude.{◌≡◌, ◌<◌, IfOk};
-ghost use Rattle.ags_cert.specs.Cert.{IsCert, IsCertOfParts, certificate_of};
+ghost use Rattle.std.specs.Prelude.{◌≡◌, ◌<◌, true, false, IfOk};
+ghost use Rattle.ags_cert.specs.Cert.{IsCert, IsCertOfParts, certificate_of, stated_by};
 
 use crate::checks::{are_few_at_each, are_firsts_within, are_rows_within};
 use ags_domain::Value;
@@ -64,23 +64,31 @@ impl Model for Cert {
 }
 
 impl Cert {
+    /// Whether some parts make a certificate. The one error is want of memory.
+    fn is_made_of(alloc: Global, parts: &CertParts) -> Result<bool, AllocError>
+        ensures yes { IfOk result (λ yes. yes ≡ true → IsCert (stated_by parts.now)) }
+        ensures no { IfOk result (λ yes. yes ≡ false → ¬ IsCert (stated_by parts.now)) }
+    {
+        if !are_few_at_each(alloc, parts.rows.as_slice())? {
+            return Ok(false);
+        }
+        if parts.start >= LOCATIONS || parts.init.len() != ERASABLE || parts.rows.is_empty() {
+            return Ok(false);
+        }
+        if parts.rows.len() > MOST_ROWS {
+            return Ok(false);
+        }
+        if !are_firsts_within(parts.init.as_slice(), &parts.limits) {
+            return Ok(false);
+        }
+        Ok(are_rows_within(parts.rows.as_slice(), &parts.limits))
+    }
+
     /// The certificate of some parts, and nothing where they make none. The one error is want of memory.
     pub fn of(alloc: Global, parts: CertParts) -> Result<Option<Cert>, AllocError>
         ensures { IfOk result (IsCertOfParts parts) }
     {
-        if !are_few_at_each(alloc, parts.rows.as_slice())? {
-            return Ok(None);
-        }
-        if parts.start >= LOCATIONS || parts.init.len() != ERASABLE || parts.rows.is_empty() {
-            return Ok(None);
-        }
-        if parts.rows.len() > MOST_ROWS {
-            return Ok(None);
-        }
-        if !are_firsts_within(parts.init.as_slice(), &parts.limits) {
-            return Ok(None);
-        }
-        if !are_rows_within(parts.rows.as_slice(), &parts.limits) {
+        if !Cert::is_made_of(alloc, &parts)? {
             return Ok(None);
         }
         Ok(Some(Cert {

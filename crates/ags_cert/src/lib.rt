@@ -7,6 +7,3 @@ mod certs;
 mod checks;
 
 pub use certs::{Cert, CertParts};
-
-#[cfg(test)]
-mod tests;

@@ -7,6 +7,7 @@ use Rattle.std.proofs.lemmas.Bool.Decides.{nat_tests}
 use Rattle.ags_domain.specs.Domain.{IsWithin}
 use Rattle.ags_domain.specs.Value.{value_meaning}
 use Rattle.ags_domain.specs.declared.values.Value.{Value}
+use Rattle.ags_domain.specs.ListLaws.{and_left, and_right}
 use Rattle.ags_row.specs.Cell.{cells_ascend, value_among}
 use Rattle.ags_row.specs.Limit.{Limiting, cell_limit, input_limit, output_limit}
 use Rattle.ags_row.specs.declared.ats.At.{At as Cell_at}
@@ -19,7 +20,7 @@ use Rattle.ags_certtext.specs.Statement.{cell_entry, init_entry, in_entry, out_e
 use Rattle.ags_certtext.specs.Fault.{is_outside}
 use Rattle.ags_certtext.specs.Text.{IsLimit, RowOfLines, rows_of, AreRowsOf, IsWhatIsStated}
 use Rattle.ags_certread.specs.Gathering.{Gathering, AreLimitsOf, IsCertOfGathering, IsFinished, stated}
-use Rattle.ags_certread.proofs.CheckLemmas.{and_left, and_right, within_is}
+use Rattle.ags_certread.proofs.CheckLemmas.{within_is}
 use Rattle.ags_certread.proofs.TableLemmas.{IsTable, apart, any_reversed, chosen_reversed, value_reversed}
 use Rattle.ags_certread.proofs.RowLemmas.{closed_rows, open_line, rows_are, rows_of_reversed, with_open}
 use Rattle.ags_certread.proofs.GatherLemmas.{IsGathered}

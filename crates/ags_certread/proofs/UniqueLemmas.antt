@@ -11,6 +11,7 @@ use Rattle.ags_domain.specs.Domain.{IsFull}
 use Rattle.ags_domain.specs.MeaningLaws.{value_lawful}
 use Rattle.ags_domain.specs.Value.{value_meaning}
 use Rattle.ags_domain.specs.declared.values.Value.{Value}
+use Rattle.ags_domain.specs.ListLaws.{and_left, and_right}
 use Rattle.ags_ports.specs.Port.{Registers}
 use Rattle.ags_row.specs.Cell.{cells_ascend, value_among}
 use Rattle.ags_row.specs.Flag.{some_flag}
@@ -22,7 +23,6 @@ use Rattle.ags_certtext.specs.declared.statements.Statement.{Statement}
 use Rattle.ags_certtext.specs.Reading.{Reading, statement_of}
 use Rattle.ags_certtext.specs.Text.{IsLimit, LimitsAreStated, RowOfLines, IsRowOfLines, AreRowsOf, rows_of, IsWhatIsStated, IsCertOf}
 use Rattle.ags_certread.specs.OneMeaning.{HasNoTwoReadings}
-use Rattle.ags_certread.proofs.CheckLemmas.{and_left, and_right}
 use Rattle.ags_certread.proofs.TableLemmas.{apart}
 
 -- ---- limits

@@ -1,6 +1,6 @@
 //! The fault of a statement, by what is gathered of those before it. Of several faults the one of the least number is told.
 
-ghost use Rattle.std.specs.Prelude.{◌≡◌, ◌<◌, ◌||◌, length, is_some};
+ghost use Rattle.std.specs.Prelude.{◌≡◌, ◌<◌, ◌||◌, length};
 ghost use Rattle.ags_certtext.specs.Statement.{IsStatement};
 ghost use Rattle.ags_certread.specs.Gathering.{IsSized, IsCounting, gathering_of, row_count, cell_fault, init_fault, input_fault, output_fault, place_fault, row_fault, at_fault, last_line_fault, part_fault, gathered_fault};
 

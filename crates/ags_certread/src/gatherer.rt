@@ -54,11 +54,7 @@ pub(crate) struct Gatherer {
 fn nothing(alloc: Global, count: usize) -> Result<Vec<Option<Value>>, AllocError>
     ensures { IfOk result (λ table. table.items ≡ replicate count None) }
 {
-    let mut table = Vec::new(alloc);
-    for _ in 0..count {
-        table.push(None)?;
-    }
-    Ok(table)
+    Ok(vec![in alloc; None; count]?)
 }
 
 /// A table of all locations of which none is a named place.

@@ -13,8 +13,6 @@ mod lines_taken;
 mod open_rows;
 mod order;
 mod reading;
-#[cfg(test)]
-mod tests;
 
 pub use laws::{read_certificates_suit, text_has_one_meaning};
 pub use reading::{CERT_LIMIT, read};

@@ -1,7 +1,7 @@
 //! The limits that are stated.
 
-ghost use Rattle.std.specs.Prelude.{◌≡◌, ◌<◌, ◌+◌, length, get_or, IfOk};
-ghost use Rattle.ags_row.specs.Limit.{SetsOne, is_named};
+ghost use Rattle.std.specs.Prelude.{◌≡◌, ◌<◌, ◌+◌, length, IfOk};
+ghost use Rattle.ags_row.specs.Limit.{SetsOne};
 ghost use Rattle.ags_certread.specs.Gathering.{AreLimitsOf, IsNamedUpTo, IsSetUpTo, IsSized, gathering_of};
 ghost use Rattle.ags_certread.specs.LimitTable.{KeepsOthers, address_count, limit_in};
 

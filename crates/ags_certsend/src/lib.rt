@@ -10,6 +10,3 @@ mod writing;
 
 pub use laws::{sent_certificate_reads_back, sent_lines_are_read};
 pub use writing::send_cert;
-
-#[cfg(test)]
-mod tests;

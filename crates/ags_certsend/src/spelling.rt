@@ -107,40 +107,27 @@ impl fmt::Display for Spelled {
     ghost output = { λ statement. Some (statement_text statement.0) };
 
     fn fmt<W: fmt::Write>(&self, f: &mut fmt::Formatter<W>) -> fmt::Result {
-        match self.0 {
+        let (keyword, entry) = match self.0 {
             Statement::Start(location) => {
                 let place = FourDigits(location);
-                write!(f, "START {place}")
+                return write!(f, "START {place}");
             }
-            Statement::Cell(entry) => {
-                let entry = SpelledEntry(entry);
-                write!(f, "CELL {entry}")
-            }
-            Statement::Init(entry) => {
-                let entry = SpelledEntry(entry);
-                write!(f, "INIT {entry}")
-            }
-            Statement::In(entry) => {
-                let entry = SpelledEntry(entry);
-                write!(f, "IN {entry}")
-            }
-            Statement::Out(entry) => {
-                let entry = SpelledEntry(entry);
-                write!(f, "OUT {entry}")
-            }
+            Statement::Cell(entry) => ("CELL", entry),
+            Statement::Init(entry) => ("INIT", entry),
+            Statement::In(entry) => ("IN", entry),
+            Statement::Out(entry) => ("OUT", entry),
             Statement::May(location) => {
                 let place = FourDigits(location);
-                write!(f, "MAY {place}")
+                return write!(f, "MAY {place}");
             }
             Statement::Row(row) => {
                 let row = SpelledRow(row);
-                write!(f, "ROW {row}")
+                return write!(f, "ROW {row}");
             }
-            Statement::At(entry) => {
-                let entry = SpelledEntry(entry);
-                write!(f, "AT {entry}")
-            }
-            Statement::End => f.write_str("END"),
-        }
+            Statement::At(entry) => ("AT", entry),
+            Statement::End => return f.write_str("END"),
+        };
+        let entry = SpelledEntry(entry);
+        write!(f, "{keyword} {entry}")
     }
 }

@@ -1,6 +1,6 @@
 //! The digits of a row's indices and indicators.
 
-ghost use Rattle.std.specs.Prelude.{◌≡◌, ℕ, ◌≤◌, true, false, Bool, List, length, get_or, IfSome, Some};
+ghost use Rattle.std.specs.Prelude.{◌≡◌, ℕ, true, false, Bool, List, IfSome, Some};
 ghost use Rattle.ags_certtext.specs.Front.{AreFlags, digit_front};
 
 /// How many values the index register has.

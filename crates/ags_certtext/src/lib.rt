@@ -13,8 +13,6 @@ mod lines;
 mod numbers;
 mod operands;
 mod statements;
-#[cfg(test)]
-mod tests;
 mod values;
 mod word_fields;
 

@@ -1,6 +1,6 @@
 //! What stands behind the keyword of a line.
 
-ghost use Rattle.std.specs.Prelude.{◌≡◌, [], ◌∷◌, ℕ, Bool, List, Option, IfSome, IfNone, IsSomeAnd, Some, true, false};
+ghost use Rattle.std.specs.Prelude.{◌≡◌, [], ◌∷◌, ℕ, Bool, List, Option, IfSome, IfNone, IsSomeAnd, Some};
 ghost use Rattle.ags_domain.specs.declared.values.Value.{Value};
 ghost use Rattle.ags_text.specs.Field.{next_field, behind_field};
 ghost use Rattle.ags_certtext.specs.declared.statements.Entry.{Entry};

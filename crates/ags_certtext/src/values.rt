@@ -1,9 +1,9 @@
 //! The values of a certificate's lines: every word, a range, or a word set.
 
-ghost use Rattle.std.specs.Prelude.{◌≡◌, ℕ, ℤ, true, List, Option, IfSome, IsSomeAnd};
+ghost use Rattle.std.specs.Prelude.{◌≡◌, ℕ, true, List, Option, IfSome, IsSomeAnd};
 ghost use Rattle.ags_word.specs.Word.{fits};
 ghost use Rattle.ags_domain.specs.declared.values.Value.{Value};
-ghost use Rattle.ags_certtext.specs.Front.{BeginsWithWord, BeginsWithEnds, BeginsWithValue, BeginsWithNamed, IsEveryWord, IsValueBetween, IsInForm};
+ghost use Rattle.ags_certtext.specs.Front.{BeginsWithWord, BeginsWithEnds, BeginsWithValue, IsEveryWord, IsValueBetween, IsInForm};
 
 use crate::ends::read_end;
 use crate::forms::{Form, form_named};

@@ -1,8 +1,7 @@
 //! The words of a word set.
 
-ghost use Rattle.std.specs.Prelude.{◌≡◌, ℕ, ◌≤◌, List, length, Option, IfSome, IsSomeAnd};
+ghost use Rattle.std.specs.Prelude.{◌≡◌, ℕ, List, Option, IfSome, IsSomeAnd};
 ghost use Rattle.ags_domain.specs.declared.values.Value.{Value};
-ghost use Rattle.ags_domain.specs.SetOf.{IsSetOf};
 ghost use Rattle.ags_certtext.specs.Front.{BeginsWithWord, BeginsWithWords, IsSetFront};
 
 use crate::numbers::read_word;

@@ -2,7 +2,7 @@
 
 ghost use Rattle.std.specs.Prelude.{◌≡◌, ◌<◌, ◌≤◌, ◌*◌, IfOk, [], ◌∷◌, if◌then◌else◌, length};
 ghost use Rattle.ags_posts.specs.Case.{case_of};
-ghost use Rattle.ags_row.specs.Flag.{has_flag, indicator_number};
+ghost use Rattle.ags_row.specs.Flag.{has_flag};
 ghost use Rattle.ags_verdict.specs.RowCase.{flagged, indicators, with_index, with_word, cases_in};
 ghost use Rattle.ags_verdict.specs.Fault.{IsCaseJudged};
 ghost use Rattle.ags_check.specs.Judging.{cert_of, AreJudged};

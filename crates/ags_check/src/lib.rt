@@ -14,6 +14,3 @@ mod tables;
 pub use ags_verdict::{Refusal, RowFault, Verdict};
 pub use checking::check;
 pub use tables::Table;
-
-#[cfg(test)]
-mod tests;

@@ -1,6 +1,6 @@
 //! Whether a row holds the start.
 
-ghost use Rattle.std.specs.Prelude.{◌≡◌, ◌<◌, ◌↔◌, ℕ, true, IsTrue, All, Any};
+ghost use Rattle.std.specs.Prelude.{◌≡◌, ◌<◌, ◌↔◌, true, IsTrue, All, Any};
 ghost use Rattle.ags_domain.specs.Value.{value_meaning};
 ghost use Rattle.ags_image.specs.Image.{entry_at};
 ghost use Rattle.ags_row.specs.Flag.{has_flag};

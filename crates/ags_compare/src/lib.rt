@@ -4,8 +4,6 @@
 
 mod comparing;
 mod laws;
-#[cfg(test)]
-mod tests;
 
 pub use comparing::{Compared, compare};
 pub use laws::images_compare_in_one_way;

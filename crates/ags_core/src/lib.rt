@@ -16,6 +16,3 @@ mod sums;
 mod transfers;
 
 pub use cores::Core;
-
-#[cfg(test)]
-mod tests;

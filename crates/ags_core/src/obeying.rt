@@ -1,4 +1,4 @@
-//! One order: the address that it acts on, and what it does.
+//! One order: what it does at the address that it acts on.
 
 ghost use Rattle.std.specs.Prelude.{◌≡◌, ◌<◌, length};
 ghost use Rattle.ags_ports.specs.Effect.{effect, effective};

@@ -1,6 +1,6 @@
 //! Decimals: read from their text, and as words.
 
-ghost use Rattle.std.specs.Prelude.{◌≡◌, ◌≤ℤ◌, ℕ, ◌<◌, ◌≤◌, ◌+◌, ◌^◌, true, false, IfSome, Some, None, IsTrue, pos, ◌++◌, length};
+ghost use Rattle.std.specs.Prelude.{◌≡◌, ◌≤ℤ◌, ◌<◌, ◌≤◌, ◌+◌, ◌^◌, true, false, IfSome, Some, None, IsTrue, pos, ◌++◌, length};
 ghost use Rattle.std.specs.List.{list_all};
 ghost use Rattle.ags_decimal.specs.Spelling.{is_digit, are_digits, digits_number};
 ghost use Rattle.ags_decimal.specs.Decimal.{nearest_size, decimal_word};

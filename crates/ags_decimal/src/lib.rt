@@ -8,8 +8,6 @@ mod laws;
 mod marks;
 mod numbers;
 mod sizes;
-#[cfg(test)]
-mod tests;
 
 pub use decimals::{Decimal, read, word};
 pub use laws::{reading_is_spelling, word_is_nearest};

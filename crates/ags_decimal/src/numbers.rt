@@ -1,8 +1,8 @@
 //! The numbers in a decimal's text.
 
-ghost use Rattle.std.specs.Prelude.{◌≡◌, ℕ, ◌+◌, ◌<◌, ◌≤◌, ◌^◌, pos, neg_ℤ, ◌≤ℤ◌, length, IsTrue, IfSome};
+ghost use Rattle.std.specs.Prelude.{◌≡◌, ◌+◌, ◌<◌, ◌≤◌, ◌^◌, pos, neg_ℤ, ◌≤ℤ◌, length, IsTrue, IfSome};
 ghost use Rattle.std.specs.List.{list_all};
-ghost use Rattle.ags_decimal.specs.Spelling.{is_digit, are_digits, number_after, digits_number};
+ghost use Rattle.ags_decimal.specs.Spelling.{is_digit, number_after, digits_number};
 ghost use Rattle.ags_decimal.specs.Reading.{signed_reading, marked_reading};
 
 use crate::marks::{begins_with_minus, behind_first, behind_sign};

@@ -1,6 +1,6 @@
 //! The size of a decimal: its fraction of whole numbers, and that fraction rounded.
 
-ghost use Rattle.std.specs.Prelude.{◌≡◌, ℕ, ◌+◌, ◌*◌, ◌/◌, ◌<◌, ◌≤◌, ◌^◌, unsigned_abs};
+ghost use Rattle.std.specs.Prelude.{◌≡◌, ◌+◌, ◌*◌, ◌/◌, ◌<◌, ◌≤◌, ◌^◌, unsigned_abs};
 ghost use Rattle.ags_decimal.specs.Decimal.{power_above, power_below, nearest_quotient};
 
 /// A power of a base, above the line of a fraction and below it.

@@ -1,6 +1,6 @@
 //! What was keyed, as it is displayed and as it is sent.
 
-ghost use Rattle.std.specs.Prelude.{◌≡◌, ℕ, ◌≤◌, ◌<◌, List, [], ◌∷◌, length, min};
+ghost use Rattle.std.specs.Prelude.{◌≡◌, ◌<◌, List, [], ◌∷◌, length, min};
 ghost use Rattle.ags_deda.specs.declared.keys.Key.{Key};
 ghost use Rattle.ags_deda.specs.Part.{IsKeyed};
 

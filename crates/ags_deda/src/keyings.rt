@@ -1,6 +1,6 @@
 //! How far the keys since the last CLR have come in the two forms.
 
-ghost use Rattle.std.specs.Prelude.{◌≡◌, ◌<◌, ◌≤◌, ℕ, List, [], ◌∷◌, length, min, true, false, IfSome, IfNone};
+ghost use Rattle.std.specs.Prelude.{◌≡◌, ◌<◌, List, [], ◌∷◌, length, min, true, false, IfSome, IfNone};
 ghost use Rattle.ags_deda.specs.declared.keys.Key.{Key};
 ghost use Rattle.ags_deda.specs.Form.{entry_has, readout_has, fits, are_lawful, is_held, is_entered, in_readout};
 ghost use Rattle.ags_deda.specs.Part.{IsKeying};

@@ -10,8 +10,6 @@ mod keyings;
 mod keys;
 mod laws;
 mod panels;
-#[cfg(test)]
-mod tests;
 
 pub use keys::Key;
 pub use laws::{

@@ -1,6 +1,6 @@
 //! The panel.
 
-ghost use Rattle.std.specs.Prelude.{◌≡◌, ℕ, ◌<◌, ◌≤◌, List, [], ◌∷◌, ◌++◌, slice_get, slice_index, Option, Some, None, IfSome, IfNone, IfOk, IfErr, IsOk, ◌↔◌, true, false};
+ghost use Rattle.std.specs.Prelude.{◌≡◌, ◌<◌, ◌≤◌, List, [], ◌∷◌, ◌++◌, slice_get, Option, Some, None, IfSome, IfNone, IfOk, IfErr, IsOk, ◌↔◌, true, false};
 ghost use Rattle.ags_deda.specs.Key.{is_clr};
 ghost use Rattle.ags_deda.specs.declared.keys.Key.{Key};
 ghost use Rattle.ags_deda.specs.Happening.{Happening, Pressed, Shown, Sent, keys_of};

@@ -1,6 +1,6 @@
 //! The words of two values, as a set.
 
-ghost use Rattle.std.specs.Prelude.{◌≡◌, ◌<◌, ◌≤◌, ◌^◌};
+ghost use Rattle.std.specs.Prelude.{◌<◌};
 ghost use Rattle.ags_domain.specs.SetOf.{IsNext};
 ghost use Rattle.ags_domain.specs.Value.{value_held, value_meaning};
 ghost use Rattle.ags_domain.specs.Domain.{held_by_either};

@@ -1,6 +1,6 @@
 //! Ranges from the words at their corners.
 
-ghost use Rattle.std.specs.Prelude.{◌≡◌, ◌<◌, ◌^◌, ◌≤ℤ◌, ℕ, Ok, pos};
+ghost use Rattle.std.specs.Prelude.{◌≡◌, ◌<◌, ◌≤ℤ◌, ℕ, Ok, pos};
 ghost use Rattle.ags_word.specs.Word.{val};
 ghost use Rattle.ags_domain.specs.Range.{range_ends, lesser, greater, hull_of, ends_of};
 ghost use Rattle.ags_domain.specs.Corners.{IsSpanned, IsFromZero, IsAround, ends_of_four};

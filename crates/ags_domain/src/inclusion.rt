@@ -1,6 +1,6 @@
 //! Whether a value lies within a range or a word set.
 
-ghost use Rattle.std.specs.Prelude.{◌≡◌, ◌<◌, ◌^◌, ◌↔◌, ◌&&◌, ℕ, IsTrue, true};
+ghost use Rattle.std.specs.Prelude.{◌≡◌, ◌↔◌, ◌&&◌, IsTrue};
 ghost use Rattle.std.specs.List.{list_all};
 ghost use Rattle.ags_domain.specs.WordSet.{lists};
 ghost use Rattle.ags_domain.specs.Range.{range_ends, lies_between};

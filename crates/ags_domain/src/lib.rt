@@ -29,6 +29,3 @@ pub use operands::Operands;
 pub use ranges::Range;
 pub use values::Value;
 pub use word_sets::WordSet;
-
-#[cfg(test)]
-mod tests;

@@ -1,6 +1,6 @@
 //! Ranges as a domain.
 
-ghost use Rattle.std.specs.Prelude.{◌≡◌, ◌<◌};
+ghost use Rattle.std.specs.Prelude.{◌<◌};
 
 use crate::domains::Domain;
 use crate::gathering::gather;

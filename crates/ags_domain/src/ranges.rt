@@ -18,9 +18,8 @@ pub struct Range {
 }
 
 impl Range {
-    ghost use Rattle.std.specs.Prelude.{◌≡◌, ◌<◌, ◌^◌, ◌≤ℤ◌, ◌<ℤ◌, IfSome};
-    ghost use Rattle.ags_word.specs.Word.{val, fits, wrap};
-    ghost use Rattle.ags_domain.specs.Domain.{Ends};
+    ghost use Rattle.std.specs.Prelude.{◌≡◌, ◌<◌, ◌^◌, ◌≤ℤ◌, IfSome};
+    ghost use Rattle.ags_word.specs.Word.{val};
     ghost use Rattle.ags_domain.specs.LowBits.{all_ones};
     ghost use Rattle.ags_domain.specs.Domain.{IsPart, is_negative, is_not_negative};
     ghost use Rattle.ags_domain.specs.Range.{range_ends, range_meaning, lies_between, IsRangeOf};

@@ -1,6 +1,6 @@
 //! Shifts of a range: of A alone, and of the pair of A and any Q.
 
-ghost use Rattle.std.specs.Prelude.{◌≡◌, ◌<◌, ◌-◌, ◌^◌};
+ghost use Rattle.std.specs.Prelude.{◌≡◌, ◌<◌, ◌-◌};
 ghost use Rattle.ags_word.specs.Operation.{left_shift as left_shift_by, long_left_high as long_left_by, long_right_high as long_right_by};
 ghost use Rattle.ags_domain.specs.Hull.{Answers, IsInterval, tried, no_cell, new_a_at};
 ghost use Rattle.ags_domain.specs.Candidates.{operands, left_shift_candidates, long_left_candidates};

@@ -1,7 +1,6 @@
 //! Values as they are printed, which is their form in a certificate.
 
 ghost use Rattle.std.specs.Prelude.{◌≡◌, Some};
-ghost use Rattle.ags_text.specs.Numeral.{octal6_text};
 ghost use Rattle.ags_domain.specs.Range.{range_ends};
 ghost use Rattle.ags_domain.specs.ValueText.{are_full};
 

@@ -1,6 +1,6 @@
 //! Values as a domain.
 
-ghost use Rattle.std.specs.Prelude.{◌≡◌, ◌<◌, ◌↔◌, IsTrue};
+ghost use Rattle.std.specs.Prelude.{◌<◌};
 
 use crate::domains::Domain;
 use crate::gathering::gather;

@@ -8,6 +8,3 @@ mod images;
 pub mod laws;
 
 pub use images::Image;
-
-#[cfg(test)]
-mod tests;

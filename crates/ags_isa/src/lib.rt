@@ -11,6 +11,3 @@ mod orders;
 pub use code_tables::Codes;
 pub use decoding::{Decoded, decode, encode};
 pub use orders::{Order, order_named};
-
-#[cfg(test)]
-mod tests;

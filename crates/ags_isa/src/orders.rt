@@ -1,8 +1,10 @@
 //! The 27 orders and their names.
 
-ghost use Rattle.std.specs.Prelude.{◌≡◌, ◌<◌, IfSome, Some};
+ghost use Rattle.std.specs.Prelude.{◌≡◌, ◌<◌, IfSome, Some, nat_eq};
+ghost use Rattle.std.specs.List.{find};
+ghost use Rattle.std.specs.Cmp.Lexicographic.{pointwise};
 ghost use Rattle.ags_isa.specs.declared.orders.Order.{Order};
-ghost use Rattle.ags_isa.specs.Order.{order_number, all_orders, order_name};
+ghost use Rattle.ags_isa.specs.Order.{order_number, order_name};
 
 /// An order of the machine. Its number, as `order as usize`, is its place in the alphabet's order.
 #[derive(Clone, Copy, Debug, PartialEq, Eq)]
@@ -145,6 +147,13 @@ impl Order {
             Order::Tsq => "TSQ",
         }
     }
+
+    /// Whether a text is the order's name.
+    fn has_name(self, text: &[u8]) -> bool
+        ensures { result ≡ pointwise nat_eq (order_name self) text.now }
+    {
+        self.name().as_bytes() == text
+    }
 }
 
 /// The order of a name, and nothing for a text that isn't one of the 27 names, letter for letter.
@@ -152,34 +161,12 @@ pub fn order_named(text: &[u8]) -> Option<Order>
     ensures found { IfSome result (λ order. order_name order ≡ text.now) }
     ensures only { (order : Order) → order_name order ≡ text.now → result ≡ Some order }
 {
-    match text {
-        b"ABS" => Some(Order::Abs),
-        b"ADD" => Some(Order::Add),
-        b"ADZ" => Some(Order::Adz),
-        b"ALS" => Some(Order::Als),
-        b"AXT" => Some(Order::Axt),
-        b"CLA" => Some(Order::Cla),
-        b"CLZ" => Some(Order::Clz),
-        b"COM" => Some(Order::Com),
-        b"DLY" => Some(Order::Dly),
-        b"DVP" => Some(Order::Dvp),
-        b"INP" => Some(Order::Inp),
-        b"LDQ" => Some(Order::Ldq),
-        b"LLS" => Some(Order::Lls),
-        b"LRS" => Some(Order::Lrs),
-        b"MPR" => Some(Order::Mpr),
-        b"MPY" => Some(Order::Mpy),
-        b"MPZ" => Some(Order::Mpz),
-        b"OUT" => Some(Order::Out),
-        b"STO" => Some(Order::Sto),
-        b"STQ" => Some(Order::Stq),
-        b"SUB" => Some(Order::Sub),
-        b"SUZ" => Some(Order::Suz),
-        b"TIX" => Some(Order::Tix),
-        b"TMI" => Some(Order::Tmi),
-        b"TOV" => Some(Order::Tov),
-        b"TRA" => Some(Order::Tra),
-        b"TSQ" => Some(Order::Tsq),
-        _ => None,
-    }
+    first_named(&Order::ALL, text)
+}
+
+/// The first of these orders that has a name.
+fn first_named(orders: &[Order], text: &[u8]) -> Option<Order>
+    ensures { result ≡ find (λ order. pointwise nat_eq (order_name order) text.now) orders.now }
+{
+    orders.iter().find(|order| order.has_name(text)).copied()
 }

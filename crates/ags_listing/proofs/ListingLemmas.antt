@@ -11,7 +11,7 @@ use Rattle.ags_image.specs.Image.{PlacedWord, IsMemoryWord, EachPlaceOnce, IsIma
 use Rattle.ags_wordlines.specs.Columns.{placed_in}
 use Rattle.ags_wordlines.specs.Form.{HasForm, words_of}
 use Rattle.ags_wordlines.specs.Lines.{IsCutAtFeeds, feed_lines}
-use Rattle.ags_wordlines.proofs.ColumnLemmas.{printed_columns}
+use Rattle.ags_wordlines.proofs.ColumnLemmas.{and_left, and_right, printed_columns}
 use Rattle.ags_wordlines.proofs.CutLemmas.{one_cut}
 use Rattle.ags_listing.specs.Listing.{PrintedCard, columns, printed_line, listing_text, printed_words, IsPrintable}
 use Rattle.ags_listing.specs.Reads.{is_digit, is_space, is_ruled, said, listing_form, Reads}
@@ -33,14 +33,6 @@ numeral_digits base (suc width) n some most =
 
 digit_no_feed : (b : ℕ) → is_digit b ≡ true → not (b == 10) ≡ true
 digit_no_feed b digit = grind (arith, nat_tests)
-
-and_left : (x y : Bool) → x && y ≡ true → x ≡ true
-and_left true y is = refl
-and_left false y is = absurd cc
-
-and_right : (x y : Bool) → x && y ≡ true → y ≡ true
-and_right true y is = is
-and_right false y is = absurd cc
 
 digits_no_feed : (text : List ℕ) → list_all is_digit text ≡ true → HasNoFeed text
 digits_no_feed [] digits = refl

@@ -22,7 +22,7 @@ use Rattle.ags_wordlines.specs.Fault.{LineFault}
 use Rattle.ags_wordlines.specs.Fault.LineFault.{Misshapen, Twice}
 use Rattle.ags_wordlines.specs.Form.{PutsInMemory}
 use Rattle.ags_wordlines.specs.Lines.{feed_lines}
-use Rattle.ags_wordlines.proofs.ColumnLemmas.{columns_in_memory}
+use Rattle.ags_wordlines.proofs.ColumnLemmas.{and_left, columns_in_memory}
 use Rattle.ags_wordlines.proofs.MeaningLemmas.{each_means, one_reading}
 use Rattle.ags_wordlines.proofs.ReadLemmas.{read_faultless}
 use Rattle.ags_listing.specs.declared.list_error.ListError.{ListError}
@@ -32,10 +32,6 @@ use Rattle.ags_listing.specs.Reads.{is_ruled, is_space, said, put, listing_form,
 use Rattle.ags_listing.proofs.ListingLemmas.{printed_reads}
 
 -- ---- the bytes of a listing
-
-and_left : (x y : Bool) → x && y ≡ true → x ≡ true
-and_left true y is = refl
-and_left false y is = absurd cc
 
 ruled_is_long : (line : List ℕ) → is_ruled line ≡ true → 19 < length line
 unfolding is_ruled

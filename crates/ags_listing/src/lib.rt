@@ -8,8 +8,6 @@ mod forms;
 mod laws;
 mod list_error;
 mod reading;
-#[cfg(test)]
-mod tests;
 mod writing;
 
 pub use laws::{

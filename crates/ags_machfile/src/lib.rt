@@ -16,6 +16,3 @@ mod values;
 pub use keys::Key;
 pub use mach_error::MachError;
 pub use reading::{MACHINE_LIMIT, read};
-
-#[cfg(test)]
-mod tests;

@@ -1,11 +1,11 @@
 //! The table of times.
 
-ghost use Rattle.std.specs.Prelude.{◌≡◌, ◌≤◌, All, IfOk, IfSome, Some, codes};
+ghost use Rattle.std.specs.Prelude.{◌≡◌, ◌≤◌, IfOk, Some, codes};
 ghost use Rattle.toml.specs.Data.{get_member};
 ghost use Rattle.toml.specs.View.{view, table_view};
 ghost use Rattle.ags_ports.specs.Time.{AreTimes};
 ghost use Rattle.ags_machfile.specs.declared.keys.Key.TheVariants as key;
-ghost use Rattle.ags_machfile.specs.OrderTable.{time_given, time_entry, order_numbers, times_in};
+ghost use Rattle.ags_machfile.specs.OrderTable.{time_entry, order_numbers, times_in};
 
 use crate::keys::Key;
 use crate::mach_error::MachError;

@@ -19,6 +19,3 @@ pub use shelves::{Pull, Shelf};
 pub use sinks::{PutDone, Sink};
 pub use steady_shelf::SteadyShelf;
 pub use steady_sink::SteadySink;
-
-#[cfg(test)]
-mod tests;

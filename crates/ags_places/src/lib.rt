@@ -8,8 +8,6 @@ mod placing;
 mod reading;
 mod source_error;
 mod sources;
-#[cfg(test)]
-mod tests;
 
 pub use laws::{
     card_lines_follow, each_symbol_has_a_pair, one_list_of_pairs_fits, places_are_sums,

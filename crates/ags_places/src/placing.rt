@@ -14,7 +14,7 @@ use ags_symbol::{DefineError, Symbols, VALUE_LIMIT};
 pub const MEMORY_WORDS: u16 = 4096;
 
 /// What a card does: the value of its symbol, and where it leaves the place.
-#[derive(Clone, Copy, Debug)]
+#[derive(Clone, Copy)]
 pub(crate) struct Effect {
     /// What the card's symbol stands for, where it has one.
     pub(crate) value: i32,
@@ -23,7 +23,7 @@ pub(crate) struct Effect {
 }
 
 /// Why a card isn't placed.
-#[derive(Clone, Copy, Debug)]
+#[derive(Clone, Copy)]
 pub(crate) enum Stop {
     /// It has this fault.
     Fault(SourceKind),

@@ -80,30 +80,31 @@ impl fmt::Display for SourceKind {
     ghost output = { λ kind. Some (kind_text kind) };
 
     fn fmt<W: fmt::Write>(&self, f: &mut fmt::Formatter<W>) -> fmt::Result {
-        match self {
-            SourceKind::BadByte => f.write_str("1 BadByte"),
-            SourceKind::LongCard => f.write_str("2 LongCard"),
-            SourceKind::BadSymbol => f.write_str("3 BadSymbol"),
-            SourceKind::UnknownOperation => f.write_str("4 UnknownOperation"),
-            SourceKind::MissingOperand => f.write_str("5 MissingOperand"),
-            SourceKind::ExtraOperand => f.write_str("6 ExtraOperand"),
-            SourceKind::BadExpression => f.write_str("7 BadExpression"),
-            SourceKind::BadDecimal => f.write_str("8 BadDecimal"),
-            SourceKind::BadOctal => f.write_str("9 BadOctal"),
+        let text = match self {
+            SourceKind::BadByte => "1 BadByte",
+            SourceKind::LongCard => "2 LongCard",
+            SourceKind::BadSymbol => "3 BadSymbol",
+            SourceKind::UnknownOperation => "4 UnknownOperation",
+            SourceKind::MissingOperand => "5 MissingOperand",
+            SourceKind::ExtraOperand => "6 ExtraOperand",
+            SourceKind::BadExpression => "7 BadExpression",
+            SourceKind::BadDecimal => "8 BadDecimal",
+            SourceKind::BadOctal => "9 BadOctal",
             SourceKind::SymbolTwice { first } => {
                 let first = SevenDigits(*first);
-                write!(f, "10 SymbolTwice {first}")
+                return write!(f, "10 SymbolTwice {first}");
             }
-            SourceKind::UndefinedEarly => f.write_str("11 UndefinedEarly"),
-            SourceKind::PlaceRange => f.write_str("12 PlaceRange"),
-            SourceKind::Undefined => f.write_str("13 Undefined"),
-            SourceKind::AddressRange { value } => write!(f, "14 AddressRange {value}"),
-            SourceKind::ValueRange => f.write_str("15 ValueRange"),
+            SourceKind::UndefinedEarly => "11 UndefinedEarly",
+            SourceKind::PlaceRange => "12 PlaceRange",
+            SourceKind::Undefined => "13 Undefined",
+            SourceKind::AddressRange { value } => return write!(f, "14 AddressRange {value}"),
+            SourceKind::ValueRange => "15 ValueRange",
             SourceKind::PlaceTwice { first } => {
                 let first = SevenDigits(*first);
-                write!(f, "16 PlaceTwice {first}")
+                return write!(f, "16 PlaceTwice {first}");
             }
-        }
+        };
+        f.write_str(text)
     }
 }
 

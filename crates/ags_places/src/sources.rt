@@ -1,6 +1,6 @@
 //! The phases of cards and of places, for a whole source (docs/SOURCE.md, Places).
 
-ghost use Rattle.std.specs.Prelude.{◌≡◌, ◌+◌, ◌≤◌, ◌<◌, ◌^◌, ◌⊎◌, List, length, All, IfSome, OnOk, IfOk, IfErr, IsOkAnd, IsErrOf};
+ghost use Rattle.std.specs.Prelude.{◌≡◌, ◌+◌, ◌≤◌, ◌<◌, ◌^◌, ◌⊎◌, [], List, length, All, IfOk, IfErr, OnOk, IsOkAnd, IsErrOf};
 ghost use Rattle.ags_text.specs.LineView.{line_at};
 ghost use Rattle.ags_symbol.specs.Symbol.{Entry};
 ghost use Rattle.ags_places.specs.declared.placed.Placed.{Placed};
@@ -33,7 +33,7 @@ pub struct PlacedSource {
 }
 
 /// Why the cards of a source are not placed to the end.
-#[derive(Clone, Copy, Debug)]
+#[derive(Clone, Copy)]
 pub(crate) enum Stopped {
     /// This line is the first that is no card.
     Misread(SourceError),
@@ -83,15 +83,16 @@ fn stop_at(number: u32, stop: Stop) -> Stopped
     }
 }
 
-/// The cards of a source at their places, up to the first line that is no card, or the first card that can't be placed.
-fn place_cards(alloc: Global, bytes: &[u8]) -> Result<PlacedSource, Stopped>
-    requires { length bytes.now ≤ SOURCE_LIMIT }
-    ensures placed { IfOk result (λ source. IsPlaced bytes.now source.cards.items source.symbols) }
-    ensures within { IfOk result (λ source. All IsInMemory source.cards.items) }
+/// Places the cards of a source, of which none is placed yet, up to the first line that is no card, or the first card that can't
+/// be placed.
+fn place_lines(bytes: &[u8], symbols: &mut Symbols, cards: &mut Vec<Placed>) -> Result<(), Stopped>
+    requires limit { length bytes.now ≤ SOURCE_LIMIT }
+    requires symbols { symbols.old ≡ [] }
+    requires cards { cards.old.items ≡ [] }
+    ensures placed { OnOk result (IsPlaced bytes.now cards.new.items symbols.new) }
+    ensures within { OnOk result (All IsInMemory cards.new.items) }
     ensures stopped { IfErr result (IsStopped bytes.now) }
 {
-    let mut symbols = Symbols::new(alloc);
-    let mut cards = Vec::new(alloc);
     let mut place = 0;
     for line in Lines::of(bytes) {
         let number = cards.len() as u32 + 1;
@@ -104,16 +105,29 @@ fn place_cards(alloc: Global, bytes: &[u8]) -> Result<PlacedSource, Stopped>
                 }));
             }
         };
-        let next = match place_card(&mut symbols, place, number, &card) {
+        let next = match place_card(symbols, place, number, &card) {
             Ok(next) => next,
             Err(stop) => return Err(stop_at(number, stop)),
         };
         cards.push(place_line(line, place, &card.body))?;
         if is_end(&card.body) {
-            return Ok(PlacedSource { cards, symbols });
+            return Ok(());
         }
         place = next;
     }
+    Ok(())
+}
+
+/// The cards of a source at their places, up to the first line that is no card, or the first card that can't be placed.
+fn place_cards(alloc: Global, bytes: &[u8]) -> Result<PlacedSource, Stopped>
+    requires { length bytes.now ≤ SOURCE_LIMIT }
+    ensures placed { IfOk result (λ source. IsPlaced bytes.now source.cards.items source.symbols) }
+    ensures within { IfOk result (λ source. All IsInMemory source.cards.items) }
+    ensures stopped { IfErr result (IsStopped bytes.now) }
+{
+    let mut symbols = Symbols::new(alloc);
+    let mut cards = Vec::new(alloc);
+    place_lines(bytes, &mut symbols, &mut cards)?;
     Ok(PlacedSource { cards, symbols })
 }
 

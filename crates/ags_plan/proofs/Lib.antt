@@ -5,4 +5,3 @@ pub mod AnswerLemmas
 pub mod RunLemmas
 pub mod StatusLemmas
 pub mod LoadingLemmas
-mod TinyLemmas

@@ -6,5 +6,3 @@ pub mod Outcome
 pub mod Lawful
 pub mod Loading
 pub mod Saying
--- what serves inside: a program for the tests
-pub mod Tiny

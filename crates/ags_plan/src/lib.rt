@@ -23,6 +23,3 @@ pub use loading::fetch_file;
 pub use program::Program;
 pub use running::run;
 pub use unloaded::Unloaded;
-
-#[cfg(test)]
-mod tests;

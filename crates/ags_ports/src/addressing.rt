@@ -7,7 +7,7 @@ use ags_isa::{Decoded, Order};
 
 /// The address that an order acts on: its own one, and where the index bit is set and counts in the order, the bits of that address
 /// and of the index register together. The address is below 4096 and the index below 8, so what is answered is below 4096
-/// (docs/MACHINE.md, The address that an order acts on).
+/// (docs/MACHINE.md, The address that an order acts on). It is inlined, since each step of the machine asks for it.
 #[inline]
 pub fn effective_address(decoded: Decoded, index: u8) -> u16
     requires address { decoded.address < 4096 }

@@ -20,6 +20,3 @@ pub use events::{Event, Phase, Report, Stored};
 pub use machines::Machine;
 pub use registers::{Port, Ports};
 pub use time_tables::Times;
-
-#[cfg(test)]
-mod tests;

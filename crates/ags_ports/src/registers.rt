@@ -1,6 +1,6 @@
 //! The input and output registers of a machine.
 
-ghost use Rattle.std.specs.Prelude.{◌≡◌, ◌≢◌, ◌+◌, ◌<◌, ◌≤◌, ◌↔◌, ◌==◌, IsTrue, All, Any, AllPairs, length, slice_get, drop, IfSome, Some, None, false};
+ghost use Rattle.std.specs.Prelude.{◌≡◌, ◌≢◌, ◌<◌, ◌≤◌, ◌↔◌, ◌==◌, IsTrue, All, Any, AllPairs, length, slice_get, IfSome, Some, None, false};
 ghost use Rattle.ags_ports.specs.Port.{AreRegisters, place_of, is_once, standard_inputs, standard_outputs};
 
 use arrayvec::ArrayVec;

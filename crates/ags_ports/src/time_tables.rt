@@ -1,6 +1,6 @@
 //! Order times.
 
-ghost use Rattle.std.specs.Prelude.{◌≡◌, ◌≤◌, ◌↔◌, IsTrue, All, IfSome, Some, None};
+ghost use Rattle.std.specs.Prelude.{◌≡◌, ◌≤◌, ◌↔◌, IsTrue, IfSome, Some, None};
 ghost use Rattle.ags_ports.specs.Time.{AreTimes, time_of, standard_times};
 
 use ags_isa::Order;

@@ -16,6 +16,7 @@ use Rattle.ags_isa.proofs.WordLemmas.{names-one}
 use Rattle.ags_domain.specs.Domain.{Ends, Meaning, IsMeaning, IsAlone, IsFull, IsPart, is_negative, is_not_negative}
 use Rattle.ags_domain.specs.Hull.{Answers, IsInterval, IsFirstOverflow, overflows_at, no_cell}
 use Rattle.ags_domain.specs.Candidates.{sum_candidates, difference_candidates, sign_candidates, left_shift_candidates, product_candidates, long_left_candidates, quotient_candidates}
+use Rattle.ags_domain.specs.ListLaws.{and_left, and_right}
 use Rattle.ags_domain.specs.declared.operands.Operands.{Operands}
 use Rattle.ags_ports.specs.Effect.{effective_at}
 use Rattle.ags_ports.specs.Port.{place_of}
@@ -48,14 +49,6 @@ both_true false false p r = refl
 
 true_false : true ≡ false → ⊥
 true_false h = cc
-
-and_right : (a b : Bool) → (a && b) ≡ true → b ≡ true
-and_right true b h = h
-and_right false b h = absurd cc
-
-and_left : (a b : Bool) → (a && b) ≡ true → a ≡ true
-and_left true b h = refl
-and_left false b h = h
 
 through : (a b c : ℤ) → a ≤ℤ b → b ≤ℤ c → a ≤ℤ c
 through a b c p r = omega (arith, ints)

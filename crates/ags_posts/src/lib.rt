@@ -8,6 +8,3 @@ mod answers;
 pub mod laws;
 
 pub use answers::{PostPair, Stop};
-
-#[cfg(test)]
-mod tests;

@@ -5,14 +5,9 @@ use Rattle.std.specs.Prelude.{◌&&◌, ◌==◌, nat_le, nat_lt, Option, Some, 
 use Rattle.std.proofs.lemmas.Bool.{eq-eqb, cases_lt}
 use Rattle.std.proofs.lemmas.Bool.Decides.{nat_tests}
 use Rattle.std.proofs.lemmas.List.{get_or_default}
+use Rattle.ags_domain.specs.ListLaws.{and_left, and_right}
 use Rattle.ags_row.specs.Cell.{cells_ascend, value_among}
 use Rattle.ags_row.specs.declared.ats.At.{At}
-
-and_left : (a b : Bool) → (a && b) ≡ true → a ≡ true
-and_left a b h = grind (arith, nat_tests)
-
-and_right : (a b : Bool) → (a && b) ≡ true → b ≡ true
-and_right a b h = grind (arith, nat_tests)
 
 -- the parts of what it is to ascend
 module _ {D : Type 0} (from : ℕ) (cell : At D) (cells : List (At D)) (ascends : cells_ascend from (cell ∷ cells) ≡ true) where

@@ -1,6 +1,6 @@
 //! The cells that a row names.
 
-ghost use Rattle.std.specs.Prelude.{◌≡◌, ◌<◌, ◌≤◌, ◌↔◌, IsTrue, true, length};
+ghost use Rattle.std.specs.Prelude.{◌≡◌, ◌<◌, true};
 ghost use Rattle.ags_row.specs.Cell.{cells_ascend, value_among};
 
 use crate::ats::At;

@@ -16,6 +16,3 @@ pub use coverage::{cell_of, covers};
 pub use limits::Limits;
 pub use posts::Post;
 pub use rows::{Row, RowParts};
-
-#[cfg(test)]
-mod tests;

@@ -1,6 +1,6 @@
 //! The play of one command.
 
-ghost use Rattle.std.specs.Prelude.{◌≡◌, IfOk, IfErr, option_map};
+ghost use Rattle.std.specs.Prelude.{IfOk, IfErr, option_map};
 ghost use Rattle.ags_outside.specs.Count.{HasCause};
 ghost use Rattle.ags_play.specs.Act.{acts_of_command};
 ghost use Rattle.ags_play.specs.Bench as play;

@@ -24,6 +24,3 @@ pub use outside::Outside;
 pub use play_error::PlayError;
 pub use playing::{Played, play};
 pub use shown_lines::{cell_line, output_line, reg_line};
-
-#[cfg(test)]
-mod tests;

@@ -1,6 +1,6 @@
 //! The play of a script's commands, one after another.
 
-ghost use Rattle.std.specs.Prelude.{◌≡◌, IfOk, IfErr, option_map};
+ghost use Rattle.std.specs.Prelude.{IfOk, IfErr, option_map};
 ghost use Rattle.ags_outside.specs.Count.{HasCause};
 ghost use Rattle.ags_play.specs.Act.{acts_of};
 ghost use Rattle.ags_play.specs.Bench as play;

@@ -48,6 +48,18 @@ fn output_at(machine: &Machine, core: &Core, address: u16) -> Word
     }
 }
 
+/// A line with its line feed.
+fn whole_line(line: &[u8]) -> ArrayVec<u8, 35>
+    requires { length line.now ≤ 34 }
+    ensures { result.items ≡ line.now ++ codes "\n" }
+{
+    // the longest line has room, with its line feed
+    let mut whole: ArrayVec<u8, 35> = ArrayVec::new();
+    let _ = whole.try_extend_from_slice(line);
+    let _ = whole.try_push(b'\n');
+    whole
+}
+
 /// Sends a line with its line feed, as one piece.
 fn send_line<K: Sink>(out: &mut K, line: &[u8]) -> Result<(), PlayError>
     requires { length line.now ≤ 34 }
@@ -55,11 +67,7 @@ fn send_line<K: Sink>(out: &mut K, line: &[u8]) -> Result<(), PlayError>
     ensures front { IfErr result (IsFrontSent (K.told out.old) (K.told out.new) (line.now ++ codes "\n")) }
     ensures faults { HasCause (K.faults out.old) (K.faults out.new) (is_play_fault result) }
 {
-    // the longest line has room, with its line feed
-    let mut whole: ArrayVec<u8, 35> = ArrayVec::new();
-    let _ = whole.try_extend_from_slice(line);
-    let _ = whole.try_push(b'\n');
-    match send(out, whole.as_slice()) {
+    match send(out, whole_line(line).as_slice()) {
         Ok(()) => Ok(()),
         Err(SendError::WriteFault) => Err(PlayError::WriteFault),
         Err(SendError::NoMemory) => Err(PlayError::NoMemory),

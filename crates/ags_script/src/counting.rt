@@ -1,7 +1,6 @@
 //! What commands count for, and what they need of a machine.
 
-ghost use Rattle.std.specs.Prelude.{◌≡◌, ◌≤◌, ◌<◌};
-ghost use Rattle.ags_ports.specs.Port.{place_of};
+ghost use Rattle.std.specs.Prelude.{◌≡◌};
 ghost use Rattle.ags_script.specs.Command.{is_start, is_setting, step_count, lacks_port};
 
 use crate::commands::Command;

@@ -13,8 +13,6 @@ mod operands;
 mod reader;
 mod script_errors;
 mod scripts;
-#[cfg(test)]
-mod tests;
 mod verb_commands;
 mod verbs;
 

@@ -1,9 +1,8 @@
 //! What a line's first field is, and what SHOW shows.
 
 ghost use Rattle.std.specs.Prelude.{◌≡◌, IfSome, Some};
-ghost use Rattle.ags_script.specs.declared.verbs.Verb.{Verb};
 ghost use Rattle.ags_script.specs.declared.verbs.Subject.{Subject};
-ghost use Rattle.ags_script.specs.Operand.{verb_name, verb_named, subject_name, subject_named};
+ghost use Rattle.ags_script.specs.Operand.{named, verb_name, verb_named, subject_name, subject_named};
 
 /// The first field of a line.
 #[derive(Clone, Copy)]
@@ -43,24 +42,48 @@ pub(crate) enum Subject {
     Deda,
 }
 
-/// The verb of a name, letter for letter.
-fn verb_of(text: &[u8]) -> Option<Verb>
-    ensures found { IfSome result (λ verb. verb_name verb ≡ text.now) }
-    ensures only { (verb : Verb) → verb_name verb ≡ text.now → result ≡ Some verb }
-{
-    match text {
-        b"START" => Some(Verb::Start),
-        b"CELL" => Some(Verb::Cell),
-        b"PORT" => Some(Verb::Port),
-        b"STEP" => Some(Verb::Step),
-        b"PULSE" => Some(Verb::Pulse),
-        b"SET" => Some(Verb::Set),
-        b"KEY" => Some(Verb::Key),
-        b"FEED" => Some(Verb::Feed),
-        b"CYCLE" => Some(Verb::Cycle),
-        b"SHOW" => Some(Verb::Show),
-        _ => None,
+impl Verb {
+    /// All verbs.
+    const ALL: [Verb; 10] = [
+        Verb::Start,
+        Verb::Cell,
+        Verb::Port,
+        Verb::Step,
+        Verb::Pulse,
+        Verb::Set,
+        Verb::Key,
+        Verb::Feed,
+        Verb::Cycle,
+        Verb::Show,
+    ];
+
+    /// The verb's name, as a script writes it.
+    fn name(self) -> &'static str
+        ensures { result.now ≡ verb_name self }
+    {
+        match self {
+            Verb::Start => "START",
+            Verb::Cell => "CELL",
+            Verb::Port => "PORT",
+            Verb::Step => "STEP",
+            Verb::Pulse => "PULSE",
+            Verb::Set => "SET",
+            Verb::Key => "KEY",
+            Verb::Feed => "FEED",
+            Verb::Cycle => "CYCLE",
+            Verb::Show => "SHOW",
+        }
     }
+}
+
+/// The first of these verbs that a text names, letter for letter.
+fn first_named(verbs: &[Verb], text: &[u8]) -> Option<Verb>
+    ensures { result ≡ named verb_name verbs.now text.now }
+{
+    verbs
+        .iter()
+        .find(|verb| verb.name().as_bytes() == text)
+        .copied()
 }
 
 /// The subject of a name, letter for letter.
@@ -78,10 +101,11 @@ fn subject_of(text: &[u8]) -> Option<Subject>
 }
 
 /// The verb of a name, and nothing for a text that is none.
+#[tactic(auto, unfolding(crate::specs::Operand::verb_named))]
 pub(crate) fn verb_named(text: &[u8]) -> Option<Verb>
     ensures { result ≡ verb_named text.now }
 {
-    verb_of(text)
+    first_named(&Verb::ALL, text)
 }
 
 /// The subject of a name, and nothing for a text that is none.

@@ -5,8 +5,6 @@
 mod laws;
 mod sums;
 mod symbols;
-#[cfg(test)]
-mod tests;
 
 pub use laws::pairs_are_found_by_name;
 pub use symbols::{DefineError, Defined, Symbols, VALUE_LIMIT};

@@ -44,9 +44,7 @@ pub struct Symbols {
 }
 
 impl Model for Symbols {
-    ghost use Rattle.std.specs.Prelude.{List, map, All, nat_eq};
-    ghost use Rattle.std.specs.Cmp.Lexicographic.{pointwise};
-    ghost use Rattle.indexmap.specs.IndexMap.{IsUnique};
+    ghost use Rattle.std.specs.Prelude.{List, map, All};
     ghost use Rattle.ags_symbol.specs.Symbol.{Entry, IsValue};
     ghost use Rattle.ags_symbol.specs.View.{entry_of, AreSymbols};
 

@@ -1,7 +1,5 @@
 //! The form of a tape's lines.
 
-ghost use Rattle.std.specs.Prelude.{◌≡◌};
-
 use ags_word::Word;
 use ags_wordlines::{LineForm, read_columns};
 

@@ -6,8 +6,6 @@
 mod forms;
 mod laws;
 mod reading;
-#[cfg(test)]
-mod tests;
 mod writing;
 
 pub use laws::written_tape_reads_back;

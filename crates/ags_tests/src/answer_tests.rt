@@ -123,46 +123,48 @@ type Played = (&'static str, &'static str, &'static str);
 
 // Overflow and its test, the greatest product, two divisions, a long right shift, an indexed store, and a delay that a
 // pulse ends.
+/// The rows of `plays_scripts`.
+const PLAYS_SCRIPTS: [Played; 7] = [
+    (
+        " ORG /4000\n OCT 204010\n OCT 224011\n OCT 444004\n ORG /4010\n OCT 377777\n OCT 1\n",
+        "STEP 2\nSHOW REG\nSTEP 1\nSHOW REG\nSTEP 1\nSHOW REG\n",
+        "A 400000 Q 000000 X 0 V 1 P 4002 R\nA 400000 Q 000000 X 0 V 0 P 4004 R\nA 400000 Q 000000 X 0 V 0 P 4004 H\n",
+    ),
+    (
+        " ORG /4000\n OCT 204010\n OCT 264010\n ORG /4010\n OCT 400000\n",
+        "STEP 2\nSHOW REG\n",
+        "A 400000 Q 400000 X 0 V 1 P 4002 R\n",
+    ),
+    (
+        " ORG /4000\n OCT 204010\n OCT 024011\n ORG /4010\n OCT 1\n OCT 2\n",
+        "STEP 2\nSHOW REG\n",
+        "A 200000 Q 000000 X 0 V 0 P 4002 R\n",
+    ),
+    (
+        " ORG /4000\n OCT 204010\n OCT 024011\n ORG /4010\n OCT 5\n OCT 0\n",
+        "STEP 2\nSHOW REG\n",
+        "A 000005 Q 000000 X 0 V 1 P 4002 R\n",
+    ),
+    (
+        " ORG /4000\n OCT 204010\n OCT 540001\n ORG /4010\n OCT 777777\n",
+        "STEP 2\nSHOW REG\n",
+        "A 777777 Q 600000 X 0 V 0 P 4002 R\n",
+    ),
+    (
+        " ORG /10\n OCT 7\n ORG /15\n OCT 3\n ORG /4000\n OCT 500005\n OCT 110010\n",
+        "STEP 2\nSHOW CELL 0015\nSHOW CELL 0010\n",
+        "CELL 0015 000000\nCELL 0010 000007\n",
+    ),
+    (
+        " ORG /4000\n OCT 704000\n",
+        "PULSE\nSTEP 2\nSHOW REG\nPULSE\nSHOW REG\n",
+        "A 000000 Q 000000 X 0 V 0 P 4000 W\nA 000000 Q 000000 X 0 V 0 P 4000 R\n",
+    ),
+];
+
 #[test]
 fn plays_scripts(rt: HostRuntime) -> Result<(), Fail> {
-    let rows: [Played; 7] = [
-        (
-            " ORG /4000\n OCT 204010\n OCT 224011\n OCT 444004\n ORG /4010\n OCT 377777\n OCT 1\n",
-            "STEP 2\nSHOW REG\nSTEP 1\nSHOW REG\nSTEP 1\nSHOW REG\n",
-            "A 400000 Q 000000 X 0 V 1 P 4002 R\nA 400000 Q 000000 X 0 V 0 P 4004 R\nA 400000 Q 000000 X 0 V 0 P 4004 H\n",
-        ),
-        (
-            " ORG /4000\n OCT 204010\n OCT 264010\n ORG /4010\n OCT 400000\n",
-            "STEP 2\nSHOW REG\n",
-            "A 400000 Q 400000 X 0 V 1 P 4002 R\n",
-        ),
-        (
-            " ORG /4000\n OCT 204010\n OCT 024011\n ORG /4010\n OCT 1\n OCT 2\n",
-            "STEP 2\nSHOW REG\n",
-            "A 200000 Q 000000 X 0 V 0 P 4002 R\n",
-        ),
-        (
-            " ORG /4000\n OCT 204010\n OCT 024011\n ORG /4010\n OCT 5\n OCT 0\n",
-            "STEP 2\nSHOW REG\n",
-            "A 000005 Q 000000 X 0 V 1 P 4002 R\n",
-        ),
-        (
-            " ORG /4000\n OCT 204010\n OCT 540001\n ORG /4010\n OCT 777777\n",
-            "STEP 2\nSHOW REG\n",
-            "A 777777 Q 600000 X 0 V 0 P 4002 R\n",
-        ),
-        (
-            " ORG /10\n OCT 7\n ORG /15\n OCT 3\n ORG /4000\n OCT 500005\n OCT 110010\n",
-            "STEP 2\nSHOW CELL 0015\nSHOW CELL 0010\n",
-            "CELL 0015 000000\nCELL 0010 000007\n",
-        ),
-        (
-            " ORG /4000\n OCT 704000\n",
-            "PULSE\nSTEP 2\nSHOW REG\nPULSE\nSHOW REG\n",
-            "A 000000 Q 000000 X 0 V 0 P 4000 W\nA 000000 Q 000000 X 0 V 0 P 4000 R\n",
-        ),
-    ];
-    for (source, script, text) in rows {
+    for (source, script, text) in PLAYS_SCRIPTS {
         let files = [("S", source.as_bytes()), ("P", script.as_bytes())];
         for most in [1000, 1] {
             compare_over(&rt, &files, "run S P", most, Status::Done, text)?;
@@ -180,19 +182,21 @@ fn plays_inputs_and_outputs(rt: HostRuntime) -> Result<(), Fail> {
     compare_over(&rt, &files, "run S P", 9, Status::Done, "OUT 6001 001750\n")
 }
 
+/// The rows of `says_the_first_fault_of_a_script`.
+const SAYS_THE_FIRST_FAULT_OF_A_SCRIPT: [(&str, &str); 4] = [
+    ("STEP\n", "SCRIPT LINE 1 ERROR 1 BadLine\n"),
+    ("SHOW REG\nSTART 4000\n", "SCRIPT LINE 2 ERROR 1 BadLine\n"),
+    ("#\n\nSET 2003 000001\n", "SCRIPT LINE 3 ERROR 2 NoPort\n"),
+    (
+        "STEP 100000000\nSTEP 1\n",
+        "SCRIPT LINE 2 ERROR 3 TooManySteps\n",
+    ),
+];
+
 #[test]
 fn says_the_first_fault_of_a_script(rt: HostRuntime) -> Result<(), Fail> {
-    let rows = [
-        ("STEP\n", "SCRIPT LINE 1 ERROR 1 BadLine\n"),
-        ("SHOW REG\nSTART 4000\n", "SCRIPT LINE 2 ERROR 1 BadLine\n"),
-        ("#\n\nSET 2003 000001\n", "SCRIPT LINE 3 ERROR 2 NoPort\n"),
-        (
-            "STEP 100000000\nSTEP 1\n",
-            "SCRIPT LINE 2 ERROR 3 TooManySteps\n",
-        ),
-    ];
     let source = b"* FIRST\n ORG /4000\nA OCT 7\n".as_slice();
-    for (script, line) in rows {
+    for (script, line) in SAYS_THE_FIRST_FAULT_OF_A_SCRIPT {
         let files = [("S", source), ("P", script.as_bytes())];
         compare_over(&rt, &files, "run S P", 9, Status::BadText, line)?;
     }

@@ -50,53 +50,57 @@ fn certifies_the_deck(rt: HostRuntime) -> Result<(), Fail> {
     )
 }
 
+/// The rows of `certifies_a_return_word`.
+const CERTIFIES_A_RETURN_WORD: [(&str, Status, &str); 3] = [
+    (
+        "AGSCERT 1\nSTART 4000\nROW 4000 A ANY Q ANY X 0 V 0\nROW 4001 A ANY Q ANY X 0 V 0\nROW 4002 A ANY Q WORDS 404001 X 0 V 0\nROW 4003 A ANY Q ANY X 0 V 0\nAT 0017 WORDS 404001\nROW 0017 A ANY Q ANY X 0 V 0\nAT 0017 WORDS 404001\nEND\n",
+        Status::Done,
+        "CERTIFIED ROWS 5 CASES 5\n",
+    ),
+    // without the last cell
+    (
+        "AGSCERT 1\nSTART 4000\nROW 4000 A ANY Q ANY X 0 V 0\nROW 4001 A ANY Q ANY X 0 V 0\nROW 4002 A ANY Q WORDS 404001 X 0 V 0\nROW 4003 A ANY Q ANY X 0 V 0\nAT 0017 WORDS 404001\nROW 0017 A ANY Q ANY X 0 V 0\nEND\n",
+        Status::No,
+        "REFUSED 3 CodeUnknown ROW 5\n",
+    ),
+    // without the first
+    (
+        "AGSCERT 1\nSTART 4000\nROW 4000 A ANY Q ANY X 0 V 0\nROW 4001 A ANY Q ANY X 0 V 0\nROW 4002 A ANY Q WORDS 404001 X 0 V 0\nROW 4003 A ANY Q ANY X 0 V 0\nROW 0017 A ANY Q ANY X 0 V 0\nAT 0017 WORDS 404001\nEND\n",
+        Status::No,
+        "REFUSED 10 NotCovered ROW 4 WORD 400017 X 0 V 0 NEXT 0017\n",
+    ),
+];
+
 #[test]
 fn certifies_a_return_word(rt: HostRuntime) -> Result<(), Fail> {
-    let rows = [
-        (
-            "AGSCERT 1\nSTART 4000\nROW 4000 A ANY Q ANY X 0 V 0\nROW 4001 A ANY Q ANY X 0 V 0\nROW 4002 A ANY Q WORDS 404001 X 0 V 0\nROW 4003 A ANY Q ANY X 0 V 0\nAT 0017 WORDS 404001\nROW 0017 A ANY Q ANY X 0 V 0\nAT 0017 WORDS 404001\nEND\n",
-            Status::Done,
-            "CERTIFIED ROWS 5 CASES 5\n",
-        ),
-        // without the last cell
-        (
-            "AGSCERT 1\nSTART 4000\nROW 4000 A ANY Q ANY X 0 V 0\nROW 4001 A ANY Q ANY X 0 V 0\nROW 4002 A ANY Q WORDS 404001 X 0 V 0\nROW 4003 A ANY Q ANY X 0 V 0\nAT 0017 WORDS 404001\nROW 0017 A ANY Q ANY X 0 V 0\nEND\n",
-            Status::No,
-            "REFUSED 3 CodeUnknown ROW 5\n",
-        ),
-        // without the first
-        (
-            "AGSCERT 1\nSTART 4000\nROW 4000 A ANY Q ANY X 0 V 0\nROW 4001 A ANY Q ANY X 0 V 0\nROW 4002 A ANY Q WORDS 404001 X 0 V 0\nROW 4003 A ANY Q ANY X 0 V 0\nROW 0017 A ANY Q ANY X 0 V 0\nAT 0017 WORDS 404001\nEND\n",
-            Status::No,
-            "REFUSED 10 NotCovered ROW 4 WORD 400017 X 0 V 0 NEXT 0017\n",
-        ),
-    ];
-    for (certificate, status, verdict) in rows {
+    for (certificate, status, verdict) in CERTIFIES_A_RETURN_WORD {
         compare_verdict(&rt, RETURN, RETURN_LISTING, certificate, status, verdict)?;
     }
     Ok(())
 }
 
+/// The rows of `refuses_overflows_that_are_not_named`.
+const REFUSES_OVERFLOWS_THAT_ARE_NOT_NAMED: [(&str, Status, &str); 3] = [
+    (
+        "AGSCERT 1\nROW 4000 A ANY Q ANY X 0 V 0\nROW 4001 A ANY Q ANY X 0 V 0\nROW 4002 A ANY Q ANY X 0 V 0\nROW 4003 A ANY Q ANY X 0 V 0\nEND\n",
+        Status::No,
+        "REFUSED 7 MayOverflow ROW 2 WORD 224004 A 377777 Q 000000 M 000001\n",
+    ),
+    (
+        "AGSCERT 1\nMAY 4001\nROW 4000 A ANY Q ANY X 0 V 0\nROW 4001 A ANY Q ANY X 0 V 0\nROW 4002 A ANY Q ANY X 0 V 0\nROW 4003 A ANY Q ANY X 0 V 0\nEND\n",
+        Status::No,
+        "REFUSED 10 NotCovered ROW 2 WORD 224004 X 0 V 0 NEXT 4002\n",
+    ),
+    (
+        "AGSCERT 1\nMAY 4001\nROW 4000 A ANY Q ANY X 0 V 01\nROW 4001 A ANY Q ANY X 0 V 01\nROW 4002 A ANY Q ANY X 0 V 01\nROW 4003 A ANY Q ANY X 0 V 01\nEND\n",
+        Status::Done,
+        "CERTIFIED ROWS 4 CASES 8\n",
+    ),
+];
+
 #[test]
 fn refuses_overflows_that_are_not_named(rt: HostRuntime) -> Result<(), Fail> {
-    let rows = [
-        (
-            "AGSCERT 1\nROW 4000 A ANY Q ANY X 0 V 0\nROW 4001 A ANY Q ANY X 0 V 0\nROW 4002 A ANY Q ANY X 0 V 0\nROW 4003 A ANY Q ANY X 0 V 0\nEND\n",
-            Status::No,
-            "REFUSED 7 MayOverflow ROW 2 WORD 224004 A 377777 Q 000000 M 000001\n",
-        ),
-        (
-            "AGSCERT 1\nMAY 4001\nROW 4000 A ANY Q ANY X 0 V 0\nROW 4001 A ANY Q ANY X 0 V 0\nROW 4002 A ANY Q ANY X 0 V 0\nROW 4003 A ANY Q ANY X 0 V 0\nEND\n",
-            Status::No,
-            "REFUSED 10 NotCovered ROW 2 WORD 224004 X 0 V 0 NEXT 4002\n",
-        ),
-        (
-            "AGSCERT 1\nMAY 4001\nROW 4000 A ANY Q ANY X 0 V 01\nROW 4001 A ANY Q ANY X 0 V 01\nROW 4002 A ANY Q ANY X 0 V 01\nROW 4003 A ANY Q ANY X 0 V 01\nEND\n",
-            Status::Done,
-            "CERTIFIED ROWS 4 CASES 8\n",
-        ),
-    ];
-    for (certificate, status, verdict) in rows {
+    for (certificate, status, verdict) in REFUSES_OVERFLOWS_THAT_ARE_NOT_NAMED {
         compare_verdict(&rt, SUMS, SUMS_LISTING, certificate, status, verdict)?;
     }
     Ok(())
@@ -105,43 +109,45 @@ fn refuses_overflows_that_are_not_named(rt: HostRuntime) -> Result<(), Fail> {
 /// A source of one order, the certificate behind its first line, its listing and the verdict that refuses it.
 type Refused = (&'static str, &'static str, &'static str, &'static str);
 
+/// The rows of `refuses_what_fails_first`.
+const REFUSES_WHAT_FAILS_FIRST: [Refused; 5] = [
+    (
+        " ORG /4000\n CLZ /4000\n",
+        "AGSCERT 1\nROW 4000 A ANY Q ANY X 0 V 0\nEND\n",
+        "0000001              ORG /4000\n0000002 4000 304000  CLZ /4000\n",
+        "REFUSED 6 FixedWrite ROW 1 WORD 304000 AT 4000\n",
+    ),
+    (
+        " ORG /4000\n INP /2003\n",
+        "AGSCERT 1\nROW 4000 A ANY Q ANY X 0 V 0\nEND\n",
+        "0000001              ORG /4000\n0000002 4000 642003  INP /2003\n",
+        "REFUSED 5 BadPort ROW 1 WORD 642003\n",
+    ),
+    // a cell that is run from, which may hold 17 words, and 16
+    (
+        " ORG /4000\n TRA /17\n",
+        "AGSCERT 1\nCELL 0017 RANGE 0 16\nROW 4000 A ANY Q ANY X 0 V 0\nROW 0017 A ANY Q ANY X 0 V 0\nEND\n",
+        "0000001              ORG /4000\n0000002 4000 400017  TRA /17\n",
+        "REFUSED 3 CodeUnknown ROW 2\n",
+    ),
+    (
+        " ORG /4000\n TRA /17\n",
+        "AGSCERT 1\nCELL 0017 RANGE 0 15\nROW 4000 A ANY Q ANY X 0 V 0\nROW 0017 A ANY Q ANY X 0 V 0\nEND\n",
+        "0000001              ORG /4000\n0000002 4000 400017  TRA /17\n",
+        "REFUSED 4 NoOrder ROW 2 WORD 000000\n",
+    ),
+    // the first word of a cell that has none
+    (
+        " ORG /4000\n TRA /4000\n",
+        "AGSCERT 1\nCELL 0017 RANGE 5 9\nROW 4000 A ANY Q ANY X 0 V 0\nEND\n",
+        "0000001              ORG /4000\n0000002 4000 404000  TRA /4000\n",
+        "REFUSED 1 InitRange 0017 000000\n",
+    ),
+];
+
 #[test]
 fn refuses_what_fails_first(rt: HostRuntime) -> Result<(), Fail> {
-    let rows: [Refused; 5] = [
-        (
-            " ORG /4000\n CLZ /4000\n",
-            "AGSCERT 1\nROW 4000 A ANY Q ANY X 0 V 0\nEND\n",
-            "0000001              ORG /4000\n0000002 4000 304000  CLZ /4000\n",
-            "REFUSED 6 FixedWrite ROW 1 WORD 304000 AT 4000\n",
-        ),
-        (
-            " ORG /4000\n INP /2003\n",
-            "AGSCERT 1\nROW 4000 A ANY Q ANY X 0 V 0\nEND\n",
-            "0000001              ORG /4000\n0000002 4000 642003  INP /2003\n",
-            "REFUSED 5 BadPort ROW 1 WORD 642003\n",
-        ),
-        // a cell that is run from, which may hold 17 words, and 16
-        (
-            " ORG /4000\n TRA /17\n",
-            "AGSCERT 1\nCELL 0017 RANGE 0 16\nROW 4000 A ANY Q ANY X 0 V 0\nROW 0017 A ANY Q ANY X 0 V 0\nEND\n",
-            "0000001              ORG /4000\n0000002 4000 400017  TRA /17\n",
-            "REFUSED 3 CodeUnknown ROW 2\n",
-        ),
-        (
-            " ORG /4000\n TRA /17\n",
-            "AGSCERT 1\nCELL 0017 RANGE 0 15\nROW 4000 A ANY Q ANY X 0 V 0\nROW 0017 A ANY Q ANY X 0 V 0\nEND\n",
-            "0000001              ORG /4000\n0000002 4000 400017  TRA /17\n",
-            "REFUSED 4 NoOrder ROW 2 WORD 000000\n",
-        ),
-        // the first word of a cell that has none
-        (
-            " ORG /4000\n TRA /4000\n",
-            "AGSCERT 1\nCELL 0017 RANGE 5 9\nROW 4000 A ANY Q ANY X 0 V 0\nEND\n",
-            "0000001              ORG /4000\n0000002 4000 404000  TRA /4000\n",
-            "REFUSED 1 InitRange 0017 000000\n",
-        ),
-    ];
-    for (source, certificate, listing, verdict) in rows {
+    for (source, certificate, listing, verdict) in REFUSES_WHAT_FAILS_FIRST {
         compare_verdict(&rt, source, listing, certificate, Status::No, verdict)?;
     }
     Ok(())
@@ -195,34 +201,36 @@ fn compare_fault(
 }
 
 // A certificate with a fault is told by its line, without a listing.
+/// The rows of `says_the_first_fault_of_a_certificate`.
+const SAYS_THE_FIRST_FAULT_OF_A_CERTIFICATE: [(&str, &str); 8] = [
+    (
+        "AGSCERT 1\nSTART 4000\nROW 4000 A ANY Q ANY X 0 V 0\nROW 4001 A ANY Q ANY X 0 V 0\nROW 4002 A ANY Q WORDS 404001 X 0 V 0\nROW 4003 A ANY Q ANY X 0 V 0\nAT 0017 WORDS 404001\nROW 0017 A ANY Q ANY X 0 V 0\nAT 0017 WORDS 404001\n",
+        "CERTIFICATE LINE 10 ERROR 1 BadLine\n",
+    ),
+    ("", "CERTIFICATE LINE 1 ERROR 1 BadLine\n"),
+    ("AGSCERT 2\n", "CERTIFICATE LINE 1 ERROR 2 Version\n"),
+    (
+        "AGSCERT 1\nSTART 4000\nSTART 4000\n",
+        "CERTIFICATE LINE 3 ERROR 3 Twice\n",
+    ),
+    (
+        "AGSCERT 1\n# A\n\nCELL 0017 RANGE 5 4\n",
+        "CERTIFICATE LINE 4 ERROR 4 EmptyRange\n",
+    ),
+    (
+        "AGSCERT 1\nCELL 0017 RANGE 0 4\nINIT 0017 RANGE 0 5\n",
+        "CERTIFICATE LINE 3 ERROR 5 OutsideGlobal\n",
+    ),
+    (
+        "AGSCERT 1\nIN 2003 ANY\n",
+        "CERTIFICATE LINE 2 ERROR 1 BadLine\n",
+    ),
+    ("AGSCERT 1\nEND\n", "CERTIFICATE LINE 2 ERROR 9 NoRows\n"),
+];
+
 #[test]
 fn says_the_first_fault_of_a_certificate(rt: HostRuntime) -> Result<(), Fail> {
-    let rows = [
-        (
-            "AGSCERT 1\nSTART 4000\nROW 4000 A ANY Q ANY X 0 V 0\nROW 4001 A ANY Q ANY X 0 V 0\nROW 4002 A ANY Q WORDS 404001 X 0 V 0\nROW 4003 A ANY Q ANY X 0 V 0\nAT 0017 WORDS 404001\nROW 0017 A ANY Q ANY X 0 V 0\nAT 0017 WORDS 404001\n",
-            "CERTIFICATE LINE 10 ERROR 1 BadLine\n",
-        ),
-        ("", "CERTIFICATE LINE 1 ERROR 1 BadLine\n"),
-        ("AGSCERT 2\n", "CERTIFICATE LINE 1 ERROR 2 Version\n"),
-        (
-            "AGSCERT 1\nSTART 4000\nSTART 4000\n",
-            "CERTIFICATE LINE 3 ERROR 3 Twice\n",
-        ),
-        (
-            "AGSCERT 1\n# A\n\nCELL 0017 RANGE 5 4\n",
-            "CERTIFICATE LINE 4 ERROR 4 EmptyRange\n",
-        ),
-        (
-            "AGSCERT 1\nCELL 0017 RANGE 0 4\nINIT 0017 RANGE 0 5\n",
-            "CERTIFICATE LINE 3 ERROR 5 OutsideGlobal\n",
-        ),
-        (
-            "AGSCERT 1\nIN 2003 ANY\n",
-            "CERTIFICATE LINE 2 ERROR 1 BadLine\n",
-        ),
-        ("AGSCERT 1\nEND\n", "CERTIFICATE LINE 2 ERROR 9 NoRows\n"),
-    ];
-    for (certificate, line) in rows {
+    for (certificate, line) in SAYS_THE_FIRST_FAULT_OF_A_CERTIFICATE {
         compare_fault(&rt, certificate, line)?;
     }
     Ok(())
@@ -252,6 +260,25 @@ fn reads_the_certificate_behind_machine_file_and_source(rt: HostRuntime) -> Resu
 }
 
 // A register that holds its word once must be allowed to hold 0, by the machine file that is named.
+/// The rows of `takes_the_registers_of_a_machine_file`.
+const TAKES_THE_REGISTERS_OF_A_MACHINE_FILE: [(&str, Status, &str); 3] = [
+    (
+        "certify S C M",
+        Status::Done,
+        "0000001              ORG /4000\n0000002 4000 640017  INP /17\n0000003 4001 404000  TRA /4000\nCERTIFIED ROWS 2 CASES 2\n",
+    ),
+    (
+        "certify S C N",
+        Status::BadCert,
+        "CERTIFICATE LINE 2 ERROR 6 NoZero\n",
+    ),
+    (
+        "certify S C",
+        Status::BadCert,
+        "CERTIFICATE LINE 2 ERROR 1 BadLine\n",
+    ),
+];
+
 #[test]
 fn takes_the_registers_of_a_machine_file(rt: HostRuntime) -> Result<(), Fail> {
     let files = [
@@ -266,24 +293,7 @@ fn takes_the_registers_of_a_machine_file(rt: HostRuntime) -> Result<(), Fail> {
             b"input = [{ address = 0o17, once = true }]\n".as_slice(),
         ),
     ];
-    let rows = [
-        (
-            "certify S C M",
-            Status::Done,
-            "0000001              ORG /4000\n0000002 4000 640017  INP /17\n0000003 4001 404000  TRA /4000\nCERTIFIED ROWS 2 CASES 2\n",
-        ),
-        (
-            "certify S C N",
-            Status::BadCert,
-            "CERTIFICATE LINE 2 ERROR 6 NoZero\n",
-        ),
-        (
-            "certify S C",
-            Status::BadCert,
-            "CERTIFICATE LINE 2 ERROR 1 BadLine\n",
-        ),
-    ];
-    for (line, status, text) in rows {
+    for (line, status, text) in TAKES_THE_REGISTERS_OF_A_MACHINE_FILE {
         compare_over(&rt, &files, line, 9, status, text)?;
     }
     Ok(())

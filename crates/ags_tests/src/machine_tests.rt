@@ -19,22 +19,24 @@ const FIRST: &str = "* FIRST\n ORG /4000\nA OCT 7\n";
 const LISTING: &str =
     "0000001             * FIRST\n0000002              ORG /4000\n0000003 4000 000007 A OCT 7\n";
 
+/// The rows of `says_the_first_fault_of_a_machine_file`.
+const SAYS_THE_FIRST_FAULT_OF_A_MACHINE_FILE: [(&str, &str); 5] = [
+    ("= =\n", "MACHINE ERROR 1 NotToml\n"),
+    (
+        "[codes]\nCLA = 0o20\n",
+        "MACHINE ERROR 2 MissingKey codes.ABS\n",
+    ),
+    ("deda_in = 4096\n", "MACHINE ERROR 3 BadValue deda_in\n"),
+    (SHARED, "MACHINE ERROR 4 SameCode ADD CLA\n"),
+    (
+        "input = [{ address = 1 }, { address = 1 }]\n",
+        "MACHINE ERROR 5 SamePort 0001\n",
+    ),
+];
+
 #[test]
 fn says_the_first_fault_of_a_machine_file(rt: HostRuntime) -> Result<(), Fail> {
-    let rows = [
-        ("= =\n", "MACHINE ERROR 1 NotToml\n"),
-        (
-            "[codes]\nCLA = 0o20\n",
-            "MACHINE ERROR 2 MissingKey codes.ABS\n",
-        ),
-        ("deda_in = 4096\n", "MACHINE ERROR 3 BadValue deda_in\n"),
-        (SHARED, "MACHINE ERROR 4 SameCode ADD CLA\n"),
-        (
-            "input = [{ address = 1 }, { address = 1 }]\n",
-            "MACHINE ERROR 5 SamePort 0001\n",
-        ),
-    ];
-    for (machine, line) in rows {
+    for (machine, line) in SAYS_THE_FIRST_FAULT_OF_A_MACHINE_FILE {
         let files = [("S", FIRST.as_bytes()), ("M", machine.as_bytes())];
         for asked in ["assemble S M", "run S S M", "assemble Z M"] {
             compare_over(&rt, &files, asked, 9, Status::BadMachine, line)?;
@@ -44,6 +46,22 @@ fn says_the_first_fault_of_a_machine_file(rt: HostRuntime) -> Result<(), Fail> {
 }
 
 // The machine file comes first: it counts although the source is absent or has a fault.
+/// The rows of `takes_the_machine_file_first`.
+const TAKES_THE_MACHINE_FILE_FIRST: [(&str, Status, &str); 7] = [
+    ("assemble S M", Status::Done, LISTING),
+    ("assemble Z Y", Status::AbsentFile, "ABSENT Y\n"),
+    ("assemble Z M", Status::AbsentFile, "ABSENT Z\n"),
+    ("run S Z Y", Status::AbsentFile, "ABSENT Y\n"),
+    ("run S Z M", Status::AbsentFile, "ABSENT Z\n"),
+    ("assemble Z L", Status::LongFile, "LONG L 65536\n"),
+    // a source is no machine file
+    (
+        "assemble S S",
+        Status::BadMachine,
+        "MACHINE ERROR 1 NotToml\n",
+    ),
+];
+
 #[test]
 fn takes_the_machine_file_first(rt: HostRuntime) -> Result<(), Fail> {
     let long = vec![in rt.alloc(); b'\n'; 65_537]?;
@@ -52,21 +70,7 @@ fn takes_the_machine_file_first(rt: HostRuntime) -> Result<(), Fail> {
         ("M", b"".as_slice()),
         ("L", long.as_slice()),
     ];
-    let rows = [
-        ("assemble S M", Status::Done, LISTING),
-        ("assemble Z Y", Status::AbsentFile, "ABSENT Y\n"),
-        ("assemble Z M", Status::AbsentFile, "ABSENT Z\n"),
-        ("run S Z Y", Status::AbsentFile, "ABSENT Y\n"),
-        ("run S Z M", Status::AbsentFile, "ABSENT Z\n"),
-        ("assemble Z L", Status::LongFile, "LONG L 65536\n"),
-        // a source is no machine file
-        (
-            "assemble S S",
-            Status::BadMachine,
-            "MACHINE ERROR 1 NotToml\n",
-        ),
-    ];
-    for (line, status, text) in rows {
+    for (line, status, text) in TAKES_THE_MACHINE_FILE_FIRST {
         compare_over(&rt, &files, line, 9, status, text)?;
     }
     Ok(())

@@ -54,20 +54,22 @@ fn compare_guarded(
 }
 
 // A whole entry and a wrong key, as the display has them.
+/// The rows of `shows_keys`.
+const SHOWS_KEYS: [(&str, &str); 3] = [
+    (
+        "KEY CLR 0 4 7 + 0 1 2 3 4 ENTR\nSHOW DEDA\n",
+        "DEDA |047+01234 |\n",
+    ),
+    (
+        "KEY CLR 0 9 8\nSHOW DEDA\nKEY CLR\nSHOW DEDA\n",
+        "DEDA |0        E|\nDEDA |          |\n",
+    ),
+    ("SHOW DEDA\n", "DEDA |          |\n"),
+];
+
 #[test]
 fn shows_keys(rt: HostRuntime) -> Result<(), Fail> {
-    let rows = [
-        (
-            "KEY CLR 0 4 7 + 0 1 2 3 4 ENTR\nSHOW DEDA\n",
-            "DEDA |047+01234 |\n",
-        ),
-        (
-            "KEY CLR 0 9 8\nSHOW DEDA\nKEY CLR\nSHOW DEDA\n",
-            "DEDA |0        E|\nDEDA |          |\n",
-        ),
-        ("SHOW DEDA\n", "DEDA |          |\n"),
-    ];
-    for (script, text) in rows {
+    for (script, text) in SHOWS_KEYS {
         compare_shown(&rt, WAITING, script, text)?;
     }
     Ok(())
@@ -108,6 +110,25 @@ fn carries_what_a_cycle_runs_over(rt: HostRuntime) -> Result<(), Fail> {
 }
 
 // A machine file connects the panel: to a register that keeps its word, which a cycle then finds filled; and to none.
+/// The rows of `connects_the_panel_by_a_machine_file`.
+const CONNECTS_THE_PANEL_BY_A_MACHINE_FILE: [(&str, Status, &str); 3] = [
+    (
+        "run S P M",
+        Status::Done,
+        "OUT 6001 000020\nOUT 6001 000020\nDEDA |047       |\n",
+    ),
+    (
+        "run S P N",
+        Status::Done,
+        "OUT 6001 000000\nOUT 6001 000000\nDEDA |047       |\n",
+    ),
+    (
+        "run S F N",
+        Status::BadText,
+        "SCRIPT LINE 2 ERROR 2 NoPort\n",
+    ),
+];
+
 #[test]
 fn connects_the_panel_by_a_machine_file(rt: HostRuntime) -> Result<(), Fail> {
     let files = [
@@ -123,24 +144,7 @@ fn connects_the_panel_by_a_machine_file(rt: HostRuntime) -> Result<(), Fail> {
         ("M", b"deda_in = 0o2001\n".as_slice()),
         ("N", b"deda_in = 0o2005\ndeda_out = 0o6005\n".as_slice()),
     ];
-    let rows = [
-        (
-            "run S P M",
-            Status::Done,
-            "OUT 6001 000020\nOUT 6001 000020\nDEDA |047       |\n",
-        ),
-        (
-            "run S P N",
-            Status::Done,
-            "OUT 6001 000000\nOUT 6001 000000\nDEDA |047       |\n",
-        ),
-        (
-            "run S F N",
-            Status::BadText,
-            "SCRIPT LINE 2 ERROR 2 NoPort\n",
-        ),
-    ];
-    for (line, status, text) in rows {
+    for (line, status, text) in CONNECTS_THE_PANEL_BY_A_MACHINE_FILE {
         compare_over(&rt, &files, line, 9, status, text)?;
     }
     Ok(())
@@ -175,44 +179,48 @@ fn compare_outside(rt: &(impl AllocGlobal + Abort), script: &str, shown: &str) -
 }
 
 // A word that isn't declared isn't put, and nothing is played behind it.
+/// The rows of `stops_before_a_word_outside`.
+const STOPS_BEFORE_A_WORD_OUTSIDE: [(&str, &str); 2] = [
+    (
+        "SET 2001 001751\nSTEP 1\nSHOW REG\n",
+        "OUTSIDE IN 2001 001751\n",
+    ),
+    (
+        "SET 2001 001750\nSHOW REG\nSET 2001 001751\nSHOW REG\n",
+        "A 000000 Q 000000 X 0 V 0 P 4000 R\nOUTSIDE IN 2001 001751\n",
+    ),
+];
+
 #[test]
 fn stops_before_a_word_outside(rt: HostRuntime) -> Result<(), Fail> {
-    let rows = [
-        (
-            "SET 2001 001751\nSTEP 1\nSHOW REG\n",
-            "OUTSIDE IN 2001 001751\n",
-        ),
-        (
-            "SET 2001 001750\nSHOW REG\nSET 2001 001751\nSHOW REG\n",
-            "A 000000 Q 000000 X 0 V 0 P 4000 R\nOUTSIDE IN 2001 001751\n",
-        ),
-    ];
-    for (script, shown) in rows {
+    for (script, shown) in STOPS_BEFORE_A_WORD_OUTSIDE {
         compare_outside(&rt, script, shown)?;
     }
     Ok(())
 }
 
 // The location comes first, then cells, then registers; and a cell may begin with 0 alone, also where its range has the word.
+/// The rows of `stops_before_a_start_outside`.
+const STOPS_BEFORE_A_START_OUTSIDE: [(&str, &str); 5] = [
+    ("CELL 0020 001751\n", "OUTSIDE CELL 0020 001751\n"),
+    ("CELL 0020 000001\nSHOW REG\n", "OUTSIDE CELL 0020 000001\n"),
+    (
+        "PORT 2001 001751\nCELL 0020 000000\nSHOW REG\n",
+        "OUTSIDE PORT 2001 001751\n",
+    ),
+    (
+        "PORT 2001 001751\nCELL 0020 000001\nSTART 4001\n",
+        "OUTSIDE START 4001 4000\n",
+    ),
+    (
+        "PORT 2001 001751\nCELL 0021 000001\nCELL 0020 000002\n",
+        "OUTSIDE CELL 0020 000002\n",
+    ),
+];
+
 #[test]
 fn stops_before_a_start_outside(rt: HostRuntime) -> Result<(), Fail> {
-    let rows = [
-        ("CELL 0020 001751\n", "OUTSIDE CELL 0020 001751\n"),
-        ("CELL 0020 000001\nSHOW REG\n", "OUTSIDE CELL 0020 000001\n"),
-        (
-            "PORT 2001 001751\nCELL 0020 000000\nSHOW REG\n",
-            "OUTSIDE PORT 2001 001751\n",
-        ),
-        (
-            "PORT 2001 001751\nCELL 0020 000001\nSTART 4001\n",
-            "OUTSIDE START 4001 4000\n",
-        ),
-        (
-            "PORT 2001 001751\nCELL 0021 000001\nCELL 0020 000002\n",
-            "OUTSIDE CELL 0020 000002\n",
-        ),
-    ];
-    for (script, shown) in rows {
+    for (script, shown) in STOPS_BEFORE_A_START_OUTSIDE {
         compare_outside(&rt, script, shown)?;
     }
     // what is set later counts
@@ -260,62 +268,75 @@ fn compare_starts(
 }
 
 // A cell that no line of the script names begins with 0, or with its assembled word.
+/// The rows of `tests_each_cell_of_the_start`.
+const TESTS_EACH_CELL_OF_THE_START: [(&str, Status, &str); 2] = [
+    ("SHOW REG\n", Status::No, "OUTSIDE CELL 0020 000000\n"),
+    (
+        "CELL 0020 000005\nSHOW CELL 0020\n",
+        Status::Done,
+        "CELL 0020 000005\n",
+    ),
+];
+
 #[test]
 fn tests_each_cell_of_the_start(rt: HostRuntime) -> Result<(), Fail> {
-    let rows = [
-        ("SHOW REG\n", Status::No, "OUTSIDE CELL 0020 000000\n"),
-        (
-            "CELL 0020 000005\nSHOW CELL 0020\n",
-            Status::Done,
-            "CELL 0020 000005\n",
-        ),
-    ];
-    compare_starts(&rt, WAITING, STATED, &rows)
+    compare_starts(&rt, WAITING, STATED, &TESTS_EACH_CELL_OF_THE_START)
 }
 
 // A register that no line of the script names begins with 0.
+/// The rows of `tests_each_register_of_the_start`.
+const TESTS_EACH_REGISTER_OF_THE_START: [(&str, Status, &str); 2] = [
+    ("SHOW REG\n", Status::No, "OUTSIDE PORT 2001 000000\n"),
+    ("PORT 2001 000005\n", Status::Done, ""),
+];
+
 #[test]
 fn tests_each_register_of_the_start(rt: HostRuntime) -> Result<(), Fail> {
-    let rows = [
-        ("SHOW REG\n", Status::No, "OUTSIDE PORT 2001 000000\n"),
-        ("PORT 2001 000005\n", Status::Done, ""),
-    ];
-    compare_starts(&rt, WAITING, NARROW, &rows)
+    compare_starts(&rt, WAITING, NARROW, &TESTS_EACH_REGISTER_OF_THE_START)
 }
 
 // An assembled cell begins with its word alone.
+/// The rows of `tests_assembled_cells_of_the_start`.
+const TESTS_ASSEMBLED_CELLS_OF_THE_START: [(&str, Status, &str); 3] = [
+    (
+        "SHOW REG\n",
+        Status::Done,
+        "A 000000 Q 000000 X 0 V 0 P 4010 R\n",
+    ),
+    (
+        "CELL 0020 000005\n",
+        Status::No,
+        "OUTSIDE CELL 0020 000005\n",
+    ),
+    ("START 4000\n", Status::No, "OUTSIDE START 4000 4010\n"),
+];
+
 #[test]
 fn tests_assembled_cells_of_the_start(rt: HostRuntime) -> Result<(), Fail> {
-    let rows = [
-        (
-            "SHOW REG\n",
-            Status::Done,
-            "A 000000 Q 000000 X 0 V 0 P 4010 R\n",
-        ),
-        (
-            "CELL 0020 000005\n",
-            Status::No,
-            "OUTSIDE CELL 0020 000005\n",
-        ),
-        ("START 4000\n", Status::No, "OUTSIDE START 4000 4010\n"),
-    ];
-    compare_starts(&rt, ASSEMBLED, RESTATED, &rows)
+    compare_starts(
+        &rt,
+        ASSEMBLED,
+        RESTATED,
+        &TESTS_ASSEMBLED_CELLS_OF_THE_START,
+    )
 }
 
 // The digit of a FEED, and that of a cycle, are tested as the word of a SET is.
+/// The rows of `tests_what_the_panel_sends`.
+const TESTS_WHAT_THE_PANEL_SENDS: [(&str, &str); 2] = [
+    (
+        "KEY 0 4 7 RO\nSHOW REG\nFEED\nSHOW REG\n",
+        "CERTIFIED ROWS 1 CASES 1\nA 000000 Q 000000 X 0 V 0 P 4000 R\nOUTSIDE IN 2200 000020\n",
+    ),
+    (
+        "KEY 0 4 7 RO\nCYCLE 1\nSHOW REG\n",
+        "CERTIFIED ROWS 1 CASES 1\nOUTSIDE IN 2200 000020\n",
+    ),
+];
+
 #[test]
 fn tests_what_the_panel_sends(rt: HostRuntime) -> Result<(), Fail> {
-    let rows = [
-        (
-            "KEY 0 4 7 RO\nSHOW REG\nFEED\nSHOW REG\n",
-            "CERTIFIED ROWS 1 CASES 1\nA 000000 Q 000000 X 0 V 0 P 4000 R\nOUTSIDE IN 2200 000020\n",
-        ),
-        (
-            "KEY 0 4 7 RO\nCYCLE 1\nSHOW REG\n",
-            "CERTIFIED ROWS 1 CASES 1\nOUTSIDE IN 2200 000020\n",
-        ),
-    ];
-    for (script, text) in rows {
+    for (script, text) in TESTS_WHAT_THE_PANEL_SENDS {
         compare_guarded(&rt, (WAITING, script, SMALL_DIGITS), Status::No, text)?;
     }
     // without a digit, and while the register holds a word, a cycle feeds nothing
@@ -347,6 +368,37 @@ fn plays_nothing_under_a_refused_certificate(rt: HostRuntime) -> Result<(), Fail
 }
 
 // The machine file is read first, then the source, the certificate and the script.
+/// The rows of `reads_the_files_of_a_guarded_run_in_order`.
+const READS_THE_FILES_OF_A_GUARDED_RUN_IN_ORDER: [(&str, Status, &str); 7] = [
+    ("guard S Y Z", Status::AbsentFile, "ABSENT Z\n"),
+    ("guard S Y C", Status::AbsentFile, "ABSENT Y\n"),
+    (
+        "guard S Y B",
+        Status::BadCert,
+        "CERTIFICATE LINE 1 ERROR 2 Version\n",
+    ),
+    (
+        "guard S P C",
+        Status::BadText,
+        "SCRIPT LINE 1 ERROR 1 BadLine\n",
+    ),
+    (
+        "guard T P R",
+        Status::BadText,
+        "SCRIPT LINE 1 ERROR 1 BadLine\n",
+    ),
+    (
+        "guard P Y Z",
+        Status::BadSource,
+        "SOURCE CARD 0000001 ERROR 4 UnknownOperation\n",
+    ),
+    (
+        "guard S P C S",
+        Status::BadMachine,
+        "MACHINE ERROR 1 NotToml\n",
+    ),
+];
+
 #[test]
 fn reads_the_files_of_a_guarded_run_in_order(rt: HostRuntime) -> Result<(), Fail> {
     let files = [
@@ -357,57 +409,30 @@ fn reads_the_files_of_a_guarded_run_in_order(rt: HostRuntime) -> Result<(), Fail
         ("T", STORING.as_bytes()),
         ("P", b"STEP\n".as_slice()),
     ];
-    let rows = [
-        ("guard S Y Z", Status::AbsentFile, "ABSENT Z\n"),
-        ("guard S Y C", Status::AbsentFile, "ABSENT Y\n"),
-        (
-            "guard S Y B",
-            Status::BadCert,
-            "CERTIFICATE LINE 1 ERROR 2 Version\n",
-        ),
-        (
-            "guard S P C",
-            Status::BadText,
-            "SCRIPT LINE 1 ERROR 1 BadLine\n",
-        ),
-        (
-            "guard T P R",
-            Status::BadText,
-            "SCRIPT LINE 1 ERROR 1 BadLine\n",
-        ),
-        (
-            "guard P Y Z",
-            Status::BadSource,
-            "SOURCE CARD 0000001 ERROR 4 UnknownOperation\n",
-        ),
-        (
-            "guard S P C S",
-            Status::BadMachine,
-            "MACHINE ERROR 1 NotToml\n",
-        ),
-    ];
-    for (line, status, text) in rows {
+    for (line, status, text) in READS_THE_FILES_OF_A_GUARDED_RUN_IN_ORDER {
         compare_over(&rt, &files, line, 9, status, text)?;
     }
     Ok(())
 }
 
+/// The rows of `refuses_scripts`.
+const REFUSES_SCRIPTS: [(&str, &str); 8] = [
+    ("SET 2003 000001\n", "SCRIPT LINE 1 ERROR 2 NoPort\n"),
+    ("PORT 2003 000001\n", "SCRIPT LINE 1 ERROR 2 NoPort\n"),
+    ("SHOW OUT 2001\n", "SCRIPT LINE 1 ERROR 2 NoPort\n"),
+    ("CYCLE 5001\n", "SCRIPT LINE 1 ERROR 3 TooManySteps\n"),
+    ("STEP\n", "SCRIPT LINE 1 ERROR 1 BadLine\n"),
+    ("CELL 4000 000001\n", "SCRIPT LINE 1 ERROR 1 BadLine\n"),
+    ("KEY\n", "SCRIPT LINE 1 ERROR 1 BadLine\n"),
+    (
+        "STEP 1\nCELL 0000 000001\n",
+        "SCRIPT LINE 2 ERROR 1 BadLine\n",
+    ),
+];
+
 #[test]
 fn refuses_scripts(rt: HostRuntime) -> Result<(), Fail> {
-    let rows = [
-        ("SET 2003 000001\n", "SCRIPT LINE 1 ERROR 2 NoPort\n"),
-        ("PORT 2003 000001\n", "SCRIPT LINE 1 ERROR 2 NoPort\n"),
-        ("SHOW OUT 2001\n", "SCRIPT LINE 1 ERROR 2 NoPort\n"),
-        ("CYCLE 5001\n", "SCRIPT LINE 1 ERROR 3 TooManySteps\n"),
-        ("STEP\n", "SCRIPT LINE 1 ERROR 1 BadLine\n"),
-        ("CELL 4000 000001\n", "SCRIPT LINE 1 ERROR 1 BadLine\n"),
-        ("KEY\n", "SCRIPT LINE 1 ERROR 1 BadLine\n"),
-        (
-            "STEP 1\nCELL 0000 000001\n",
-            "SCRIPT LINE 2 ERROR 1 BadLine\n",
-        ),
-    ];
-    for (script, line) in rows {
+    for (script, line) in REFUSES_SCRIPTS {
         let files = [("S", WAITING.as_bytes()), ("P", script.as_bytes())];
         compare_over(&rt, &files, "run S P", 9, Status::BadText, line)?;
     }

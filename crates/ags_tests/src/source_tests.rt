@@ -34,252 +34,219 @@ fn says_which_line_is_no_text(rt: HostRuntime) -> Result<(), Fail> {
     compare_faults(&rt, &rows)
 }
 
+/// The rows of `says_which_field_is_no_symbol_and_no_operation`.
+const SAYS_WHICH_FIELD_IS_NO_SYMBOL_AND_NO_OPERATION: [Faulty; 6] = [
+    (b"a OCT 1\n", "SOURCE CARD 0000001 ERROR 3 BadSymbol\n"),
+    (b"1234 OCT 1\n", "SOURCE CARD 0000001 ERROR 3 BadSymbol\n"),
+    (b" EQU\n", "SOURCE CARD 0000001 ERROR 3 BadSymbol\n"),
+    (b"A\n", "SOURCE CARD 0000001 ERROR 4 UnknownOperation\n"),
+    (b"CLA\n", "SOURCE CARD 0000001 ERROR 4 UnknownOperation\n"),
+    (
+        b" * OCT 1\n",
+        "SOURCE CARD 0000001 ERROR 4 UnknownOperation\n",
+    ),
+];
+
 #[test]
 fn says_which_field_is_no_symbol_and_no_operation(rt: HostRuntime) -> Result<(), Fail> {
-    let rows: [Faulty; 6] = [
-        (
-            b"a OCT 1\n".as_slice(),
-            "SOURCE CARD 0000001 ERROR 3 BadSymbol\n",
-        ),
-        (
-            b"1234 OCT 1\n".as_slice(),
-            "SOURCE CARD 0000001 ERROR 3 BadSymbol\n",
-        ),
-        (
-            b" EQU\n".as_slice(),
-            "SOURCE CARD 0000001 ERROR 3 BadSymbol\n",
-        ),
-        (
-            b"A\n".as_slice(),
-            "SOURCE CARD 0000001 ERROR 4 UnknownOperation\n",
-        ),
-        (
-            b"CLA\n".as_slice(),
-            "SOURCE CARD 0000001 ERROR 4 UnknownOperation\n",
-        ),
-        (
-            b" * OCT 1\n".as_slice(),
-            "SOURCE CARD 0000001 ERROR 4 UnknownOperation\n",
-        ),
-    ];
-    compare_faults(&rt, &rows)
+    compare_faults(&rt, &SAYS_WHICH_FIELD_IS_NO_SYMBOL_AND_NO_OPERATION)
 }
+
+/// The rows of `says_which_operand_is_wrong`.
+const SAYS_WHICH_OPERAND_IS_WRONG: [Faulty; 7] = [
+    (b" CLA\n", "SOURCE CARD 0000001 ERROR 5 MissingOperand\n"),
+    (b" OCT 1,2\n", "SOURCE CARD 0000001 ERROR 6 ExtraOperand\n"),
+    (b" ORG 5,1\n", "SOURCE CARD 0000001 ERROR 6 ExtraOperand\n"),
+    (b" CLA 5,2\n", "SOURCE CARD 0000001 ERROR 7 BadExpression\n"),
+    (
+        b" CLA 5,1,1\n",
+        "SOURCE CARD 0000001 ERROR 7 BadExpression\n",
+    ),
+    (b" CLA 1+\n", "SOURCE CARD 0000001 ERROR 7 BadExpression\n"),
+    (
+        b" CLA 1234567\n",
+        "SOURCE CARD 0000001 ERROR 7 BadExpression\n",
+    ),
+];
 
 #[test]
 fn says_which_operand_is_wrong(rt: HostRuntime) -> Result<(), Fail> {
-    let rows: [Faulty; 7] = [
-        (
-            b" CLA\n".as_slice(),
-            "SOURCE CARD 0000001 ERROR 5 MissingOperand\n",
-        ),
-        (
-            b" OCT 1,2\n".as_slice(),
-            "SOURCE CARD 0000001 ERROR 6 ExtraOperand\n",
-        ),
-        (
-            b" ORG 5,1\n".as_slice(),
-            "SOURCE CARD 0000001 ERROR 6 ExtraOperand\n",
-        ),
-        (
-            b" CLA 5,2\n".as_slice(),
-            "SOURCE CARD 0000001 ERROR 7 BadExpression\n",
-        ),
-        (
-            b" CLA 5,1,1\n".as_slice(),
-            "SOURCE CARD 0000001 ERROR 7 BadExpression\n",
-        ),
-        (
-            b" CLA 1+\n".as_slice(),
-            "SOURCE CARD 0000001 ERROR 7 BadExpression\n",
-        ),
-        (
-            b" CLA 1234567\n".as_slice(),
-            "SOURCE CARD 0000001 ERROR 7 BadExpression\n",
-        ),
-    ];
-    compare_faults(&rt, &rows)
+    compare_faults(&rt, &SAYS_WHICH_OPERAND_IS_WRONG)
 }
+
+/// The rows of `says_which_number_is_wrong`.
+const SAYS_WHICH_NUMBER_IS_WRONG: [Faulty; 4] = [
+    (b" DEC 1B61\n", "SOURCE CARD 0000001 ERROR 8 BadDecimal\n"),
+    (b" DEC 1E13\n", "SOURCE CARD 0000001 ERROR 8 BadDecimal\n"),
+    (
+        b" DEC 00000000001\n",
+        "SOURCE CARD 0000001 ERROR 8 BadDecimal\n",
+    ),
+    (b" OCT 8\n", "SOURCE CARD 0000001 ERROR 9 BadOctal\n"),
+];
 
 #[test]
 fn says_which_number_is_wrong(rt: HostRuntime) -> Result<(), Fail> {
-    let rows: [Faulty; 4] = [
-        (
-            b" DEC 1B61\n".as_slice(),
-            "SOURCE CARD 0000001 ERROR 8 BadDecimal\n",
-        ),
-        (
-            b" DEC 1E13\n".as_slice(),
-            "SOURCE CARD 0000001 ERROR 8 BadDecimal\n",
-        ),
-        (
-            b" DEC 00000000001\n".as_slice(),
-            "SOURCE CARD 0000001 ERROR 8 BadDecimal\n",
-        ),
-        (
-            b" OCT 8\n".as_slice(),
-            "SOURCE CARD 0000001 ERROR 9 BadOctal\n",
-        ),
-    ];
-    compare_faults(&rt, &rows)
+    compare_faults(&rt, &SAYS_WHICH_NUMBER_IS_WRONG)
 }
+
+/// The rows of `says_the_first_card_that_is_faulty`.
+const SAYS_THE_FIRST_CARD_THAT_IS_FAULTY: [Faulty; 2] = [
+    (
+        b" HLT 1\n OCT 1\0\n",
+        "SOURCE CARD 0000001 ERROR 4 UnknownOperation\n",
+    ),
+    (
+        b" OCT 1\0\n HLT 1\n",
+        "SOURCE CARD 0000001 ERROR 1 BadByte\n",
+    ),
+];
 
 #[test]
 fn says_the_first_card_that_is_faulty(rt: HostRuntime) -> Result<(), Fail> {
-    let rows: [Faulty; 2] = [
-        (
-            b" HLT 1\n OCT 1\0\n".as_slice(),
-            "SOURCE CARD 0000001 ERROR 4 UnknownOperation\n",
-        ),
-        (
-            b" OCT 1\0\n HLT 1\n".as_slice(),
-            "SOURCE CARD 0000001 ERROR 1 BadByte\n",
-        ),
-    ];
-    compare_faults(&rt, &rows)
+    compare_faults(&rt, &SAYS_THE_FIRST_CARD_THAT_IS_FAULTY)
 }
+
+/// The rows of `says_which_symbol_has_no_one_value`.
+const SAYS_WHICH_SYMBOL_HAS_NO_ONE_VALUE: [Faulty; 4] = [
+    (
+        b"A OCT 1\nA OCT 2\n",
+        "SOURCE CARD 0000002 ERROR 10 SymbolTwice 0000001\n",
+    ),
+    (
+        b"X EQU Y\nY EQU 1\n",
+        "SOURCE CARD 0000001 ERROR 11 UndefinedEarly\n",
+    ),
+    (
+        b"A EQU A\n",
+        "SOURCE CARD 0000001 ERROR 11 UndefinedEarly\n",
+    ),
+    (b" CLA X\n", "SOURCE CARD 0000001 ERROR 13 Undefined\n"),
+];
 
 #[test]
 fn says_which_symbol_has_no_one_value(rt: HostRuntime) -> Result<(), Fail> {
-    let rows: [Faulty; 4] = [
-        (
-            b"A OCT 1\nA OCT 2\n".as_slice(),
-            "SOURCE CARD 0000002 ERROR 10 SymbolTwice 0000001\n",
-        ),
-        (
-            b"X EQU Y\nY EQU 1\n".as_slice(),
-            "SOURCE CARD 0000001 ERROR 11 UndefinedEarly\n",
-        ),
-        (
-            b"A EQU A\n".as_slice(),
-            "SOURCE CARD 0000001 ERROR 11 UndefinedEarly\n",
-        ),
-        (
-            b" CLA X\n".as_slice(),
-            "SOURCE CARD 0000001 ERROR 13 Undefined\n",
-        ),
-    ];
-    compare_faults(&rt, &rows)
+    compare_faults(&rt, &SAYS_WHICH_SYMBOL_HAS_NO_ONE_VALUE)
 }
+
+/// The rows of `says_which_place_is_wrong`.
+const SAYS_WHICH_PLACE_IS_WRONG: [Faulty; 6] = [
+    (b" ORG 4096\n", "SOURCE CARD 0000001 ERROR 12 PlaceRange\n"),
+    (b" BSS -1\n", "SOURCE CARD 0000001 ERROR 12 PlaceRange\n"),
+    (
+        b" OCT 1\n BSS 4096\n",
+        "SOURCE CARD 0000002 ERROR 12 PlaceRange\n",
+    ),
+    (
+        b"A EQU 262144\n",
+        "SOURCE CARD 0000001 ERROR 12 PlaceRange\n",
+    ),
+    (
+        b" ORG 4095\n OCT 1\n OCT 1\n",
+        "SOURCE CARD 0000003 ERROR 12 PlaceRange\n",
+    ),
+    (
+        b" ORG /10\n OCT 1\n ORG /10\n OCT 2\n",
+        "SOURCE CARD 0000004 ERROR 16 PlaceTwice 0000002\n",
+    ),
+];
 
 #[test]
 fn says_which_place_is_wrong(rt: HostRuntime) -> Result<(), Fail> {
-    let rows: [Faulty; 6] = [
-        (
-            b" ORG 4096\n".as_slice(),
-            "SOURCE CARD 0000001 ERROR 12 PlaceRange\n",
-        ),
-        (
-            b" BSS -1\n".as_slice(),
-            "SOURCE CARD 0000001 ERROR 12 PlaceRange\n",
-        ),
-        (
-            b" OCT 1\n BSS 4096\n".as_slice(),
-            "SOURCE CARD 0000002 ERROR 12 PlaceRange\n",
-        ),
-        (
-            b"A EQU 262144\n".as_slice(),
-            "SOURCE CARD 0000001 ERROR 12 PlaceRange\n",
-        ),
-        (
-            b" ORG 4095\n OCT 1\n OCT 1\n".as_slice(),
-            "SOURCE CARD 0000003 ERROR 12 PlaceRange\n",
-        ),
-        (
-            b" ORG /10\n OCT 1\n ORG /10\n OCT 2\n".as_slice(),
-            "SOURCE CARD 0000004 ERROR 16 PlaceTwice 0000002\n",
-        ),
-    ];
-    compare_faults(&rt, &rows)
+    compare_faults(&rt, &SAYS_WHICH_PLACE_IS_WRONG)
 }
+
+/// The rows of `says_which_value_has_no_room`.
+const SAYS_WHICH_VALUE_HAS_NO_ROOM: [Faulty; 3] = [
+    (
+        b" TRA 4096\n",
+        "SOURCE CARD 0000001 ERROR 14 AddressRange 4096\n",
+    ),
+    (
+        b" TRA -1\n",
+        "SOURCE CARD 0000001 ERROR 14 AddressRange -1\n",
+    ),
+    (b" DEC 1B0\n", "SOURCE CARD 0000001 ERROR 15 ValueRange\n"),
+];
 
 #[test]
 fn says_which_value_has_no_room(rt: HostRuntime) -> Result<(), Fail> {
-    let rows: [Faulty; 3] = [
-        (
-            b" TRA 4096\n".as_slice(),
-            "SOURCE CARD 0000001 ERROR 14 AddressRange 4096\n",
-        ),
-        (
-            b" TRA -1\n".as_slice(),
-            "SOURCE CARD 0000001 ERROR 14 AddressRange -1\n",
-        ),
-        (
-            b" DEC 1B0\n".as_slice(),
-            "SOURCE CARD 0000001 ERROR 15 ValueRange\n",
-        ),
-    ];
-    compare_faults(&rt, &rows)
+    compare_faults(&rt, &SAYS_WHICH_VALUE_HAS_NO_ROOM)
 }
+
+/// The rows of `says_the_fault_of_the_first_phase`.
+const SAYS_THE_FAULT_OF_THE_FIRST_PHASE: [Faulty; 4] = [
+    // the phase of cards comes before that of places, and that before words
+    (
+        b" CLA 1\n BSS -1\n XYZ\n",
+        "SOURCE CARD 0000003 ERROR 4 UnknownOperation\n",
+    ),
+    (
+        b" CLA X\n BSS -1\n",
+        "SOURCE CARD 0000002 ERROR 12 PlaceRange\n",
+    ),
+    // of two faults of a card the lesser number
+    (
+        b"A OCT 1\nA ORG 4096\n",
+        "SOURCE CARD 0000002 ERROR 10 SymbolTwice 0000001\n",
+    ),
+    (
+        b" OCT 1\n ORG 0\n DEC 1B0\n",
+        "SOURCE CARD 0000003 ERROR 15 ValueRange\n",
+    ),
+];
 
 #[test]
 fn says_the_fault_of_the_first_phase(rt: HostRuntime) -> Result<(), Fail> {
-    let rows: [Faulty; 4] = [
-        // the phase of cards comes before that of places, and that before words
-        (
-            b" CLA 1\n BSS -1\n XYZ\n".as_slice(),
-            "SOURCE CARD 0000003 ERROR 4 UnknownOperation\n",
-        ),
-        (
-            b" CLA X\n BSS -1\n".as_slice(),
-            "SOURCE CARD 0000002 ERROR 12 PlaceRange\n",
-        ),
-        // of two faults of a card the lesser number
-        (
-            b"A OCT 1\nA ORG 4096\n".as_slice(),
-            "SOURCE CARD 0000002 ERROR 10 SymbolTwice 0000001\n",
-        ),
-        (
-            b" OCT 1\n ORG 0\n DEC 1B0\n".as_slice(),
-            "SOURCE CARD 0000003 ERROR 15 ValueRange\n",
-        ),
-    ];
-    compare_faults(&rt, &rows)
+    compare_faults(&rt, &SAYS_THE_FAULT_OF_THE_FIRST_PHASE)
 }
 
 /// A source, and its listing.
 type Listed = (&'static [u8], &'static str);
 
 // Words of orders, decimals and octal numbers; symbols before and behind their cards; places that cards set.
+/// The rows of `lists_words`.
+const LISTS_WORDS: [Listed; 10] = [
+    (
+        b" TRA /4001\n ADD /200,1\n COM ANY REMARK\n",
+        "0000001 0000 404001  TRA /4001\n0000002 0001 230200  ADD /200,1\n0000003 0002 600000  COM ANY REMARK\n",
+    ),
+    (
+        b" DEC 1.5B3\n DEC -1B0\n DEC 0.5B17\n DEC -0.5B17\n DEC -0\n",
+        "0000001 0000 060000  DEC 1.5B3\n0000002 0001 400000  DEC -1B0\n0000003 0002 000001  DEC 0.5B17\n0000004 0003 777777  DEC -0.5B17\n0000005 0004 000000  DEC -0\n",
+    ),
+    (b"A1 DEC 3E-1B2\n", "0000001 0000 023146 A1 DEC 3E-1B2\n"),
+    (
+        b" CLA Y\nY EQU 1\n",
+        "0000001 0000 200001  CLA Y\n0000002             Y EQU 1\n",
+    ),
+    // an ORG's symbol has the new place, a BSS's the old one, and an asterisk is the place of its card
+    (
+        b"A ORG /20\nB BSS *-16\n CLA A\n CLA B\n TRA *+1\n",
+        "0000001             A ORG /20\n0000002             B BSS *-16\n0000003 0020 200020  CLA A\n0000004 0021 200020  CLA B\n0000005 0022 400023  TRA *+1\n",
+    ),
+    // what stands behind the first END isn't read
+    (
+        b" OCT -1\r\n END\r\n\0 NO CARD\n",
+        "0000001 0000 777777  OCT -1\n0000002              END\n",
+    ),
+    // the symbol of an END behind the last place
+    (
+        b" ORG 4095\n OCT 7\nTOP END",
+        "0000001              ORG 4095\n0000002 7777 000007  OCT 7\n0000003             TOP END\n",
+    ),
+    // tabs, a symbol that is spelled as an operation, and an index on an order that doesn't count it
+    (
+        b"ORG\tOCT\t7\t7\n TIX ORG,1\n",
+        "0000001 0000 000007 ORG\tOCT\t7\t7\n0000002 0001 430000  TIX ORG,1\n",
+    ),
+    (b" OCT 1 ,2\n", "0000001 0000 000001  OCT 1 ,2\n"),
+    (b"\r\n\n", "0000001             \n0000002             \n"),
+];
+
 #[test]
 fn lists_words(rt: HostRuntime) -> Result<(), Fail> {
-    let rows: [Listed; 10] = [
-        (
-            b" TRA /4001\n ADD /200,1\n COM ANY REMARK\n",
-            "0000001 0000 404001  TRA /4001\n0000002 0001 230200  ADD /200,1\n0000003 0002 600000  COM ANY REMARK\n",
-        ),
-        (
-            b" DEC 1.5B3\n DEC -1B0\n DEC 0.5B17\n DEC -0.5B17\n DEC -0\n",
-            "0000001 0000 060000  DEC 1.5B3\n0000002 0001 400000  DEC -1B0\n0000003 0002 000001  DEC 0.5B17\n0000004 0003 777777  DEC -0.5B17\n0000005 0004 000000  DEC -0\n",
-        ),
-        (b"A1 DEC 3E-1B2\n", "0000001 0000 023146 A1 DEC 3E-1B2\n"),
-        (
-            b" CLA Y\nY EQU 1\n",
-            "0000001 0000 200001  CLA Y\n0000002             Y EQU 1\n",
-        ),
-        // an ORG's symbol has the new place, a BSS's the old one, and an asterisk is the place of its card
-        (
-            b"A ORG /20\nB BSS *-16\n CLA A\n CLA B\n TRA *+1\n",
-            "0000001             A ORG /20\n0000002             B BSS *-16\n0000003 0020 200020  CLA A\n0000004 0021 200020  CLA B\n0000005 0022 400023  TRA *+1\n",
-        ),
-        // what stands behind the first END isn't read
-        (
-            b" OCT -1\r\n END\r\n\0 NO CARD\n",
-            "0000001 0000 777777  OCT -1\n0000002              END\n",
-        ),
-        // the symbol of an END behind the last place
-        (
-            b" ORG 4095\n OCT 7\nTOP END",
-            "0000001              ORG 4095\n0000002 7777 000007  OCT 7\n0000003             TOP END\n",
-        ),
-        // tabs, a symbol that is spelled as an operation, and an index on an order that doesn't count it
-        (
-            b"ORG\tOCT\t7\t7\n TIX ORG,1\n",
-            "0000001 0000 000007 ORG\tOCT\t7\t7\n0000002 0001 430000  TIX ORG,1\n",
-        ),
-        (b" OCT 1 ,2\n", "0000001 0000 000001  OCT 1 ,2\n"),
-        (b"\r\n\n", "0000001             \n0000002             \n"),
-    ];
-    for (source, listing) in rows {
+    for (source, listing) in LISTS_WORDS {
         compare(&rt, source, "assemble S", 90, Status::Done, listing)?;
     }
     Ok(())
@@ -293,4 +260,89 @@ fn takes_the_longest_card(rt: HostRuntime) -> Result<(), Fail> {
     let listing =
         "0000001 0000 200072  CLA 1+1+1+1+1+1+1+1+1+1+1+1+1+1+1+1+1+1+1+1+1+1+1+1+1+1+1+1+1+1+1+1+1+1+1+1+1+1+1+1+1+1+1+1+1+1+1+1+1+1+1+1+1+1+1+1+1+1\n";
     compare(&rt, source, "assemble S", 200, Status::Done, listing)
+}
+
+/// Faults of the phases of cards and of places.
+const FAULTS_OF_PLACES: [Faulty; 15] = [
+    // the phase of cards comes first, and its least number
+    (
+        b" CLA 1\n BSS -1\n XYZ\n",
+        "SOURCE CARD 0000003 ERROR 4 UnknownOperation\n",
+    ),
+    (b" XYZ\x07", "SOURCE CARD 0000001 ERROR 1 BadByte\n"),
+    (
+        b"A OCT 1\nA OCT 2\n",
+        "SOURCE CARD 0000002 ERROR 10 SymbolTwice 0000001\n",
+    ),
+    (
+        b"A OCT 1\nA ORG X\n",
+        "SOURCE CARD 0000002 ERROR 10 SymbolTwice 0000001\n",
+    ),
+    (
+        b"X EQU Y\nY EQU 1\n",
+        "SOURCE CARD 0000001 ERROR 11 UndefinedEarly\n",
+    ),
+    (b"A EQU A", "SOURCE CARD 0000001 ERROR 11 UndefinedEarly\n"),
+    (b" BSS A-A", "SOURCE CARD 0000001 ERROR 11 UndefinedEarly\n"),
+    (b" ORG 4096", "SOURCE CARD 0000001 ERROR 12 PlaceRange\n"),
+    (b" ORG -1", "SOURCE CARD 0000001 ERROR 12 PlaceRange\n"),
+    (b" BSS -1", "SOURCE CARD 0000001 ERROR 12 PlaceRange\n"),
+    (b" BSS 4097", "SOURCE CARD 0000001 ERROR 12 PlaceRange\n"),
+    (
+        b" ORG 4095\n OCT 1\n BSS 0\nE EQU *\n OCT 2",
+        "SOURCE CARD 0000005 ERROR 12 PlaceRange\n",
+    ),
+    (b"A EQU 262144", "SOURCE CARD 0000001 ERROR 12 PlaceRange\n"),
+    (
+        b"A EQU -262144",
+        "SOURCE CARD 0000001 ERROR 12 PlaceRange\n",
+    ),
+    (
+        b" ORG 4096\n END X\n XYZ",
+        "SOURCE CARD 0000001 ERROR 12 PlaceRange\n",
+    ),
+];
+
+#[test]
+fn says_the_first_fault_of_places(rt: HostRuntime) -> Result<(), Fail> {
+    compare_faults(&rt, &FAULTS_OF_PLACES)
+}
+
+/// Faults of the phase of words, and of phases before it.
+const FAULTS_OF_WORDS: [Faulty; 9] = [
+    (b" DEC 1B0", "SOURCE CARD 0000001 ERROR 15 ValueRange\n"),
+    (
+        b" TRA 4096",
+        "SOURCE CARD 0000001 ERROR 14 AddressRange 4096\n",
+    ),
+    (b" TRA -1", "SOURCE CARD 0000001 ERROR 14 AddressRange -1\n"),
+    (
+        b" ORG /10\n OCT 1\n ORG /10\n OCT 2",
+        "SOURCE CARD 0000004 ERROR 16 PlaceTwice 0000002\n",
+    ),
+    (
+        b" OCT 1\n ORG 0\n DEC 1B0",
+        "SOURCE CARD 0000003 ERROR 15 ValueRange\n",
+    ),
+    (
+        b" DEC 1B0\n BSS -1",
+        "SOURCE CARD 0000002 ERROR 12 PlaceRange\n",
+    ),
+    (
+        b" CLA 1\n BSS -1\n XYZ",
+        "SOURCE CARD 0000003 ERROR 4 UnknownOperation\n",
+    ),
+    (
+        b" CLA Y\n ORG 0\n OCT 1\n TRA 5000",
+        "SOURCE CARD 0000001 ERROR 13 Undefined\n",
+    ),
+    (
+        b" CLA Y\n ORG 0\n OCT 1\n TRA 5000\nY EQU 1",
+        "SOURCE CARD 0000003 ERROR 16 PlaceTwice 0000001\n",
+    ),
+];
+
+#[test]
+fn says_the_first_fault_of_words(rt: HostRuntime) -> Result<(), Fail> {
+    compare_faults(&rt, &FAULTS_OF_WORDS)
 }

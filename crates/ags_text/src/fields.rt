@@ -1,6 +1,6 @@
 //! A line cut into its fields, at blanks and tabs (docs/SOURCE.md, Cards; docs/SCRIPT.md).
 
-ghost use Rattle.std.specs.Prelude.{◌≡◌, ◌≤◌, ◌||◌, ◌==◌, length, not, position};
+ghost use Rattle.std.specs.Prelude.{◌≡◌, ◌≤◌, length, not, position};
 ghost use Rattle.std.specs.List.{position_or_len, prefix_len, list_all};
 ghost use Rattle.ags_text.specs.Field.{is_blank, leading_field, behind_leading_field, behind_blanks, next_field, behind_field};
 

@@ -10,8 +10,6 @@ mod line_laws;
 mod lines;
 mod numerals;
 mod seven_digits;
-#[cfg(test)]
-mod tests;
 
 pub use faults::{first_fault_is_first, no_fault_is_faultless};
 pub use field_laws::{

@@ -1,6 +1,6 @@
 //! Numbers as digits of a fixed width, and octal and decimal digits as numbers.
 
-ghost use Rattle.std.specs.Prelude.{◌≡◌, ℕ, ◌+◌, ◌%◌, ◌<◌, ◌^◌, ◌≤◌, IfSome, Some, length};
+ghost use Rattle.std.specs.Prelude.{◌≡◌, ℕ, ◌+◌, ◌%◌, ◌<◌, ◌^◌, ◌≤◌, IfSome, Some};
 ghost use Rattle.ags_text.specs.Numeral.{numeral, decimal7_text, octal4_text, octal6_text, IsNumber, IsOctal, IsDecimal, Writes};
 
 /// The most octal digits that are read: those of one word.

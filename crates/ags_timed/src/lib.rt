@@ -10,6 +10,3 @@ mod watchers;
 
 pub use timed_runs::{CYCLE_MICROS, run_for, run_steps};
 pub use watchers::Watcher;
-
-#[cfg(test)]
-mod tests;

@@ -1,6 +1,6 @@
 //! The command `compare`: whether the words of a source are those of a listing.
 
-ghost use Rattle.std.specs.Prelude.{◌≡◌, ◌<◌, IfOk, map, length};
+ghost use Rattle.std.specs.Prelude.{◌≡◌, ◌<◌, IfOk, map};
 ghost use Rattle.std.specs.Result.{result_map_both};
 ghost use Rattle.ags_asm.specs.Source.{defined};
 ghost use Rattle.ags_compare.specs.declared.comparing.Compared.{Compared};

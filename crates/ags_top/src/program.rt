@@ -1,9 +1,7 @@
 //! The program as the walk along its plans sees it: how the files of a command line are loaded, and how a work is done.
 
-ghost use Rattle.std.specs.Prelude.{◌≡◌, IfOk, Some, map};
-ghost use Rattle.std.specs.Option.{option_map};
+ghost use Rattle.std.specs.Prelude.{IfOk, Some};
 ghost use Rattle.std.specs.Result.{result_map_both};
-ghost use Rattle.std.specs.String.{string_bytes};
 ghost use Rattle.ags_outside.specs.Count.{HasCause};
 ghost use Rattle.ags_outside.specs.Send.{is_write_fault};
 ghost use Rattle.ags_plan.specs.Loading.{Loads, end_of, is_absence, is_read_fault};

@@ -1,6 +1,6 @@
 //! The command `run`: what a script shows of the machine that begins with a source's words.
 
-ghost use Rattle.std.specs.Prelude.{◌≡◌, IfOk, map};
+ghost use Rattle.std.specs.Prelude.{IfOk, map};
 ghost use Rattle.std.specs.Result.{result_map_both};
 ghost use Rattle.ags_asm.specs.Source.{defined};
 ghost use Rattle.ags_outside.specs.Count.{HasCause};

@@ -1,6 +1,5 @@
 //! The words that may stand at a row's location.
 
-ghost use Rattle.std.specs.Prelude.{◌≡◌};
 ghost use Rattle.ags_posts.specs.Case.{IsCode};
 
 use crate::cases::FIXED;

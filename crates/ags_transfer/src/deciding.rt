@@ -1,8 +1,7 @@
 //! What is answered once a post is known.
 
-ghost use Rattle.std.specs.Prelude.{◌≡◌, ◌<◌, ◌||◌, ℕ};
-ghost use Rattle.ags_posts.specs.Case.{is_erasable};
-ghost use Rattle.ags_posts.specs.Told.{Told, OneWord, IsTold};
+ghost use Rattle.std.specs.Prelude.{◌≡◌, ◌<◌, ◌||◌};
+ghost use Rattle.ags_posts.specs.Told.{Told, IsTold};
 ghost use Rattle.ags_posts.specs.Line.{Line, IsPostOf};
 ghost use Rattle.ags_posts.specs.Posts.{IsSingle, Decides, IsStored, IsCleared};
 ghost use Rattle.ags_transfer.specs.Decision.{single_pair, IsDecided};

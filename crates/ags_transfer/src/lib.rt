@@ -17,6 +17,3 @@ mod transfers;
 pub use ags_posts::{PostPair, Stop};
 pub use codes::code;
 pub use judging::posts;
-
-#[cfg(test)]
-mod tests;

@@ -1,6 +1,6 @@
 //! The orders that take a word from a cell, or store one.
 
-ghost use Rattle.std.specs.Prelude.{◌≡◌, ◌<◌, ℕ};
+ghost use Rattle.std.specs.Prelude.{◌<◌, ℕ};
 ghost use Rattle.ags_isa.specs.declared.orders.Order.TheVariants.{Cla, Clz, Ldq, Sto, Stq};
 ghost use Rattle.ags_posts.specs.Posts.{IsPosts};
 

@@ -10,6 +10,3 @@ mod texts;
 mod verdicts;
 
 pub use verdicts::{Refusal, RowFault, Verdict};
-
-#[cfg(test)]
-mod tests;

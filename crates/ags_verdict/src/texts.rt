@@ -57,6 +57,47 @@ impl fmt::Display for Place {
     }
 }
 
+/// A cell's address with its first word.
+#[derive(Clone, Copy)]
+struct First(u16, Word);
+
+impl fmt::Display for First {
+    ghost use Rattle.std.specs.Prelude.{◌++◌, codes};
+    ghost use Rattle.ags_text.specs.Numeral.{octal4_text, octal6_text};
+
+    ghost output = { λ first. Some (octal4_text first.0 ++ codes " " ++ octal6_text first.1) };
+
+    fn fmt<W: fmt::Write>(&self, f: &mut fmt::Formatter<W>) -> fmt::Result {
+        let address = FourDigits(self.0);
+        let word = SixDigits(self.1);
+        write!(f, "{address} {word}")
+    }
+}
+
+/// An index, an indicator and a location.
+#[derive(Clone, Copy)]
+struct Uncovered {
+    x: u8,
+    v: bool,
+    next: u16,
+}
+
+impl fmt::Display for Uncovered {
+    ghost use Rattle.std.specs.Prelude.{◌++◌, codes, if◌then◌else◌};
+    ghost use Rattle.std.specs.Fmt.{decimal};
+    ghost use Rattle.ags_text.specs.Numeral.{octal4_text};
+
+    ghost output = { λ post. Some (codes " X " ++ decimal post.x
+        ++ codes " V " ++ (if post.v then codes "1" else codes "0") ++ codes " NEXT " ++ octal4_text post.next) };
+
+    fn fmt<W: fmt::Write>(&self, f: &mut fmt::Formatter<W>) -> fmt::Result {
+        let x = self.x;
+        let indicator = if self.v { "1" } else { "0" };
+        let next = FourDigits(self.next);
+        write!(f, " X {x} V {indicator} NEXT {next}")
+    }
+}
+
 /// Prints the refusal's number and its name, and what it tells.
 impl fmt::Display for Refusal<Value> {
     ghost use Rattle.ags_verdict.specs.VerdictText.{refusal_text};
@@ -66,7 +107,7 @@ impl fmt::Display for Refusal<Value> {
     fn fmt<W: fmt::Write>(&self, f: &mut fmt::Formatter<W>) -> fmt::Result {
         match *self {
             Refusal::InitRange { address, word } => {
-                write!(f, "1 InitRange {} {}", FourDigits(address), SixDigits(word))
+                write!(f, "1 InitRange {}", First(address, word))
             }
             Refusal::StartUncovered => f.write_str("2 StartUncovered"),
             Refusal::CodeUnknown { row } => write!(f, "3 CodeUnknown ROW {row}"),
@@ -99,12 +140,12 @@ impl fmt::Display for Refusal<Value> {
                 x,
                 v,
                 next,
-            } => {
-                let at = At(row, word);
-                let indicator = if v { "1" } else { "0" };
-                let next = FourDigits(next);
-                write!(f, "10 NotCovered{at} X {x} V {indicator} NEXT {next}")
-            }
+            } => write!(
+                f,
+                "10 NotCovered{}{}",
+                At(row, word),
+                Uncovered { x, v, next }
+            ),
         }
     }
 }
@@ -116,7 +157,7 @@ impl fmt::Display for Verdict<Value> {
     ghost output = { λ verdict. Some (verdict_text verdict) };
 
     fn fmt<W: fmt::Write>(&self, f: &mut fmt::Formatter<W>) -> fmt::Result {
-        match *self {
+        match self {
             Verdict::Certified { rows, cases } => write!(f, "CERTIFIED ROWS {rows} CASES {cases}"),
             Verdict::Refused(refusal) => write!(f, "REFUSED {refusal}"),
         }

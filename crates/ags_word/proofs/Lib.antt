@@ -1,3 +1,4 @@
 pub mod LongLaws
 pub mod RoundingLaws
 pub mod WordLaws
+mod SumLemmas

@@ -16,6 +16,3 @@ mod words;
 pub use longs::Long;
 pub use six_digits::SixDigits;
 pub use words::Word;
-
-#[cfg(test)]
-mod tests;

@@ -1,6 +1,6 @@
 //! The pair of A and Q as one number: how it is made and taken apart, its shifts and its division.
 
-ghost use Rattle.std.specs.Prelude.{◌≡◌, ℕ, ℤ, ◌<◌, ◌^◌, not, pos, ◌≤ℤ◌, ◌<ℤ◌, ◌*ℤ◌, neg_ℤ};
+ghost use Rattle.std.specs.Prelude.{◌≡◌, ℤ, ◌<◌, ◌^◌, not, pos, ◌≤ℤ◌, ◌<ℤ◌, ◌*ℤ◌, neg_ℤ};
 ghost use Rattle.ags_word.specs.Long.{long, pair, fits_long, wrap_long, shifted_right as shifted_down, divided};
 
 use crate::whole::{quotient, shifted_left, shifted_right, wrapped_long};

@@ -1,6 +1,6 @@
 //! The product of two words: the whole of it as a pair, and the rounded one.
 
-ghost use Rattle.std.specs.Prelude.{◌≡◌, ℕ, ◌^◌, pos, ◌≤ℤ◌, neg_ℤ};
+ghost use Rattle.std.specs.Prelude.{◌≡◌, ◌^◌, pos, ◌≤ℤ◌, neg_ℤ};
 ghost use Rattle.ags_word.specs.Long.{pair};
 ghost use Rattle.ags_word.specs.Operation.{product as exact_product, product_high, product_rounded};
 

@@ -2,7 +2,7 @@
 //! Each answers the word that is left of the exact result, and whether that result didn't fit. A word that an operation
 //! has no use for is 0 in its clause.
 
-ghost use Rattle.std.specs.Prelude.{◌≡◌, ℕ, ◌<◌};
+ghost use Rattle.std.specs.Prelude.{◌≡◌, ◌<◌};
 ghost use Rattle.ags_word.specs.Operation.{sum, difference, negative, size, left_shift};
 
 use crate::whole::shifted_left;

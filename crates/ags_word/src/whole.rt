@@ -1,6 +1,6 @@
 //! Steps over whole numbers that multiply and divide, each within the bounds that words and pairs keep.
 
-ghost use Rattle.std.specs.Prelude.{◌≡◌, ◌≢◌, ℕ, ◌<◌, ◌^◌, pos, ◌≤ℤ◌, ◌<ℤ◌, ◌*ℤ◌, neg_ℤ};
+ghost use Rattle.std.specs.Prelude.{◌≡◌, ◌≢◌, ◌<◌, ◌^◌, pos, ◌≤ℤ◌, ◌<ℤ◌, ◌*ℤ◌, neg_ℤ};
 ghost use Rattle.std.specs.Int.RustNames.{int_div};
 ghost use Rattle.ags_word.specs.Long.{shifted_right as shifted_down, wrap_long};
 

@@ -15,11 +15,11 @@ below_test x y below = grind (arith, nat_tests)
 test_below : (x y : ℕ) → nat_lt x y ≡ true → x < y
 test_below x y is = grind (arith, nat_tests)
 
-and_left : (x y : Bool) → x && y ≡ true → x ≡ true
+pub and_left : (x y : Bool) → x && y ≡ true → x ≡ true
 and_left true y is = refl
 and_left false y is = absurd cc
 
-and_right : (x y : Bool) → x && y ≡ true → y ≡ true
+pub and_right : (x y : Bool) → x && y ≡ true → y ≡ true
 and_right true y is = is
 and_right false y is = absurd cc
 

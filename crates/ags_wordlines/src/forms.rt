@@ -1,7 +1,7 @@
 //! What a line of a text looks like.
 
-ghost use Rattle.std.specs.Prelude.{◌≡◌, ℕ, List, Option, OnSome, IfSome};
-ghost use Rattle.ags_image.specs.Image.{memory_size, PlacedWord, IsMemoryWord};
+ghost use Rattle.std.specs.Prelude.{◌≡◌, ℕ, List, Option};
+ghost use Rattle.ags_image.specs.Image.{PlacedWord};
 ghost use Rattle.ags_wordlines.specs.Form.{entry_of, IsInMemory};
 
 use ags_word::Word;

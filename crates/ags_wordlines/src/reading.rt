@@ -1,6 +1,6 @@
 //! The image of a text's words.
 
-ghost use Rattle.std.specs.Prelude.{◌≡◌, ◌<◌, ◌^◌, length, IfOk, IfErr};
+ghost use Rattle.std.specs.Prelude.{◌<◌, ◌^◌, length, IfOk, IfErr};
 ghost use Rattle.ags_wordlines.specs.Form.{ReadBy};
 ghost use Rattle.ags_wordlines.specs.Fault.{IsFaultOf};
 ghost use Rattle.ags_wordlines.specs.Lines.{feed_lines};

@@ -7,8 +7,6 @@ mod gathering;
 mod laws;
 mod rows;
 mod sending;
-#[cfg(test)]
-mod tests;
 mod writing;
 
 pub use laws::pairs_by_name_ascend;

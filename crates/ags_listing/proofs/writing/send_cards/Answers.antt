@@ -1,7 +1,22 @@
-use Rattle.std.proofs.Common.{◌∙◌, refl}
+use Rattle.std.proofs.Common.{◌∙◌, refl, arith}
 use Rattle.std.proofs.lemmas.Result.{err_from_is_err_and}
-use Rattle.ags_listing.proofs.SendingLemmas.{Sending-more, Sending-front, Sending-all}
+use Rattle.ags_listing.proofs.SendingLemmas.{Sending-none, Sending-span, Sending-more, Sending-front, Sending-all}
 use Rattle.ags_listing.proofs.writing.send_cards.Goals as goal
+
+pub loop-index-init : goal.loop-index-init
+loop-index-init g c = record { sending = Sending-none (g.K.Sink.told c.args.out.now) c.args.source.now c.args.placed.now c.requires.spans; faults = refl }
+
+pub send_line-requires : goal.send_line-requires
+send_line-requires g c =
+    let lies = Sending-span (g.K.Sink.told c.args.out.now) (g.K.Sink.told c.loop-index.out) c.args.source.now c.args.placed.now c.loop-index.index c.index-placed-index.result
+    c.loop-index.invariant.sending c.loop-index-test.true c.index-placed-index.is in
+    record { ordered = lies.1; within = lies.2 }
+
+pub overflow_cast-index : goal.overflow_cast-index
+overflow_cast-index g c = omega (arith, c.requires.short, c.loop-index.invariant.sending.few, c.loop-index.invariant.sending.short)
+
+pub overflow_add-index : goal.overflow_add-index
+overflow_add-index g c = omega (arith, c.requires.short, c.loop-index.invariant.sending.few, c.loop-index.invariant.sending.short)
 
 pub returns-in_err-send_line-clause-front : goal.returns-in_err-send_line-clause-front
 returns-in_err-send_line-clause-front g c =

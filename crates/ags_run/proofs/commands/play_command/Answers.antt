@@ -42,20 +42,40 @@ returns-in-Feed-clause-unmade g c =
     (IfErr-weaker c.feed.result _ _
     (λ error p. put_stopped c.args.machine.now (guard_of (option_map (λ cert. cert.now) c.args.guard)) act.Feeds c.args.bench.now error p (g.K.Sink.told c.args.out.now)) c.feed.ensures.stopped)
 
+pub returns-in-Cycle-clause-made : goal.returns-in-Cycle-clause-made
+returns-in-Cycle-clause-made g c =
+    rw c.in-Cycle.is (IfOk-weaker c.run_cycles.result _ _ (λ _ p. p (g.K.Sink.told c.args.out.now)) c.run_cycles.ensures.made)
+
 pub returns-in-Cycle-clause-unmade : goal.returns-in-Cycle-clause-unmade
 returns-in-Cycle-clause-unmade g c = rw c.in-Cycle.is (IfErr-weaker c.run_cycles.result _ _ (λ error p. p (g.K.Sink.told c.args.out.now)) c.run_cycles.ensures.unmade)
+
+pub returns-in-ShowReg-clause-made : goal.returns-in-ShowReg-clause-made
+returns-in-ShowReg-clause-made g c =
+    rw c.in-ShowReg.is (IfOk-weaker c.show_reg.result _ _ (λ _ p. p c.args.machine.now (guard_of (option_map (λ cert. cert.now) c.args.guard))) c.show_reg.ensures.made)
 
 pub returns-in-ShowReg-clause-unmade : goal.returns-in-ShowReg-clause-unmade
 returns-in-ShowReg-clause-unmade g c =
     rw c.in-ShowReg.is (IfErr-weaker c.show_reg.result _ _ (λ error p. p c.args.machine.now (guard_of (option_map (λ cert. cert.now) c.args.guard))) c.show_reg.ensures.unmade)
 
+pub returns-in-ShowCell-clause-made : goal.returns-in-ShowCell-clause-made
+returns-in-ShowCell-clause-made g c =
+    rw c.in-ShowCell.is (IfOk-weaker c.show_cell.result _ _ (λ _ p. p c.args.machine.now (guard_of (option_map (λ cert. cert.now) c.args.guard))) c.show_cell.ensures.made)
+
 pub returns-in-ShowCell-clause-unmade : goal.returns-in-ShowCell-clause-unmade
 returns-in-ShowCell-clause-unmade g c =
     rw c.in-ShowCell.is (IfErr-weaker c.show_cell.result _ _ (λ error p. p c.args.machine.now (guard_of (option_map (λ cert. cert.now) c.args.guard))) c.show_cell.ensures.unmade)
 
+pub returns-in-ShowOut-clause-made : goal.returns-in-ShowOut-clause-made
+returns-in-ShowOut-clause-made g c =
+    rw c.in-ShowOut.is (IfOk-weaker c.show_out.result _ _ (λ _ p. p (guard_of (option_map (λ cert. cert.now) c.args.guard))) c.show_out.ensures.made)
+
 pub returns-in-ShowOut-clause-unmade : goal.returns-in-ShowOut-clause-unmade
 returns-in-ShowOut-clause-unmade g c =
     rw c.in-ShowOut.is (IfErr-weaker c.show_out.result _ _ (λ error p. p (guard_of (option_map (λ cert. cert.now) c.args.guard))) c.show_out.ensures.unmade)
+
+pub returns-in-ShowDeda-clause-made : goal.returns-in-ShowDeda-clause-made
+returns-in-ShowDeda-clause-made g c =
+    rw c.in-ShowDeda.is (IfOk-weaker c.show_deda.result _ _ (λ _ p. p c.args.machine.now (guard_of (option_map (λ cert. cert.now) c.args.guard))) c.show_deda.ensures.made)
 
 pub returns-in-ShowDeda-clause-unmade : goal.returns-in-ShowDeda-clause-unmade
 returns-in-ShowDeda-clause-unmade g c =

@@ -6,7 +6,7 @@ use Rattle.ags_top.specs.Files.{Source, Certificate}
 use Rattle.ags_top.specs.Program.{program}
 use Rattle.ags_top.specs.Views.{assembly_of, line_of, status_of}
 use Rattle.ags_top.specs.Work.{JudgeCertificate}
-use Rattle.ags_top.proofs.FilesLemmas.{both_load, second_stops}
+use Rattle.ags_top.proofs.FilesLemmas.{both_load, counted_on, second_stops}
 use Rattle.ags_top.proofs.certify_command.load_certification.Goals as goal
 
 pub returns-in_err-source-clause-loads : goal.returns-in_err-source-clause-loads
@@ -31,3 +31,13 @@ returns-clause-loads g c =
 
 pub returns-clause-ready : goal.returns-clause-ready
 returns-clause-ready g c = (c.args.machine.codes, c.in_ok-source.ensures.ready)
+
+pub returns-in_err-cert-clause-faults : goal.returns-in_err-cert-clause-faults
+returns-in_err-cert-clause-faults g c =
+    let p = err_from_is_err_and c.from_residual-in_err-cert.result c.from_residual-in_err-cert.ensures.1 in
+    counted_on _ _ _ _ c.in_ok-source.ensures.faults (rw (p.1, p.2) c.in_err-cert.ensures.faults)
+
+pub returns-in_err-cert-clause-absences : goal.returns-in_err-cert-clause-absences
+returns-in_err-cert-clause-absences g c =
+    let p = err_from_is_err_and c.from_residual-in_err-cert.result c.from_residual-in_err-cert.ensures.1 in
+    counted_on _ _ _ _ c.in_ok-source.ensures.absences (rw (p.1, p.2) c.in_err-cert.ensures.absences)

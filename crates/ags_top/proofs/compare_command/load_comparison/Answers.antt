@@ -6,7 +6,7 @@ use Rattle.ags_top.specs.Files.{Source, Listing}
 use Rattle.ags_top.specs.Program.{program}
 use Rattle.ags_top.specs.Views.{assembly_of, line_of, status_of}
 use Rattle.ags_top.specs.Work.{CompareImages}
-use Rattle.ags_top.proofs.FilesLemmas.{both_load, second_stops}
+use Rattle.ags_top.proofs.FilesLemmas.{both_load, counted_on, second_stops}
 use Rattle.ags_top.proofs.compare_command.load_comparison.Goals as goal
 
 pub returns-in_err-source-clause-loads : goal.returns-in_err-source-clause-loads
@@ -31,3 +31,13 @@ returns-clause-loads g c =
 
 pub returns-clause-ready : goal.returns-clause-ready
 returns-clause-ready g c = c.in_ok-source.ensures.ready.image
+
+pub returns-in_err-listed-clause-faults : goal.returns-in_err-listed-clause-faults
+returns-in_err-listed-clause-faults g c =
+    let p = err_from_is_err_and c.from_residual-in_err-listed.result c.from_residual-in_err-listed.ensures.1 in
+    counted_on _ _ _ _ c.in_ok-source.ensures.faults (rw (p.1, p.2) c.in_err-listed.ensures.faults)
+
+pub returns-in_err-listed-clause-absences : goal.returns-in_err-listed-clause-absences
+returns-in_err-listed-clause-absences g c =
+    let p = err_from_is_err_and c.from_residual-in_err-listed.result c.from_residual-in_err-listed.ensures.1 in
+    counted_on _ _ _ _ c.in_ok-source.ensures.absences (rw (p.1, p.2) c.in_err-listed.ensures.absences)

@@ -51,3 +51,13 @@ pub returns-in_err-script-clause-absences : goal.returns-in_err-script-clause-ab
 returns-in_err-script-clause-absences g c =
     let p = err_from_is_err_and c.from_residual-in_err-script.result c.from_residual-in_err-script.ensures.1 in
     counted_on _ _ _ _ (counted_on _ _ _ _ c.in_ok-source.ensures.absences c.in_ok-cert.ensures.absences) (rw (p.1, p.2) c.in_err-script.ensures.absences)
+
+pub returns-in_err-cert-clause-faults : goal.returns-in_err-cert-clause-faults
+returns-in_err-cert-clause-faults g c =
+    let p = err_from_is_err_and c.from_residual-in_err-cert.result c.from_residual-in_err-cert.ensures.1 in
+    counted_on _ _ _ _ c.in_ok-source.ensures.faults (rw (p.1, p.2) c.in_err-cert.ensures.faults)
+
+pub returns-in_err-cert-clause-absences : goal.returns-in_err-cert-clause-absences
+returns-in_err-cert-clause-absences g c =
+    let p = err_from_is_err_and c.from_residual-in_err-cert.result c.from_residual-in_err-cert.ensures.1 in
+    counted_on _ _ _ _ c.in_ok-source.ensures.absences (rw (p.1, p.2) c.in_err-cert.ensures.absences)

@@ -6,7 +6,7 @@ use Rattle.ags_top.specs.Files.{Source, Script}
 use Rattle.ags_top.specs.Program.{program}
 use Rattle.ags_top.specs.Views.{assembly_of, line_of, status_of}
 use Rattle.ags_top.specs.Work.{PlayScript}
-use Rattle.ags_top.proofs.FilesLemmas.{both_load, second_stops}
+use Rattle.ags_top.proofs.FilesLemmas.{both_load, counted_on, second_stops}
 use Rattle.ags_top.proofs.run_command.load_play.Goals as goal
 
 pub returns-in_err-source-clause-loads : goal.returns-in_err-source-clause-loads
@@ -32,3 +32,13 @@ returns-clause-loads g c =
 pub returns-clause-ready : goal.returns-clause-ready
 returns-clause-ready g c =
     (c.in_ok-source.ensures.ready.image, c.in_ok-script.ensures.ready)
+
+pub returns-in_err-script-clause-faults : goal.returns-in_err-script-clause-faults
+returns-in_err-script-clause-faults g c =
+    let p = err_from_is_err_and c.from_residual-in_err-script.result c.from_residual-in_err-script.ensures.1 in
+    counted_on _ _ _ _ c.in_ok-source.ensures.faults (rw (p.1, p.2) c.in_err-script.ensures.faults)
+
+pub returns-in_err-script-clause-absences : goal.returns-in_err-script-clause-absences
+returns-in_err-script-clause-absences g c =
+    let p = err_from_is_err_and c.from_residual-in_err-script.result c.from_residual-in_err-script.ensures.1 in
+    counted_on _ _ _ _ c.in_ok-source.ensures.absences (rw (p.1, p.2) c.in_err-script.ensures.absences)

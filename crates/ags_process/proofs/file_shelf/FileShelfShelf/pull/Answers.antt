@@ -8,3 +8,6 @@ returns-clause-end g c = rw (c.keep_unread.ensures.held, c.count.ensures.held, c
 
 pub returns-clause-bytes : goal.returns-clause-bytes
 returns-clause-bytes g c = rw (c.keep_unread.ensures.held, c.count.ensures.held, c.answer_to-answer.ensures.count) c.read_on.ensures.bytes
+
+pub returns-clause-source : goal.returns-clause-source
+returns-clause-source g c = rw (c.keep_unread.ensures.held, c.count.ensures.held, c.answer_to-answer.ensures.count) c.read_on.ensures.source

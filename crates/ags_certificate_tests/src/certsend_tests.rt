@@ -1,0 +1,221 @@
+//! Certificates whose texts were worked out outside the crate: octal numbers are typed as octal.
+
+ghost use Rattle.std.specs.Prelude.{None};
+
+use crate::common::range;
+use ags_cert::{Cert, CertParts};
+use ags_certsend::{send_cert, sent_certificate_reads_back, sent_lines_are_read};
+use ags_domain::{Domain, Range, Value, WordSet};
+use ags_outside::{PutDone, SendError, Sink, SteadySink};
+use ags_row::{At, Limits, Row, RowParts};
+use ags_word::Word;
+use std::alloc::Global;
+use std::process::Abort;
+
+/// The text of `return_word`.
+const RETURN_WORD: &[u8] = b"AGSCERT 1\nSTART 4000\n\
+    ROW 4000 A ANY Q ANY X 0 V 0\n\
+    ROW 4001 A ANY Q ANY X 0 V 0\n\
+    ROW 4002 A ANY Q WORDS 404001 X 0 V 0\n\
+    ROW 4003 A ANY Q ANY X 0 V 0\n\
+    AT 0017 WORDS 404001\n\
+    ROW 0017 A ANY Q ANY X 0 V 0\n\
+    AT 0017 WORDS 404001\n\
+    END\n";
+
+/// The text of `one_of_each`.
+const ONE_OF_EACH: &[u8] = b"AGSCERT 1\nSTART 4001\n\
+    CELL 0020 RANGE -5 7\n\
+    CELL 3777 WORDS 000000 777777\n\
+    INIT 0000 ANY\n\
+    INIT 3777 WORDS 777777\n\
+    IN 2001 RANGE 0 131071\n\
+    IN 2200 RANGE 0 31\n\
+    OUT 6001 RANGE -131072 -1\n\
+    MAY 0000\n\
+    MAY 7777\n\
+    ROW 4001 A RANGE 1 2 Q WORDS 000001 X 0127 V 01\n\
+    AT 0017 ANY\n\
+    AT 0020 RANGE -1 0\n\
+    ROW 4000 A ANY Q ANY X 5 V 1\n\
+    END\n";
+
+/// The value that is a set of some words, by their numbers.
+fn words(rt: &impl Abort, alloc: Global, numbers: &[u32]) -> Value {
+    let mut list = Vec::new(alloc);
+    for number in numbers {
+        let word = Word::of(*number).expect(rt, "a word");
+        assert!(rt; list.push(word).is_ok());
+    }
+    Value::Words(WordSet::of(list.as_slice()).expect(rt, "the words of a set"))
+}
+
+/// A row of `return_word`: whether Q holds the word alone, and whether the cell does.
+fn row(rt: &impl Abort, alloc: Global, location: u16, in_q: bool, in_cell: bool) -> Row<Value> {
+    let q = if in_q {
+        words(rt, alloc, &[0o404001])
+    } else {
+        Value::full()
+    };
+    let mut at = Vec::new(alloc);
+    if in_cell {
+        let cell = At {
+            address: 0o17,
+            value: words(rt, alloc, &[0o404001]),
+        };
+        assert!(rt; at.push(cell).is_ok());
+    }
+    Row::of(RowParts {
+        location,
+        a: Value::full(),
+        q,
+        x: [true, false, false, false, false, false, false, false],
+        v: [true, false],
+        at,
+    })
+    .expect(rt, "the parts of a row")
+}
+
+/// The certificate of some parts, with nothing stated of the start but of two cells.
+fn made(
+    rt: &impl Abort,
+    alloc: Global,
+    start: u16,
+    limits: Limits<Value>,
+    firsts: [Option<Value>; 2],
+    rows: Vec<Row<Value>>,
+) -> Cert {
+    let mut init: Vec<Option<Value>> = vec![in alloc; None; 2048].expect(
+        rt,
+        "memory for the start",
+    );
+    init[0] = firsts[0];
+    init[0o3777] = firsts[1];
+    let parts = CertParts {
+        start,
+        limits,
+        init,
+        rows,
+    };
+    Cert::of(alloc, parts)
+        .expect(rt, "memory for a certificate")
+        .expect(rt, "the parts of a certificate")
+}
+
+/// The certificate of a program that puts 404001 into Q and comes back over a cell.
+fn return_word(rt: &impl Abort, alloc: Global) -> Cert {
+    let mut rows = Vec::new(alloc);
+    for (location, in_q, in_cell) in [
+        (0o4000u16, false, false),
+        (0o4001, false, false),
+        (0o4002, true, false),
+        (0o4003, false, true),
+        (0o17, false, true),
+    ] {
+        assert!(rt; rows.push(row(rt, alloc, location, in_q, in_cell)).is_ok());
+    }
+    let limits: Limits<Value> = Limits::new(alloc).expect(rt, "memory for limits");
+    made(rt, alloc, 0o4000, limits, [None, None], rows)
+}
+
+/// The limits of `one_of_each`.
+fn some_limits(rt: &impl Abort, alloc: Global) -> Limits<Value> {
+    let mut limits: Limits<Value> = Limits::new(alloc).expect(rt, "memory for limits");
+    limits.set_cell(0o3777, words(rt, alloc, &[0, 0o777777]));
+    limits.set_cell(0o20, range(rt, -5, 7));
+    limits.set_cell(0o21, range(rt, -131_072, 131_071));
+    limits.set_input(0o2200, range(rt, 0, 31));
+    limits.set_input(0o2001, range(rt, 0, 131_071));
+    limits.set_output(0o6001, range(rt, -131_072, -1));
+    limits.name_place(0o7777);
+    limits.name_place(0);
+    limits
+}
+
+/// A certificate with a line of each kind.
+fn one_of_each(rt: &impl Abort, alloc: Global) -> Cert {
+    let mut at = Vec::new(alloc);
+    for (address, value) in [(0o17u16, Value::full()), (0o20, range(rt, -1, 0))] {
+        assert!(rt; at.push(At { address, value }).is_ok());
+    }
+    let first = Row::of(RowParts {
+        location: 0o4001,
+        a: range(rt, 1, 2),
+        q: words(rt, alloc, &[1]),
+        x: [true, true, true, false, false, false, false, true],
+        v: [true, true],
+        at,
+    });
+    let second = Row::of(RowParts {
+        location: 0o4000,
+        a: Value::full(),
+        q: Value::full(),
+        x: [false, false, false, false, false, true, false, false],
+        v: [false, true],
+        at: Vec::new(alloc),
+    });
+    let mut rows = Vec::new(alloc);
+    assert!(rt; rows.push(first.expect(rt, "the parts of a row")).is_ok());
+    assert!(rt; rows.push(second.expect(rt, "the parts of a row")).is_ok());
+    let firsts = [Some(Value::full()), Some(words(rt, alloc, &[0o777777]))];
+    made(rt, alloc, 0o4001, some_limits(rt, alloc), firsts, rows)
+}
+
+#[test]
+fn certificates_are_sent(rt: HostRuntime) {
+    let alloc = rt.alloc();
+    let mut out = SteadySink::new(alloc, 10_000);
+    assert!(rt; send_cert(&return_word(&rt, alloc), &mut out).is_ok());
+    assert!(rt; out.bytes() == RETURN_WORD);
+    let mut out = SteadySink::new(alloc, 1);
+    assert!(rt; send_cert(&one_of_each(&rt, alloc), &mut out).is_ok());
+    assert!(rt; out.bytes() == ONE_OF_EACH);
+}
+
+/// A sink that tells nothing, takes each piece whole, and fails at one of its puts.
+#[derive(Drop)]
+struct FailingSink {
+    at: u64,
+    puts: u64,
+    faults: u64,
+}
+
+impl Sink for FailingSink {
+    ghost told = { λ _. None };
+
+    ghost faults = { λ sink. sink.faults };
+
+    fn put(&mut self, piece: &[u8]) -> PutDone {
+        self.puts = self.puts.saturating_add(1);
+        if self.puts == self.at {
+            self.faults = self.faults.saturating_add(1);
+            return PutDone::Failed;
+        }
+        PutDone::Took(piece.len())
+    }
+}
+
+#[test]
+fn each_line_is_one_put_that_may_fail(rt: HostRuntime) {
+    let alloc = rt.alloc();
+    let cert = one_of_each(&rt, alloc);
+    for at in 1..=16u64 {
+        let mut out = FailingSink {
+            at,
+            puts: 0,
+            faults: 0,
+        };
+        let answer = send_cert(&cert, &mut out);
+        assert!(rt; answer == Err(SendError::WriteFault), "put {at}");
+        assert!(rt; out.puts == at, "put {at}");
+    }
+    let mut out = FailingSink {
+        at: 17,
+        puts: 0,
+        faults: 0,
+    };
+    assert!(rt; send_cert(&cert, &mut out).is_ok());
+    assert!(rt; out.puts == 16);
+    sent_lines_are_read();
+    sent_certificate_reads_back();
+}

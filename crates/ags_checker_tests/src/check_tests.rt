@@ -1,0 +1,129 @@
+//! Verdicts of programs that were worked out outside the crate.
+
+use crate::common::word;
+use ags_cert::{Cert, CertParts};
+use ags_check::{Refusal, Verdict, check};
+use ags_domain::{Domain, Operands, Range, Value};
+use ags_image::Image;
+use ags_ports::Machine;
+use ags_row::{Limits, Row, RowParts};
+use ags_word::Word;
+use std::alloc::Global;
+use std::process::Abort;
+
+/// A row where A and Q may hold any word, with index 0, where the indicator is clear or, where told, may be set.
+fn row(rt: &impl Abort, alloc: Global, location: u16, may_be_set: bool) -> Row<Value> {
+    Row::of(RowParts {
+        location,
+        a: Value::full(),
+        q: Value::full(),
+        x: [true, false, false, false, false, false, false, false],
+        v: [true, may_be_set],
+        at: Vec::new(alloc),
+    })
+    .expect(rt, "the parts of a row")
+}
+
+/// The verdict of some words, which stand from 4000 octal on, with a row at each of some locations; it starts at 4000.
+fn verdict(
+    rt: &impl Abort,
+    alloc: Global,
+    words: &[u32],
+    locations: &[u16],
+    limits: Limits<Value>,
+    may_be_set: bool,
+) -> Verdict<Value> {
+    let mut image = Image::new(alloc).expect(rt, "memory for an image");
+    let mut place: u16 = 0o4000;
+    for number in words {
+        assert!(rt; place < 4095);
+        image.set(place, word(rt, *number));
+        place += 1;
+    }
+    let mut rows = Vec::new(alloc);
+    for location in locations {
+        assert!(rt; rows.push(row(rt, alloc, *location, may_be_set)).is_ok());
+    }
+    let init: Vec<Option<Value>> = vec![in alloc; None; 2048].expect(rt, "memory for the start");
+    let parts = CertParts {
+        start: 0o4000,
+        limits,
+        init,
+        rows,
+    };
+    let made = Cert::of(alloc, parts).expect(rt, "memory for a certificate");
+    let cert = made.expect(rt, "the parts of a certificate");
+    check(&Machine::standard(), &image, &cert)
+}
+
+/// The verdict of a loop that adds 1 to a cell: CLA, ADD, STO, TRA and the word 1.
+fn sum_verdict(rt: &impl Abort, alloc: Global, named: bool, may_be_set: bool) -> Verdict<Value> {
+    let mut limits: Limits<Value> = Limits::new(alloc).expect(rt, "memory for limits");
+    if named {
+        limits.name_place(0o4001);
+    }
+    let words = [0o200020, 0o224004, 0o100020, 0o404000, 0o000001];
+    verdict(
+        rt,
+        alloc,
+        &words,
+        &[0o4000, 0o4001, 0o4002, 0o4003],
+        limits,
+        may_be_set,
+    )
+}
+
+#[test]
+fn overflow_is_refused_where_it_is_not_named(rt: HostRuntime) {
+    let alloc = rt.alloc();
+    let operands = Operands {
+        a: word(&rt, 0o377777),
+        q: word(&rt, 0),
+        m: word(&rt, 1),
+    };
+    let add = word(&rt, 0o224004);
+    assert_eq!(rt;
+        sum_verdict(&rt, alloc, false, false),
+        Verdict::Refused(Refusal::MayOverflow {
+            row: 2,
+            word: add,
+            operands
+        })
+    );
+    assert_eq!(rt;
+        sum_verdict(&rt, alloc, true, false),
+        Verdict::Refused(Refusal::NotCovered {
+            row: 2,
+            word: add,
+            x: 0,
+            v: false,
+            next: 0o4002
+        })
+    );
+    assert_eq!(rt;
+        sum_verdict(&rt, alloc, true, true),
+        Verdict::Certified { rows: 4, cases: 8 }
+    );
+}
+
+/// Asserts how a program that goes to the cell 17 octal is refused, where the words of value 0 to a greatest may stand there.
+fn assert_refused(rt: &impl Abort, alloc: Global, greatest: i32, refusal: Refusal<Value>) {
+    let mut limits: Limits<Value> = Limits::new(alloc).expect(rt, "memory for limits");
+    let range = Range::of(0, greatest).expect(rt, "the ends of a range");
+    limits.set_cell(0o17, Value::Range(range));
+    assert_eq!(rt;
+        verdict(rt, alloc, &[0o400017], &[0o4000, 0o17], limits, false),
+        Verdict::Refused(refusal)
+    );
+}
+
+#[test]
+fn executed_cell_is_judged_by_its_limit(rt: HostRuntime) {
+    let alloc = rt.alloc();
+    assert_refused(&rt, alloc, 16, Refusal::CodeUnknown { row: 2 });
+    let zero = Refusal::NoOrder {
+        row: 2,
+        word: word(&rt, 0),
+    };
+    assert_refused(&rt, alloc, 15, zero);
+}

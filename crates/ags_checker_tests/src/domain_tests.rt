@@ -1,0 +1,397 @@
+//! Rows that were worked out outside the crate, one table for each subject.
+
+use crate::common::word;
+use ags_domain::{Domain, Operands, Range, Value, WordSet};
+use ags_word::Word;
+use std::process::Abort;
+use std::test::Fail;
+
+/// The range of two values.
+fn range(rt: &impl Abort, ends: (i32, i32)) -> Range {
+    Range::of(ends.0, ends.1).expect(rt, "the ends of a range")
+}
+
+/// An operation with a count, or without one.
+#[derive(Clone, Copy)]
+enum Operation {
+    Add,
+    Sub,
+    Com,
+    Abs,
+    Als(u32),
+    Lls(u32),
+    Lrs(u32),
+    High,
+    Round,
+    Over,
+}
+
+/// The answer of an operation over a domain.
+fn answer<D: Domain>(rt: &impl Abort, operation: Operation, a: &D, m: &D) -> Result<D, Operands> {
+    match operation {
+        Operation::Add => a.add(m),
+        Operation::Sub => a.sub(m),
+        Operation::Com => a.com(),
+        Operation::Abs => a.abs(),
+        Operation::Als(count) => {
+            assert!(rt; count < 64);
+            a.als(count)
+        }
+        Operation::Lls(count) => {
+            assert!(rt; count < 64);
+            a.lls_high(count)
+        }
+        Operation::Lrs(count) => {
+            assert!(rt; count < 64);
+            Ok(a.lrs_high(count))
+        }
+        Operation::High => a.mul_high(m),
+        Operation::Round => a.mul_round(m),
+        Operation::Over => a.quotient(m),
+    }
+}
+
+const FULL: (i32, i32) = (-131_072, 131_071);
+
+const LEAST: (i32, i32) = (-131_072, -131_072);
+
+/// An operation, the ends of A and of the cell, and those of what it leaves.
+type Interval = (Operation, (i32, i32), (i32, i32), (i32, i32));
+
+const INTERVALS: [Interval; 29] = [
+    (Operation::Add, (-1000, 1000), (-125, 125), (-1125, 1125)),
+    (Operation::High, (-3, 5), (65536, 65536), (-2, 2)),
+    (Operation::Round, (-3, 5), (65536, 65536), (-1, 3)),
+    (Operation::Over, (4, 4), (8, 8), (65536, 81919)),
+    (
+        Operation::Over,
+        (-1000, 1000),
+        (65536, 131071),
+        (-2000, 2001),
+    ),
+    (Operation::Lls(1), (1, 2), (0, 0), (2, 5)),
+    (Operation::Sub, (3, 5), (-1, 1), (2, 6)),
+    (Operation::Com, (-3, 5), (0, 0), (-5, 3)),
+    (Operation::Abs, (-3, 5), (0, 0), (0, 5)),
+    (Operation::Abs, (-131071, -7), (0, 0), (7, 131071)),
+    (Operation::Als(2), (-3, 5), (0, 0), (-12, 20)),
+    (Operation::Als(63), (0, 0), (0, 0), (0, 0)),
+    (Operation::High, FULL, (1, 1), (-1, 0)),
+    (Operation::Round, FULL, (1, 1), (-1, 1)),
+    (Operation::High, FULL, (-131071, 131071), (-131071, 131071)),
+    (Operation::Over, (0, 0), (-4, -1), (-131071, 0)),
+    (Operation::Over, (-1, -1), (1, 1), (-131072, -1)),
+    (Operation::Lls(1), (-65536, 65535), (0, 0), FULL),
+    (Operation::Add, FULL, (0, 0), FULL),
+    (Operation::Add, LEAST, (0, 131071), (-131072, -1)),
+    (Operation::Sub, FULL, (0, 0), FULL),
+    (Operation::Sub, LEAST, LEAST, (0, 0)),
+    (Operation::Com, (-131071, 131071), (0, 0), (-131071, 131071)),
+    (Operation::Abs, (-131071, 131071), (0, 0), (0, 131071)),
+    (Operation::Als(0), FULL, (0, 0), FULL),
+    (Operation::Als(1), (-65536, -65536), (0, 0), LEAST),
+    (Operation::Lls(0), FULL, (0, 0), FULL),
+    (Operation::High, LEAST, (1, 1), (-1, -1)),
+    (Operation::Round, LEAST, (1, 1), (-1, -1)),
+];
+
+#[test]
+fn intervals(rt: HostRuntime) {
+    for (operation, a, m, ends) in INTERVALS {
+        let told = answer(&rt, operation, &range(&rt, a), &range(&rt, m));
+        assert_eq!(rt; told, Ok(range(&rt, ends)));
+    }
+}
+
+#[test]
+fn intervals_of_values(rt: HostRuntime) {
+    for (operation, a, m, ends) in [
+        (Operation::Add, (-1000, 1000), (-125, 125), (-1125, 1125)),
+        (
+            Operation::Over,
+            (-1000, 1000),
+            (65536, 131071),
+            (-2000, 2001),
+        ),
+    ] {
+        let a = Value::Range(range(&rt, a));
+        let m = Value::Range(range(&rt, m));
+        let told = answer(&rt, operation, &a, &m);
+        assert_eq!(rt; told, Ok(Value::Range(range(&rt, ends))));
+    }
+}
+
+/// Asserts that an operation on two ranges overflows, and tells the words of these numbers: of A, of Q and of the cell.
+fn assert_overflow(
+    rt: &impl Abort,
+    operation: Operation,
+    a: (i32, i32),
+    m: (i32, i32),
+    numbers: (u32, u32, u32),
+) {
+    let told = Operands {
+        a: word(rt, numbers.0),
+        q: word(rt, numbers.1),
+        m: word(rt, numbers.2),
+    };
+    assert_eq!(rt;
+        answer(rt, operation, &range(rt, a), &range(rt, m)),
+        Err(told)
+    );
+}
+
+#[test]
+fn sums_and_differences_that_overflow(rt: HostRuntime) {
+    for (operation, a, m, numbers) in [
+        (Operation::Add, (100, 131071), (1, 1), (0o377777, 0, 1)),
+        (
+            Operation::Add,
+            (-131072, -100),
+            (-1, 0),
+            (0o400000, 0, 0o777777),
+        ),
+        (
+            Operation::Add,
+            (-131072, -131000),
+            (-131072, -131000),
+            (0o400110, 0, 0o400110),
+        ),
+        (
+            Operation::Sub,
+            (100, 131071),
+            (-1, 0),
+            (0o377777, 0, 0o777777),
+        ),
+        (Operation::Sub, (-131072, -100), (1, 1), (0o400000, 0, 1)),
+    ] {
+        assert_overflow(&rt, operation, a, m, numbers);
+    }
+}
+
+#[test]
+fn negatives_and_sizes_that_overflow(rt: HostRuntime) {
+    for (operation, a, m, numbers) in [
+        (Operation::Com, (-131072, 5), (0, 0), (0o400000, 0, 0)),
+        (Operation::Abs, (-131072, -131072), (0, 0), (0o400000, 0, 0)),
+    ] {
+        assert_overflow(&rt, operation, a, m, numbers);
+    }
+}
+
+#[test]
+fn shifts_that_overflow(rt: HostRuntime) {
+    for (operation, a, m, numbers) in [
+        (Operation::Als(1), (-65537, 0), (0, 0), (0o577777, 0, 0)),
+        (Operation::Als(17), (2, 2), (0, 0), (2, 0, 0)),
+        (
+            Operation::Lls(1),
+            (0, 65536),
+            (0, 0),
+            (0o200000, 0o377777, 0),
+        ),
+        (Operation::Lls(1), (-65537, 0), (0, 0), (0o577777, 0, 0)),
+    ] {
+        assert_overflow(&rt, operation, a, m, numbers);
+    }
+}
+
+#[test]
+fn products_that_overflow(rt: HostRuntime) {
+    for (operation, a, m, numbers) in [
+        (Operation::High, FULL, FULL, (0o400000, 0, 0o400000)),
+        (
+            Operation::Round,
+            FULL,
+            (-131072, -100),
+            (0o400000, 0, 0o400000),
+        ),
+    ] {
+        assert_overflow(&rt, operation, a, m, numbers);
+    }
+}
+
+#[test]
+fn quotients_that_overflow(rt: HostRuntime) {
+    for (operation, a, m, numbers) in [
+        (Operation::Over, (100, 131071), (-1, 1), (100, 0, 0)),
+        (Operation::Over, (1, 1), (1, 4), (1, 0, 1)),
+        (Operation::Over, (0, 1), (1, 4), (1, 0o377777, 1)),
+        (Operation::Over, (-3, 0), (-4, -1), (0o777775, 0, 0o777777)),
+    ] {
+        assert_overflow(&rt, operation, a, m, numbers);
+    }
+}
+
+#[test]
+fn right_shifts(rt: HostRuntime) {
+    for (a, count, ends) in [((-1, 3), 1, (-1, 1)), (FULL, 0, FULL), (FULL, 63, (-1, 0))] {
+        assert!(rt; count < 64);
+        assert_eq!(rt; range(&rt, a).lrs_high(count), range(&rt, ends));
+    }
+}
+
+/// The set of two words.
+fn pair(rt: &impl Abort, first: u32, second: u32) -> Value {
+    Value::of_word(word(rt, first)).join(&Value::of_word(word(rt, second)))
+}
+
+#[test]
+fn joins(rt: HostRuntime) {
+    let sixteen = Value::Range(range(&rt, (-8, 7)));
+    let more = Value::Range(range(&rt, (-8, 8)));
+    assert_eq!(rt; more.few(), None);
+    assert_eq!(rt;
+        sixteen.few().map(Value::Words),
+        Some(sixteen.join(&pair(&rt, 7, 0o777770)))
+    );
+    assert_eq!(rt; sixteen.join(&pair(&rt, 8, 7)), more);
+}
+
+#[test]
+fn inclusions(rt: HostRuntime) {
+    let sixteen = Value::Range(range(&rt, (-8, 7)));
+    let ends = pair(&rt, 7, 0o777770);
+    assert!(rt; ends.within(&sixteen));
+    assert!(rt; !sixteen.within(&ends));
+    assert!(rt; Value::Range(range(&rt, (7, 7))).within(&ends));
+}
+
+#[test]
+fn parts(rt: HostRuntime) {
+    let ends = pair(&rt, 7, 0o777770);
+    assert_eq!(rt; ends.negative(), Some(pair(&rt, 0o777770, 0o777770)));
+    assert_eq!(rt; ends.rest(), Some(pair(&rt, 7, 7)));
+    assert_eq!(rt; Value::of_word(Word::ZERO).negative(), None);
+    assert_eq!(rt; Value::Range(range(&rt, (-2, -1))).rest(), None);
+}
+
+/// Asserts that no set is made of these words.
+fn assert_no_set(rt: &impl Abort, words: &[Word]) {
+    assert_eq!(rt; WordSet::of(words), None);
+}
+
+#[test]
+fn makers(rt: HostRuntime) {
+    for (least, greatest) in [(3, 2), (-131073, 0), (0, 131072)] {
+        assert_eq!(rt; Range::of(least, greatest), None);
+    }
+    assert_no_set(&rt, &[]);
+    assert_no_set(&rt, &[word(&rt, 2), word(&rt, 2)]);
+    assert_no_set(&rt, &[Word::ZERO; 17]);
+}
+
+#[test]
+fn texts(rt: HostRuntime) -> Result<(), Fail> {
+    let range_of_two = Value::Range(range(&rt, (-98, 100)));
+    for (value, text) in [
+        (Value::full(), "ANY"),
+        (range_of_two, "RANGE -98 100"),
+        (pair(&rt, 0, 0o404001), "WORDS 000000 404001"),
+    ] {
+        assert_eq!(rt; format!(in rt.alloc(); "{value}")?.as_str(), text);
+    }
+    Ok(())
+}
+
+/// The number, where it is a word's value.
+fn fitting(number: i64) -> Option<i64> {
+    if -131_072 <= number && number <= 131_071 {
+        Some(number)
+    } else {
+        None
+    }
+}
+
+/// The quotient by 2^17 rounded down, where the number is one of a pair.
+fn high_part(number: i64) -> Option<i64> {
+    fitting(number.div_euclid(131_072))
+}
+
+/// What an operation leaves in A, by whole numbers alone, and nothing where it overflows.
+fn left_in_a(operation: Operation, a: i64, q: i64, m: i64) -> Option<i64> {
+    let pair = a.wrapping_mul(131_072).wrapping_add(q);
+    match operation {
+        Operation::Add => fitting(a.wrapping_add(m)),
+        Operation::Sub => fitting(a.wrapping_sub(m)),
+        Operation::Com => fitting(a.wrapping_neg()),
+        Operation::Abs => fitting(a.wrapping_abs()),
+        Operation::Als(count) => fitting(a.wrapping_mul(1i64.wrapping_shl(count))),
+        Operation::Lls(count) => high_part(pair.wrapping_mul(1i64.wrapping_shl(count))),
+        Operation::Lrs(count) => high_part(pair.div_euclid(1i64.wrapping_shl(count).max(1))),
+        Operation::High => high_part(a.wrapping_mul(m)),
+        Operation::Round => high_part(a.wrapping_mul(m).wrapping_add(65_536)),
+        Operation::Over => fitting(pair.checked_div(m)?),
+    }
+}
+
+/// The least and the greatest that an operation leaves in A, of seven values from each of two on, and three low parts of Q,
+/// by a walk over all of them; nothing where it overflows at some of them.
+fn walked(operation: Operation, a: i64, m: i64) -> Option<(i64, i64)> {
+    let mut least = i64::MAX;
+    let mut greatest = i64::MIN;
+    for i in 0..7i64 {
+        for j in 0..7i64 {
+            for q in [0, 77_777, 131_071] {
+                let left = left_in_a(operation, a.wrapping_add(i), q, m.wrapping_add(j))?;
+                least = least.min(left);
+                greatest = greatest.max(left);
+            }
+        }
+    }
+    Some((least, greatest))
+}
+
+/// The ends of an operation's answer, or nothing where it tells operands, which then overflow.
+fn told(rt: &impl Abort, operation: Operation, a: i32, m: i32) -> Option<(i64, i64)> {
+    match answer(
+        rt,
+        operation,
+        &range(rt, (a, a.wrapping_add(6))),
+        &range(rt, (m, m.wrapping_add(6))),
+    ) {
+        Ok(hull) => Some((
+            i64::from(hull.least().value()),
+            i64::from(hull.greatest().value()),
+        )),
+        Err(words) => {
+            let left = left_in_a(
+                operation,
+                i64::from(words.a.value()),
+                i64::from(words.q.number()),
+                i64::from(words.m.value()),
+            );
+            assert!(rt; left.is_none());
+            None
+        }
+    }
+}
+
+#[test]
+fn small_ranges_by_a_walk(rt: HostRuntime) {
+    for operation in [
+        Operation::Add,
+        Operation::Sub,
+        Operation::Com,
+        Operation::Abs,
+        Operation::Als(3),
+        Operation::Lls(2),
+        Operation::Lrs(5),
+        Operation::High,
+        Operation::Round,
+        Operation::Over,
+    ] {
+        for step in 0..120i32 {
+            // every third pair of ranges is small, and every third cell is near 0
+            let size = if step.rem_euclid(3) == 0 {
+                200
+            } else {
+                262_000
+            };
+            let near = if step.rem_euclid(3) == 1 { 20 } else { 262_000 };
+            let a = step.wrapping_mul(7919).rem_euclid(size) - size / 2;
+            let m = step.wrapping_mul(104_729).rem_euclid(near) - near / 2;
+            let ends = walked(operation, i64::from(a), i64::from(m));
+            assert_eq!(rt; told(&rt, operation, a, m), ends);
+        }
+    }
+}

@@ -1,0 +1,22 @@
+//! Tests of domains, rows and the verdict, over what their crates make public. They stand in a crate of their own, so that the proofs of those
+//! crates aren't done a second time for them.
+#![tactic(auto)]
+
+#[cfg(test)]
+mod answered_tests;
+#[cfg(test)]
+mod check_tests;
+#[cfg(test)]
+mod common;
+#[cfg(test)]
+mod domain_tests;
+#[cfg(test)]
+mod posts_tests;
+#[cfg(test)]
+mod row_tests;
+#[cfg(test)]
+mod safe_tests;
+#[cfg(test)]
+mod transfer_tests;
+#[cfg(test)]
+mod verdict_tests;

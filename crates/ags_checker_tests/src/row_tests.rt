@@ -1,0 +1,204 @@
+//! Rows that were worked out outside the crate.
+
+use ags_domain::{Domain, Range, Value, WordSet};
+use ags_row::{At, Limits, Post, Row, RowParts, cell_of, covers};
+use ags_word::Word;
+use std::alloc::Global;
+use std::process::Abort;
+
+/// The range of two values.
+fn range(rt: &impl Abort, least: i32, greatest: i32) -> Range {
+    Range::of(least, greatest).expect(rt, "the ends of a range")
+}
+
+/// The value that is a range of two values.
+fn value(rt: &impl Abort, least: i32, greatest: i32) -> Value {
+    Value::Range(range(rt, least, greatest))
+}
+
+/// The parts of a row at 4000 octal where all may stand with index 0 and a clear indicator, and that names these cells.
+fn parts(rt: &impl Abort, alloc: Global, cells: &[(u16, i32, i32)]) -> RowParts<Value> {
+    let mut at = Vec::new(alloc);
+    for (address, least, greatest) in cells {
+        let cell = At {
+            address: *address,
+            value: value(rt, *least, *greatest),
+        };
+        assert!(rt; at.push(cell).is_ok());
+    }
+    RowParts {
+        location: 0o4000,
+        a: Value::full(),
+        q: Value::full(),
+        x: [true, false, false, false, false, false, false, false],
+        v: [true, false],
+        at,
+    }
+}
+
+/// A row of parts that make one.
+fn row(rt: &impl Abort, alloc: Global, cells: &[(u16, i32, i32)]) -> Row<Value> {
+    Row::of(parts(rt, alloc, cells)).expect(rt, "the parts of a row")
+}
+
+/// A row that names so many cells, if there is one.
+fn row_of_many(rt: &impl Abort, alloc: Global, count: u16) -> Option<Row<Value>> {
+    let mut many = parts(rt, alloc, &[]);
+    for address in 0..count {
+        let value = Value::full();
+        assert!(rt; many.at.push(At { address, value }).is_ok());
+    }
+    Row::of(many)
+}
+
+/// Three cells that ascend.
+const CELLS: &[(u16, i32, i32)] = &[(0, 0, 3), (0o17, -5, 5), (0o3777, 1, 1)];
+
+/// Parts that make no row, each in one way.
+fn bad_parts(rt: &impl Abort, alloc: Global, place: u8) -> RowParts<Value> {
+    let mut bad = parts(rt, alloc, CELLS);
+    match place {
+        0 => bad.location = 4096,
+        1 => bad.x = [false; 8],
+        2 => bad.v = [false; 2],
+        3 => bad = parts(rt, alloc, &[(0o17, 0, 0), (0o17, 0, 0)]),
+        4 => bad = parts(rt, alloc, &[(0o4000, 0, 0)]),
+        _ => bad = parts(rt, alloc, &[(1, 0, 0), (0, 0, 0)]),
+    }
+    bad
+}
+
+#[test]
+fn parts_that_make_a_row(rt: HostRuntime) {
+    let made = row(&rt, rt.alloc(), CELLS);
+    assert_eq!(rt; made.location(), 0o4000);
+    assert_eq!(rt; made.a(), Value::full());
+    assert_eq!(rt; made.at().len(), 3);
+}
+
+#[test]
+fn parts_that_make_no_row(rt: HostRuntime) {
+    let alloc = rt.alloc();
+    for place in 0..6 {
+        assert!(rt; Row::of(bad_parts(&rt, alloc, place)).is_none());
+    }
+    assert!(rt; row_of_many(&rt, alloc, 64).is_some());
+    assert!(rt; row_of_many(&rt, alloc, 65).is_none());
+}
+
+/// Each limit of a domain is full and is then set, and no place but one is named.
+fn limits_of<D: Domain>(rt: &impl Abort, alloc: Global, set: D, outside: Word) -> Limits<D> {
+    let mut limits: Limits<D> = Limits::new(alloc).expect(rt, "memory for limits");
+    assert!(rt; limits.cell(0o3777).holds(outside) && limits.input(0o2001).holds(outside));
+    assert!(rt; limits.output(0o6001).holds(outside) && !limits.may(0o4000));
+    limits.set_cell(0o20, set);
+    limits.set_input(0o2001, set);
+    limits.set_output(0o6001, set);
+    limits.name_place(0o4000);
+    assert!(rt; !limits.cell(0o20).holds(outside) && limits.cell(0o21).holds(outside));
+    assert!(rt; !limits.input(0o2001).holds(outside) && limits.input(0o2002).holds(outside));
+    assert!(rt; !limits.output(0o6001).holds(outside) && limits.output(0o6002).holds(outside));
+    assert!(rt; limits.may(0o4000) && !limits.may(0o4001));
+    limits
+}
+
+/// Asserts what the cell at an address may hold in a row.
+fn assert_cell(
+    rt: &impl Abort,
+    base: &Row<Value>,
+    limits: &Limits<Value>,
+    address: u16,
+    held: Value,
+) {
+    assert!(rt; address < 2048);
+    assert_eq!(rt; cell_of(base, limits, address), held);
+}
+
+#[test]
+fn limits_and_cells(rt: HostRuntime) {
+    let alloc = rt.alloc();
+    let outside = Word::of(6).expect(&rt, "a word");
+    let _ = limits_of(&rt, alloc, range(&rt, -5, 5), outside);
+    let limits = limits_of(&rt, alloc, value(&rt, -5, 5), outside);
+    let base = row(&rt, alloc, &[(0, 0, 3), (0o17, 1, 2), (0o3777, 4, 4)]);
+    assert_cell(&rt, &base, &limits, 0, value(&rt, 0, 3));
+    assert_cell(&rt, &base, &limits, 0o17, value(&rt, 1, 2));
+    assert_cell(&rt, &base, &limits, 0o3777, value(&rt, 4, 4));
+    assert_cell(&rt, &base, &limits, 0o16, Value::full());
+    assert_cell(&rt, &base, &limits, 0o20, value(&rt, -5, 5));
+}
+
+/// A word that an order may be.
+fn order_word(rt: &impl Abort) -> Word {
+    Word::of(0o100020).expect(rt, "a word")
+}
+
+/// A post that goes on at 4000 octal, with index 0 and a clear indicator, whose order stands in the cell 20 octal and stores there.
+fn post(rt: &impl Abort) -> Post<Value> {
+    Post {
+        next: 0o4000,
+        a: Value::full(),
+        q: Value::full(),
+        x: 0,
+        v0: true,
+        v1: false,
+        stored: Some(At {
+            address: 0o20,
+            value: value(rt, 0, 3),
+        }),
+        code: Some(At {
+            address: 0o20,
+            value: Value::of_word(order_word(rt)),
+        }),
+    }
+}
+
+/// Whether a row that names these cells covers a post.
+fn is_covered(
+    rt: &impl Abort,
+    alloc: Global,
+    cells: &[(u16, i32, i32)],
+    post: &Post<Value>,
+) -> bool {
+    let limits: Limits<Value> = Limits::new(alloc).expect(rt, "memory for limits");
+    let base = row(rt, alloc, &[(0o17, 1, 2)]);
+    let target = row(rt, alloc, cells);
+    covers(&target, &base, post, &limits)
+}
+
+// What was stored counts before the word that the order stands in.
+#[test]
+fn rows_hold_the_cells_of_posts(rt: HostRuntime) {
+    let alloc = rt.alloc();
+    let post = post(&rt);
+    assert!(rt; is_covered(&rt, alloc, &[(0o17, 1, 2), (0o20, 0, 3)], &post));
+    assert!(rt; !is_covered(&rt, alloc, &[(0o20, 0, 2)], &post));
+    assert!(rt; !is_covered(&rt, alloc, &[(0o17, 2, 2)], &post));
+    assert!(rt; !is_covered(&rt, alloc, &[(0o21, 0, 3)], &post));
+}
+
+/// Asserts whether a row that names no cell covers a post.
+fn assert_covered(rt: &impl Abort, alloc: Global, covered: bool, post: Post<Value>) {
+    assert_eq!(rt; is_covered(rt, alloc, &[], &post), covered);
+}
+
+#[test]
+fn rows_hold_the_registers_of_posts(rt: HostRuntime) {
+    let alloc = rt.alloc();
+    let post = post(&rt);
+    let stored = None;
+    assert_covered(&rt, alloc, true, Post { stored, ..post });
+    let next = 0o4001;
+    assert_covered(&rt, alloc, false, Post { next, ..post });
+    assert_covered(&rt, alloc, false, Post { x: 1, ..post });
+    assert_covered(&rt, alloc, false, Post { x: 8, ..post });
+    assert_covered(&rt, alloc, false, Post { v1: true, ..post });
+    assert_covered(&rt, alloc, true, Post { v0: false, ..post });
+}
+
+#[test]
+fn value_of_a_word_is_its_set(rt: HostRuntime) {
+    let word = order_word(&rt);
+    let words = WordSet::of(&[word]).expect(&rt, "a word set");
+    assert_eq!(rt; Value::of_word(word), Value::Words(words));
+}

@@ -1,0 +1,516 @@
+//! Cases that were worked out outside the crate: one machine, one image and one row for most of them.
+
+use crate::common::word;
+use ags_domain::{Domain, Operands, Range, Value};
+use ags_image::Image;
+use ags_ports::Machine;
+use ags_posts::{PostPair, Stop};
+use ags_row::{At, Limits, Post, Row, RowParts, covers};
+use ags_transfer::{code, posts};
+use ags_word::Word;
+use std::alloc::Global;
+use std::process::Abort;
+
+/// The value that is a range of two values.
+fn value(rt: &impl Abort, least: i32, greatest: i32) -> Value {
+    Value::Range(Range::of(least, greatest).expect(rt, "the ends of a range"))
+}
+
+/// A row where A may hold some words and Q those of value 5 and 6, at any index and with any indicator, that names a cell.
+fn row(
+    rt: &impl Abort,
+    alloc: Global,
+    location: u16,
+    a: Value,
+    cell: Option<At<Value>>,
+) -> Row<Value> {
+    let mut at = Vec::new(alloc);
+    if let Some(cell) = cell {
+        assert!(rt; at.push(cell).is_ok());
+    }
+    let parts = RowParts {
+        location,
+        a,
+        q: value(rt, 5, 6),
+        x: [true; 8],
+        v: [true; 2],
+        at,
+    };
+    Row::of(parts).expect(rt, "the parts of a row")
+}
+
+/// An image with one fixed word, 000007 at 4100.
+fn image(rt: &impl Abort, alloc: Global) -> Image {
+    let mut image = Image::new(alloc).expect(rt, "memory for an image");
+    image.set(0o4100, word(rt, 0o000007));
+    image
+}
+
+/// Limits of some cells and registers; no place is named.
+fn limits(rt: &impl Abort, alloc: Global) -> Limits<Value> {
+    let mut limits: Limits<Value> = Limits::new(alloc).expect(rt, "memory for limits");
+    limits.set_cell(0o20, value(rt, 2, 4));
+    limits.set_cell(0o22, value(rt, 0, 4));
+    limits.set_cell(0o23, value(rt, 8, 8));
+    limits.set_input(0o2001, value(rt, 7, 9));
+    limits.set_output(0o2001, value(rt, 1, 2));
+    limits.set_output(0o6002, value(rt, 0, 2));
+    limits
+}
+
+/// One thing that an order changes in a case.
+#[derive(Clone, Copy)]
+enum Change {
+    Nothing,
+    A(i32, i32),
+    AnyA,
+    WordInA(u32),
+    Q(i32, i32),
+    AnyQ,
+    WordInQ(u32),
+    Next(u16),
+    Index(u8),
+    MaySet,
+    IsClear,
+    Stored(u16, i32, i32),
+    Cleared(u16),
+    Code(u32),
+}
+
+/// The post at 4000 that changes nothing, where A may hold the words of value 1 to 3.
+fn stays(rt: &impl Abort, x: u8, v: bool) -> Post<Value> {
+    Post {
+        next: 0o4001,
+        a: value(rt, 1, 3),
+        q: value(rt, 5, 6),
+        x,
+        v0: !v,
+        v1: v,
+        stored: None,
+        code: None,
+    }
+}
+
+/// A cell with what it may hold.
+fn at(address: u16, value: Value) -> Option<At<Value>> {
+    Some(At { address, value })
+}
+
+/// The value of one word.
+fn alone(rt: &impl Abort, number: u32) -> Value {
+    Value::of_word(word(rt, number))
+}
+
+/// A post with one change.
+fn changed(rt: &impl Abort, mut post: Post<Value>, change: Change) -> Post<Value> {
+    match change {
+        Change::Nothing => {}
+        Change::A(least, greatest) => post.a = value(rt, least, greatest),
+        Change::AnyA => post.a = Value::full(),
+        Change::WordInA(number) => post.a = alone(rt, number),
+        Change::Q(least, greatest) => post.q = value(rt, least, greatest),
+        Change::AnyQ => post.q = Value::full(),
+        Change::WordInQ(number) => post.q = alone(rt, number),
+        Change::Next(next) => post.next = next,
+        Change::Index(x) => post.x = x,
+        Change::MaySet => post.v1 = true,
+        Change::IsClear => {
+            post.v0 = true;
+            post.v1 = false;
+        }
+        Change::Stored(address, least, greatest) => {
+            post.stored = at(address, value(rt, least, greatest));
+        }
+        Change::Cleared(address) => post.stored = at(address, alone(rt, 0)),
+        Change::Code(number) => post.code = at(0o20, alone(rt, number)),
+    }
+    post
+}
+
+/// One post alone.
+fn single(post: Post<Value>) -> Result<PostPair<Value>, Stop<Value>> {
+    Ok(PostPair {
+        first: Some(post),
+        second: None,
+    })
+}
+
+/// A stop.
+fn stopped(stop: Stop<Value>) -> Result<PostPair<Value>, Stop<Value>> {
+    Err(stop)
+}
+
+/// Asserts that a case is answered so.
+fn assert_answer(
+    rt: &impl Abort,
+    told: Result<PostPair<Value>, Stop<Value>>,
+    wanted: Result<PostPair<Value>, Stop<Value>>,
+) {
+    assert_eq!(rt; told, wanted);
+}
+
+/// The posts at 4000 of a word, at an index and an indicator, where A may hold the words between two values.
+fn judged(
+    rt: &impl Abort,
+    alloc: Global,
+    ends: (i32, i32),
+    named: bool,
+    number: u32,
+    x: u8,
+    v: bool,
+) -> Result<PostPair<Value>, Stop<Value>> {
+    let machine = Machine::standard();
+    let image = image(rt, alloc);
+    let mut limits = limits(rt, alloc);
+    if named {
+        limits.name_place(0o4000);
+    }
+    let base = row(rt, alloc, 0o4000, value(rt, ends.0, ends.1), None);
+    assert!(rt; x < 8);
+    posts(&machine, &image, &limits, &base, word(rt, number), x, v)
+}
+
+/// A word, the index and the indicator, and how its post differs from a row that stays.
+type OrderRow = (u32, u8, bool, Change, Change);
+
+/// Looks at the one post of each word, where A may hold the words of value 1 to 3.
+fn expect_posts(rt: &impl Abort, alloc: Global, rows: &[OrderRow]) {
+    for (number, x, v, first, second) in rows.iter().copied() {
+        let post = changed(rt, changed(rt, stays(rt, x, v), first), second);
+        let told = judged(rt, alloc, (1, 3), false, number, x, v);
+        assert_answer(rt, told, single(post));
+    }
+}
+
+#[test]
+fn orders_that_load_and_store(rt: HostRuntime) {
+    let rows = [
+        (0o200020, 2, false, Change::A(2, 4), Change::Nothing),
+        (0o210020, 2, false, Change::A(0, 4), Change::Nothing),
+        (0o204100, 2, false, Change::WordInA(7), Change::Nothing),
+        (0o140020, 2, false, Change::Q(2, 4), Change::Nothing),
+        (
+            0o100021,
+            2,
+            false,
+            Change::Stored(0o21, 1, 3),
+            Change::Nothing,
+        ),
+        (
+            0o120021,
+            2,
+            false,
+            Change::Stored(0o21, 5, 6),
+            Change::Nothing,
+        ),
+        (0o300021, 2, false, Change::AnyA, Change::Cleared(0o21)),
+    ];
+    expect_posts(&rt, rt.alloc(), &rows);
+}
+
+#[test]
+fn orders_that_add_and_change_signs(rt: HostRuntime) {
+    let rows = [
+        (0o220020, 2, false, Change::A(3, 7), Change::Nothing),
+        (0o240020, 2, false, Change::A(-3, 1), Change::Nothing),
+        (0o320022, 2, false, Change::A(1, 7), Change::Cleared(0o22)),
+        (0o340022, 2, false, Change::A(-3, 3), Change::Cleared(0o22)),
+        (0o600000, 2, false, Change::A(-3, -1), Change::Nothing),
+        (0o620000, 2, false, Change::A(1, 3), Change::Nothing),
+    ];
+    expect_posts(&rt, rt.alloc(), &rows);
+}
+
+#[test]
+fn orders_that_multiply_divide_and_shift(rt: HostRuntime) {
+    let alloc = rt.alloc();
+    let rows = [
+        (0o560002, 2, false, Change::A(4, 12), Change::Nothing),
+        (0o260020, 2, false, Change::A(0, 0), Change::AnyQ),
+        (0o160020, 2, false, Change::A(0, 0), Change::AnyQ),
+        (0o020023, 2, false, Change::A(16384, 65535), Change::Nothing),
+        (0o540001, 2, false, Change::A(0, 1), Change::AnyQ),
+        (0o520001, 2, false, Change::A(2, 7), Change::AnyQ),
+    ];
+    expect_posts(&rt, alloc, &rows);
+    let freed = changed(
+        &rt,
+        changed(&rt, stays(&rt, 2, false), Change::A(0, 0)),
+        Change::AnyQ,
+    );
+    let cleared = changed(&rt, freed, Change::Cleared(0o22));
+    let told = judged(&rt, alloc, (1, 3), false, 0o360022, 2, false);
+    assert_answer(&rt, told, single(cleared));
+}
+
+#[test]
+fn orders_that_jump(rt: HostRuntime) {
+    let rows = [
+        (0o400030, 2, false, Change::Next(0o30), Change::Nothing),
+        (0o410030, 2, false, Change::Next(0o32), Change::Nothing),
+        (0o420030, 2, false, Change::Next(0o30), Change::Index(1)),
+        (0o420030, 0, false, Change::Nothing, Change::Nothing),
+        (0o440030, 2, false, Change::Nothing, Change::Nothing),
+        (0o440030, 2, true, Change::Next(0o30), Change::IsClear),
+        (0o460030, 2, false, Change::Nothing, Change::Nothing),
+        (0o700030, 2, false, Change::Next(0o30), Change::Nothing),
+        (
+            0o720030,
+            2,
+            false,
+            Change::Next(0o30),
+            Change::WordInQ(0o404001),
+        ),
+    ];
+    expect_posts(&rt, rt.alloc(), &rows);
+}
+
+#[test]
+fn orders_of_the_index_and_of_ports(rt: HostRuntime) {
+    let rows = [
+        (0o500013, 2, false, Change::Index(3), Change::Nothing),
+        (0o642001, 2, false, Change::A(7, 9), Change::Nothing),
+        (0o666001, 2, true, Change::Nothing, Change::Nothing),
+    ];
+    expect_posts(&rt, rt.alloc(), &rows);
+}
+
+#[test]
+fn both_ways_of_tmi(rt: HostRuntime) {
+    let alloc = rt.alloc();
+    let negative = changed(&rt, stays(&rt, 2, false), Change::A(-2, -1));
+    let taken = changed(&rt, negative, Change::Next(0o30));
+    let rest = changed(&rt, stays(&rt, 2, false), Change::A(0, 3));
+    let pair = PostPair {
+        first: Some(taken),
+        second: Some(rest),
+    };
+    let told = judged(&rt, alloc, (-2, 3), false, 0o460030, 2, false);
+    assert_answer(&rt, told, Ok(pair));
+}
+
+/// The words of value -131072 and 131071.
+const ANY: (i32, i32) = (-131_072, 131_071);
+
+/// The stop where some operands overflow.
+fn overflowing(rt: &impl Abort, a: u32, q: u32, m: u32) -> Stop<Value> {
+    Stop::MayOverflow(Operands {
+        a: word(rt, a),
+        q: word(rt, q),
+        m: word(rt, m),
+    })
+}
+
+/// The stop where a cell's limit doesn't hold what is stored.
+fn out_of_cell(address: u16, value: Value) -> Stop<Value> {
+    Stop::CellRange { address, value }
+}
+
+/// Asserts that a word at 4000 is a stop, where A may hold the words between two values.
+fn assert_stop(rt: &impl Abort, alloc: Global, ends: (i32, i32), number: u32, stop: Stop<Value>) {
+    let told = judged(rt, alloc, ends, false, number, 2, false);
+    assert_answer(rt, told, stopped(stop));
+}
+
+#[test]
+fn stops_in_their_order(rt: HostRuntime) {
+    let alloc = rt.alloc();
+    let few = (1, 3);
+    assert_stop(&rt, alloc, few, 0o000000, Stop::NoOrder);
+    assert_stop(&rt, alloc, few, 0o640000, Stop::BadPort);
+    assert_stop(&rt, alloc, few, 0o662001, Stop::BadPort);
+    let fixed = 0o4100;
+    assert_stop(
+        &rt,
+        alloc,
+        few,
+        0o104100,
+        Stop::FixedWrite { address: fixed },
+    );
+    assert_stop(
+        &rt,
+        alloc,
+        ANY,
+        0o324100,
+        Stop::FixedWrite { address: fixed },
+    );
+    assert_stop(&rt, alloc, ANY, 0o600000, overflowing(&rt, 0o400000, 0, 0));
+    assert_stop(&rt, alloc, few, 0o020020, overflowing(&rt, 3, 0o377777, 2));
+    assert_stop(&rt, alloc, ANY, 0o320020, overflowing(&rt, 0o377777, 0, 4));
+    assert_stop(
+        &rt,
+        alloc,
+        few,
+        0o100020,
+        out_of_cell(0o20, value(&rt, 1, 3)),
+    );
+    assert_stop(&rt, alloc, few, 0o320020, out_of_cell(0o20, alone(&rt, 0)));
+    let given = Stop::OutputRange {
+        address: 0o6002,
+        value: value(&rt, 1, 3),
+    };
+    assert_stop(&rt, alloc, few, 0o666002, given);
+}
+
+/// The post at a named place where some operands overflow, with one change.
+fn freed(rt: &impl Abort, change: Change) -> Post<Value> {
+    let any = changed(rt, stays(rt, 2, false), Change::AnyA);
+    changed(rt, changed(rt, any, Change::MaySet), change)
+}
+
+#[test]
+fn named_place(rt: HostRuntime) {
+    let alloc = rt.alloc();
+    for (number, change) in [
+        (0o600000, Change::Nothing),
+        (0o320022, Change::Cleared(0o22)),
+    ] {
+        let told = judged(&rt, alloc, ANY, true, number, 2, false);
+        assert_answer(&rt, told, single(freed(&rt, change)));
+    }
+    let outside = out_of_cell(0o20, alone(&rt, 0));
+    let told = judged(&rt, alloc, ANY, true, 0o320020, 2, false);
+    assert_answer(&rt, told, stopped(outside));
+}
+
+/// The post at 0020 of a word in that cell, where A may hold the words of value 0 to 3.
+fn run_from_cell(rt: &impl Abort, number: u32, change: Change) -> Post<Value> {
+    let begun = changed(
+        rt,
+        changed(rt, stays(rt, 2, false), Change::Next(0o21)),
+        Change::A(0, 3),
+    );
+    changed(rt, changed(rt, begun, Change::Code(number)), change)
+}
+
+/// The posts of a word in a row, under limits, at an index with a clear indicator.
+fn judged_in_row(
+    rt: &impl Abort,
+    alloc: Global,
+    limits: &Limits<Value>,
+    base: &Row<Value>,
+    number: u32,
+    x: u8,
+) -> Result<PostPair<Value>, Stop<Value>> {
+    let machine = Machine::standard();
+    let image = image(rt, alloc);
+    assert!(rt; x < 8);
+    posts(&machine, &image, limits, base, word(rt, number), x, false)
+}
+
+/// Whether a row at 0021 that names a cell covers a post of another row.
+fn is_covered_after(
+    rt: &impl Abort,
+    alloc: Global,
+    cell: Option<At<Value>>,
+    base: &Row<Value>,
+    post: &Post<Value>,
+    limits: &Limits<Value>,
+) -> bool {
+    let target = row(rt, alloc, 0o21, value(rt, 0, 3), cell);
+    covers(&target, base, post, limits)
+}
+
+#[test]
+fn order_in_an_erasable_cell(rt: HostRuntime) {
+    let alloc = rt.alloc();
+    let full: Limits<Value> = Limits::new(alloc).expect(&rt, "memory for limits");
+    let base = row(&rt, alloc, 0o20, value(&rt, 0, 3), None);
+    // the words that a store to the cell that is run from leaves count before its own word
+    let post = run_from_cell(&rt, 0o100020, Change::Stored(0o20, 0, 3));
+    let stores = judged_in_row(&rt, alloc, &full, &base, 0o100020, 2);
+    assert_answer(&rt, stores, single(post));
+    let held = at(0o20, value(&rt, 0, 3));
+    assert!(rt; is_covered_after(&rt, alloc, held, &base, &post, &full));
+    let own = at(0o20, alone(&rt, 0o100020));
+    assert!(rt; !is_covered_after(&rt, alloc, own, &base, &post, &full));
+    let reads = judged_in_row(&rt, alloc, &full, &base, 0o200020, 2);
+    let read = run_from_cell(&rt, 0o200020, Change::WordInA(0o200020));
+    assert_answer(&rt, reads, single(read));
+}
+
+#[test]
+fn further_rows(rt: HostRuntime) {
+    let alloc = rt.alloc();
+    let mut limits: Limits<Value> = Limits::new(alloc).expect(&rt, "memory for limits");
+    limits.set_cell(0o20, value(&rt, -5, 5));
+    let base = row(&rt, alloc, 0o4000, Value::full(), None);
+    let cleared = judged_in_row(&rt, alloc, &limits, &base, 0o300020, 0);
+    let loaded = changed(&rt, stays(&rt, 0, false), Change::A(-5, 5));
+    let post = changed(&rt, loaded, Change::Cleared(0o20));
+    assert_answer(&rt, cleared, single(post));
+    let some = row(&rt, alloc, 0o4000, value(&rt, 0, 3), None);
+    let goes_on = judged_in_row(&rt, alloc, &limits, &some, 0o460010, 0);
+    let stays = changed(&rt, stays(&rt, 0, false), Change::A(0, 3));
+    assert_answer(&rt, goes_on, single(stays));
+}
+
+/// How many words the row at 0020 has, where its cell may hold the words from 0 to a greatest, if they are few.
+fn number_of_words(rt: &impl Abort, alloc: Global, greatest: i32) -> Option<usize> {
+    let image = image(rt, alloc);
+    let full: Limits<Value> = Limits::new(alloc).expect(rt, "memory for limits");
+    let cell = at(0o20, value(rt, 0, greatest));
+    let base = row(rt, alloc, 0o20, Value::full(), cell);
+    code(&image, &full, &base).map(|set| set.words().len())
+}
+
+#[test]
+fn words_of_a_code(rt: HostRuntime) {
+    let alloc = rt.alloc();
+    assert_eq!(rt; number_of_words(&rt, alloc, 15), Some(16));
+    assert_eq!(rt; number_of_words(&rt, alloc, 16), None);
+}
+
+#[test]
+fn code_of_a_fixed_cell_is_its_word(rt: HostRuntime) {
+    let alloc = rt.alloc();
+    let image = image(&rt, alloc);
+    let full: Limits<Value> = Limits::new(alloc).expect(&rt, "memory for limits");
+    let fixed = row(&rt, alloc, 0o4100, Value::full(), None);
+    let words = code(&image, &full, &fixed).expect(&rt, "one word");
+    assert_eq!(rt; words.words(), [word(&rt, 7)].as_slice());
+}
+
+/// The first post of a case of a domain at index 0 with a clear indicator, where A and all else may be any word.
+fn first_of<D: Domain>(rt: &impl Abort, alloc: Global, number: u32) -> Post<D> {
+    let limits: Limits<D> = Limits::new(alloc).expect(rt, "memory for limits");
+    let parts = RowParts {
+        location: 0o4000,
+        a: D::full(),
+        q: D::full(),
+        x: [true; 8],
+        v: [true; 2],
+        at: Vec::new(alloc),
+    };
+    let base = Row::of(parts).expect(rt, "the parts of a row");
+    let image = image(rt, alloc);
+    let word = word(rt, number);
+    let outcome = posts(&Machine::standard(), &image, &limits, &base, word, 0, false).ok();
+    outcome.and_then(|pair| pair.first).expect(rt, "a post")
+}
+
+#[test]
+fn posts_of_ranges(rt: HostRuntime) {
+    let alloc = rt.alloc();
+    let post: Post<Range> = first_of(&rt, alloc, 0o204100);
+    assert_eq!(rt; post.a, Range::of(7, 7).expect(&rt, "a range"));
+    let post: Post<Value> = first_of(&rt, alloc, 0o204100);
+    assert_eq!(rt; post.a, Value::of_word(word(&rt, 7)));
+}
+
+#[test]
+fn many_cases(rt: HostRuntime) {
+    let alloc = rt.alloc();
+    let (machine, image, limits) = (Machine::standard(), image(&rt, alloc), limits(&rt, alloc));
+    let base = row(&rt, alloc, 0o4000, value(&rt, 1, 3), None);
+    let add = word(&rt, 0o220020);
+    let mut went_on = true;
+    for _ in 0..20_000 {
+        for index in 0..8 {
+            let clear = posts(&machine, &image, &limits, &base, add, index, false);
+            let set = posts(&machine, &image, &limits, &base, add, index, true);
+            went_on = went_on && clear.is_ok() && set.is_ok();
+        }
+    }
+    assert!(rt; went_on);
+}

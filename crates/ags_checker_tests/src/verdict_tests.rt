@@ -1,0 +1,17 @@
+//! The laws at the two domains: a law of a type parameter is proved from its bound alone.
+
+use ags_domain::{Range, Value};
+use ags_verdict::laws::{
+    accepted_certificates_are_certified, certificate_has_one_verdict,
+    refusal_tells_what_fails_first,
+};
+
+#[test]
+fn laws_at_domains(_rt: HostRuntime) {
+    accepted_certificates_are_certified::<Range>();
+    accepted_certificates_are_certified::<Value>();
+    certificate_has_one_verdict::<Range>();
+    certificate_has_one_verdict::<Value>();
+    refusal_tells_what_fails_first::<Range>();
+    refusal_tells_what_fails_first::<Value>();
+}

@@ -1,0 +1,192 @@
+//! What events are told to do, which no script shows: reports worked by hand on the standard machine.
+
+ghost use Rattle.std.specs.Prelude.{◌<◌, ◌≡◌, length};
+ghost use Rattle.ags_ports.specs.State.{IsState};
+
+use crate::common::word;
+use ags_core::Core;
+use ags_image::Image;
+use ags_ports::{Event, Machine, Report, Stored};
+use std::alloc::Global;
+use std::process::Abort;
+
+/// A core with these words in its cells.
+fn loaded(
+    rt: &impl Abort,
+    alloc: Global,
+    machine: &Machine,
+    cells: &[(u16, u32)],
+    start: u16,
+) -> Core
+    ensures { IsState machine.now result }
+{
+    let mut image = Image::new(alloc).expect(rt, "memory for an image");
+    for (address, number) in cells.iter().copied() {
+        assert!(rt; address < 4096);
+        image.set(address, word(rt, number));
+    }
+    assert!(rt; start < 4096);
+    Core::new(alloc, machine, &image, start).expect(rt, "memory for a core")
+}
+
+/// The report of an order that ran, and did nothing that is told.
+fn ran(rt: &impl Abort, location: u16, number: u32) -> Report {
+    Report {
+        ran: true,
+        location,
+        word: word(rt, number),
+        overflow: false,
+        stored: None,
+        took: None,
+        gave: None,
+    }
+}
+
+/// A number at an address.
+fn number_at(rt: &impl Abort, address: u16, number: u32) -> Option<Stored> {
+    Some(Stored {
+        address,
+        word: word(rt, number),
+    })
+}
+
+/// Expects what one event is told to do.
+fn expect(rt: &impl Abort, machine: &Machine, core: &mut Core, event: Event, wanted: Report)
+    requires inputs { length core.old.inputs ≡ length machine.now.ports.inputs }
+    requires outputs { length core.old.outputs ≡ length machine.now.ports.outputs }
+    ensures inputs { length core.new.inputs ≡ length core.old.inputs }
+    ensures outputs { length core.new.outputs ≡ length core.old.outputs }
+{
+    let told = core.act(machine, event);
+    assert_eq!(rt; told, wanted);
+}
+
+/// Expects what a step is told to do.
+fn expect_step(rt: &impl Abort, machine: &Machine, core: &mut Core, wanted: Report)
+    requires inputs { length core.old.inputs ≡ length machine.now.ports.inputs }
+    requires outputs { length core.old.outputs ≡ length machine.now.ports.outputs }
+    ensures inputs { length core.new.inputs ≡ length core.old.inputs }
+    ensures outputs { length core.new.outputs ≡ length core.old.outputs }
+{
+    expect(rt, machine, core, Event::Step, wanted);
+}
+
+/// Expects what the steps from 4005 octal on are told to do, where A is 400000.
+fn expect_stores(rt: &impl Abort, machine: &Machine, core: &mut Core)
+    requires inputs { length core.old.inputs ≡ length machine.now.ports.inputs }
+    requires outputs { length core.old.outputs ≡ length machine.now.ports.outputs }
+{
+    let stored = number_at(rt, 0o0015, 0o400000);
+    expect_step(
+        rt,
+        machine,
+        core,
+        Report {
+            stored,
+            ..ran(rt, 0o4005, 0o110010)
+        },
+    );
+    let stored = number_at(rt, 0o4010, 0o400000);
+    expect_step(
+        rt,
+        machine,
+        core,
+        Report {
+            stored,
+            ..ran(rt, 0o4006, 0o104010)
+        },
+    );
+    let gave = number_at(rt, 0o6200, 0o400000);
+    expect_step(
+        rt,
+        machine,
+        core,
+        Report {
+            gave,
+            ..ran(rt, 0o4007, 0o666200)
+        },
+    );
+    let gave = number_at(rt, 0o6003, 0o400000);
+    expect_step(
+        rt,
+        machine,
+        core,
+        Report {
+            gave,
+            ..ran(rt, 0o4010, 0o666003)
+        },
+    );
+    expect_step(
+        rt,
+        machine,
+        core,
+        Report {
+            ran: false,
+            ..ran(rt, 0o4011, 0)
+        },
+    );
+}
+
+/// Transfers from registers, a sum that overflows, stores, and transfers to registers, from 4000 octal on.
+const CELLS: [(u16, u32); 12] = [
+    (0o0200, 0o377777),
+    (0o0201, 1),
+    // INP 2200, INP 2003, CLA 0200, ADD 0201, AXT 5
+    (0o4000, 0o642200),
+    (0o4001, 0o642003),
+    (0o4002, 0o200200),
+    (0o4003, 0o220201),
+    (0o4004, 0o500005),
+    // STO 0010 with the index bit, STO 4010, OUT 6200, OUT 6003, and a word that is no order
+    (0o4005, 0o110010),
+    (0o4006, 0o104010),
+    (0o4007, 0o666200),
+    (0o4010, 0o666003),
+    (0o4011, 0o000000),
+];
+
+#[test]
+fn events_are_told(rt: HostRuntime) {
+    let machine = Machine::standard();
+    let mut core = loaded(&rt, rt.alloc(), &machine, &CELLS, 0o4000);
+    let put = Event::Put {
+        address: 0o2200,
+        word: word(&rt, 7),
+    };
+    let first = ran(&rt, 0o4000, 0o642200);
+    expect(
+        &rt,
+        &machine,
+        &mut core,
+        put,
+        Report {
+            ran: false,
+            ..first
+        },
+    );
+    let took = Some(0o2200);
+    expect_step(&rt, &machine, &mut core, Report { took, ..first });
+    let took = Some(0o2003);
+    expect_step(
+        &rt,
+        &machine,
+        &mut core,
+        Report {
+            took,
+            ..ran(&rt, 0o4001, 0o642003)
+        },
+    );
+    expect_step(&rt, &machine, &mut core, ran(&rt, 0o4002, 0o200200));
+    let overflow = true;
+    expect_step(
+        &rt,
+        &machine,
+        &mut core,
+        Report {
+            overflow,
+            ..ran(&rt, 0o4003, 0o220201)
+        },
+    );
+    expect_step(&rt, &machine, &mut core, ran(&rt, 0o4004, 0o500005));
+    expect_stores(&rt, &machine, &mut core);
+}

@@ -1,0 +1,81 @@
+//! Rows worked by hand: TRA takes 10 microseconds on the standard machine.
+
+use crate::common::word;
+use ags_core::Core;
+use ags_image::Image;
+use ags_ports::{Machine, Phase, Report};
+use ags_timed::{Watcher, laws, run_for};
+use std::test::Fail;
+
+/// Where each row begins, 4000 octal.
+const START: u16 = 2048;
+
+/// A watcher that counts the steps, and keeps where the last one was and the order times of none.
+#[derive(Drop)]
+struct Counter {
+    steps: u32,
+    ran: u32,
+    last: u16,
+}
+
+impl Watcher for Counter {
+    ghost use Rattle.std.specs.Prelude.{⊤};
+
+    ghost looks = { λ _ _ _. ⊤ };
+
+    fn saw(&mut self, report: &Report) {
+        self.steps = self.steps.wrapping_add(1);
+        if report.ran {
+            self.ran = self.ran.wrapping_add(1);
+        }
+        self.last = report.location;
+    }
+}
+
+/// A word, microseconds, and then the steps, how many ran an order, the answer, the phase and the location.
+type Timed = (u32, u64, u32, u32, u64, Phase, u16);
+
+/// Runs from a core with just this word, at 4000 octal.
+const TIMED: [Timed; 8] = [
+    (0o404000, 25, 3, 3, 30, Phase::Running, START),
+    (0o404000, 30, 3, 3, 30, Phase::Running, START),
+    (0o404000, 31, 4, 4, 40, Phase::Running, START),
+    (0o404000, 0, 0, 0, 0, Phase::Running, START),
+    (0o404000, 20_000, 2000, 2000, 20_000, Phase::Running, START),
+    (0o000000, 25, 1, 0, 0, Phase::Halted, START),
+    (0o704001, 25, 1, 1, 10, Phase::Waiting, START + 1),
+    (0o724000, 17, 2, 2, 32, Phase::Running, START),
+];
+
+#[test]
+fn timed_runs(rt: HostRuntime) -> Result<(), Fail> {
+    let machine = Machine::standard();
+    for (row, (number, micros, steps, ran, spent, phase, location)) in TIMED
+        .into_iter()
+        .enumerate()
+    {
+        let mut image = Image::new(rt.alloc())?;
+        image.set(START, word(&rt, number));
+        let mut core = Core::new(rt.alloc(), &machine, &image, START)?;
+        let mut watcher = Counter {
+            steps: 0,
+            ran: 0,
+            last: 0,
+        };
+        assert!(rt; micros <= 20_000);
+        let told = run_for(&mut core, &machine, micros, &mut watcher);
+        assert!(rt; told == spent, "row {row}");
+        assert!(rt; watcher.steps == steps && watcher.ran == ran, "row {row}");
+        assert!(rt; steps == 0 || watcher.last == START, "row {row}");
+        assert!(rt;
+            core.phase() == phase && core.location() == location,
+            "row {row}"
+        );
+    }
+    Ok(())
+}
+
+#[test]
+fn laws_can_be_called() {
+    laws::each_state_has_one_timed_run();
+}

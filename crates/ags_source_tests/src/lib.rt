@@ -1,0 +1,22 @@
+//! Tests of the source language and of what is made of a source, over what their crates make public. They stand in a crate of their own, so that the proofs of those
+//! crates aren't done a second time for them.
+#![tactic(auto)]
+
+#[cfg(test)]
+mod asm_tests;
+#[cfg(test)]
+mod card_tests;
+#[cfg(test)]
+mod common;
+#[cfg(test)]
+mod compare_tests;
+#[cfg(test)]
+mod listing_tests;
+#[cfg(test)]
+mod places_tests;
+#[cfg(test)]
+mod symbol_tests;
+#[cfg(test)]
+mod tape_tests;
+#[cfg(test)]
+mod xref_tests;

@@ -1,0 +1,104 @@
+//! Sources whose cards are placed, and sources that are refused, worked out by hand from docs/SOURCE.md.
+
+use crate::common::parts_of;
+use ags_places::{
+    Placed, PlacedSource, SourceError, SourceKind, card_lines_follow, each_symbol_has_a_pair,
+    one_list_of_pairs_fits, place_all, places_are_sums, words_stand_in_the_memory,
+};
+use ags_symbol::Symbols;
+use std::alloc::Global;
+use std::process::Abort;
+use std::test::Fail;
+
+/// A source that is placed.
+fn placed(rt: &impl Abort, alloc: Global, source: &[u8]) -> PlacedSource {
+    assert!(rt; source.len() <= 4_194_304);
+    place_all(alloc, source)
+        .ok()
+        .expect(rt, "a source without a fault")
+}
+
+/// Compares cards, whose words aren't made yet, with the spans and the places that are wanted.
+fn expect_cards(rt: &impl Abort, cards: &[Placed], wanted: &[(u32, u32, Option<u16>)]) {
+    assert_eq!(rt; cards.len(), wanted.len());
+    for (card, (start, end, place)) in cards.iter().zip(wanted) {
+        assert!(rt; parts_of(card) == (*start, *end, *place, 0));
+    }
+}
+
+/// Whether the pair of a symbol at this position is of this name, this value and this card.
+fn is_pair(symbols: &Symbols, position: usize, name: &[u8], value: i32, card: u32) -> bool {
+    if position >= symbols.len() {
+        return false;
+    }
+    let (held, defined) = symbols.nth(position);
+    held.bytes() == name && defined.value == value && defined.card == card
+}
+
+#[test]
+fn cards_are_placed(rt: HostRuntime) -> Result<(), Fail> {
+    let source = placed(
+        &rt,
+        rt.alloc(),
+        b" ORG /4000\nA OCT 1\r\n* NO CARD\nB BSS 3\nC ORG *+1\n\tTRA D\nD EQU C-*\n DEC 1B1 X\nE END\n ???",
+    );
+    let wanted = [
+        (0, 10, None),
+        (11, 18, Some(0o4000)),
+        (20, 29, None),
+        (30, 37, None),
+        (38, 47, None),
+        (48, 54, Some(0o4005)),
+        (55, 64, None),
+        (65, 75, Some(0o4006)),
+        (76, 81, None),
+    ];
+    expect_cards(&rt, &source.cards, &wanted);
+    let symbols = [
+        (b"A", 0o4000, 2),
+        (b"B", 0o4001, 4),
+        (b"C", 0o4005, 5),
+        (b"D", -1, 7),
+        (b"E", 0o4007, 9),
+    ];
+    assert_eq!(rt; source.symbols.len(), symbols.len());
+    for (position, (name, value, card)) in symbols.into_iter().enumerate() {
+        assert!(rt; is_pair(&source.symbols, position, name, value, card));
+    }
+    Ok(())
+}
+
+/// The rows of `faults_of_words_are_printed`.
+const FAULTS_OF_WORDS_ARE_PRINTED: [(SourceKind, &str); 4] = [
+    (
+        SourceKind::Undefined,
+        "SOURCE CARD 0000012 ERROR 13 Undefined",
+    ),
+    (
+        SourceKind::AddressRange { value: -5 },
+        "SOURCE CARD 0000012 ERROR 14 AddressRange -5",
+    ),
+    (
+        SourceKind::ValueRange,
+        "SOURCE CARD 0000012 ERROR 15 ValueRange",
+    ),
+    (
+        SourceKind::PlaceTwice { first: 2 },
+        "SOURCE CARD 0000012 ERROR 16 PlaceTwice 0000002",
+    ),
+];
+
+#[test]
+fn faults_of_words_are_printed(rt: HostRuntime) -> Result<(), Fail> {
+    let alloc = rt.alloc();
+    for (kind, wanted) in FAULTS_OF_WORDS_ARE_PRINTED {
+        let fault = SourceError { card: 12, kind };
+        assert!(rt; format!(in alloc; "{fault}")?.as_str() == wanted);
+    }
+    card_lines_follow();
+    each_symbol_has_a_pair();
+    one_list_of_pairs_fits();
+    places_are_sums();
+    words_stand_in_the_memory();
+    Ok(())
+}

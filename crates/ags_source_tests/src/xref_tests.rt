@@ -1,0 +1,115 @@
+//! Cross references of sources, worked out by hand from docs/SOURCE.md.
+
+ghost use Rattle.std.specs.Prelude.{None};
+
+use ags_asm::assemble;
+use ags_isa::Codes;
+use ags_outside::{PutDone, Sink, SteadySink};
+use ags_xref::{XrefError, pairs_by_name_ascend, send_xref};
+use std::alloc::Global;
+use std::process::Abort;
+use std::test::Fail;
+
+/// A source with symbols in the operands of orders, ORG, EQU and BSS, twice on one card, and in remarks and a comment.
+const NAMED: &str = " ORG /4000
+T CLA T-T
+ TRA T,1 N
+* N T
+N EQU T-4095
+B BSS N+2048
+ DEC 1 N
+ ORG B+/100
+Z9 END
+";
+
+/// The cross reference of that source.
+const NAMED_LINES: &str = "B         2050 0000006 0000008
+N        -2047 0000005 0000006
+T         2048 0000002 0000002 0000003 0000005
+Z9        2114 0000009
+";
+
+/// A sink that tells nothing, counts its puts, and fails at one of them alone.
+#[derive(Drop)]
+struct FailingSink {
+    at: u64,
+    puts: u64,
+    faults: u64,
+}
+
+impl Sink for FailingSink {
+    ghost told = { λ _. None };
+
+    ghost faults = { λ sink. sink.faults };
+
+    fn put(&mut self, piece: &[u8]) -> PutDone {
+        self.puts = self.puts.saturating_add(1);
+        if self.puts == self.at {
+            self.faults = self.faults.saturating_add(1);
+            return PutDone::Failed;
+        }
+        PutDone::Took(piece.len())
+    }
+}
+
+/// Sends the cross reference of a source that the standard codes assemble.
+fn send_source<K: Sink>(
+    rt: &impl Abort,
+    alloc: Global,
+    source: &[u8],
+    out: &mut K,
+) -> Result<(), XrefError> {
+    assert!(rt; source.len() <= 4_194_304);
+    let Ok(made) = assemble(alloc, source, &Codes::standard()) else {
+        panic!(rt; "a source with a fault");
+    };
+    send_xref(alloc, source, &made, out)
+}
+
+/// The rows of `references_are_sent`.
+const REFERENCES_ARE_SENT: [(&str, &str); 6] = [
+    ("* FIRST\n ORG /4000\nA OCT 7\n", "A         2048 0000003\n"),
+    (NAMED, NAMED_LINES),
+    (
+        "AA OCT 1\nA OCT 2\n1A OCT 3\nA1 TRA A\r\n END\n TRA AA\n",
+        "1A           2 0000003\nA            1 0000002 0000004\nA1           3 0000004\nAA           0 0000001\n",
+    ),
+    ("ABCDE1 EQU -262143", "ABCDE1 -262143 0000001\n"),
+    (" OCT 1\n", ""),
+    ("", ""),
+];
+
+#[test]
+fn references_are_sent(rt: HostRuntime) -> Result<(), Fail> {
+    let alloc = rt.alloc();
+    for (source, text) in REFERENCES_ARE_SENT {
+        let mut out = SteadySink::new(alloc, 100);
+        assert!(rt; send_source(&rt, alloc, source.as_bytes(), &mut out).is_ok());
+        assert_eq!(rt; str::from_utf8(out.bytes())?, text);
+    }
+    pairs_by_name_ascend();
+    Ok(())
+}
+
+#[test]
+fn a_fault_is_told_at_each_line(rt: HostRuntime) {
+    for at in 1..=4 {
+        let mut out = FailingSink {
+            at,
+            puts: 0,
+            faults: 0,
+        };
+        let Err(error) = send_source(&rt, rt.alloc(), NAMED.as_bytes(), &mut out) else {
+            panic!(rt; "a fault is not told");
+        };
+        assert_eq!(rt; error, XrefError::WriteFault);
+        assert_eq!(rt; out.puts, at);
+    }
+    let mut out = FailingSink {
+        at: 5,
+        puts: 0,
+        faults: 0,
+    };
+    assert!(rt; send_source(&rt, rt.alloc(), NAMED.as_bytes(), &mut out).is_ok());
+    assert_eq!(rt; out.puts, 4);
+}

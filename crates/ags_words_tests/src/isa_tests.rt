@@ -1,0 +1,138 @@
+//! Rows typed from the machine's table of codes, which gives each order as the two octal digits that its word begins
+//! with, and from worked words.
+
+use crate::common::cell;
+use ags_isa::{Codes, Decoded, Order, decode, encode, order_named};
+use ags_word::Word;
+use std::process::Abort;
+
+/// Each order's name and the two octal digits of its standard code.
+const DIGITS: [(&[u8; 3], Order, u32); 27] = [
+    (b"DVP", Order::Dvp, 0o02),
+    (b"STO", Order::Sto, 0o10),
+    (b"STQ", Order::Stq, 0o12),
+    (b"LDQ", Order::Ldq, 0o14),
+    (b"MPR", Order::Mpr, 0o16),
+    (b"CLA", Order::Cla, 0o20),
+    (b"ADD", Order::Add, 0o22),
+    (b"SUB", Order::Sub, 0o24),
+    (b"MPY", Order::Mpy, 0o26),
+    (b"CLZ", Order::Clz, 0o30),
+    (b"ADZ", Order::Adz, 0o32),
+    (b"SUZ", Order::Suz, 0o34),
+    (b"MPZ", Order::Mpz, 0o36),
+    (b"TRA", Order::Tra, 0o40),
+    (b"TIX", Order::Tix, 0o42),
+    (b"TOV", Order::Tov, 0o44),
+    (b"TMI", Order::Tmi, 0o46),
+    (b"AXT", Order::Axt, 0o50),
+    (b"LLS", Order::Lls, 0o52),
+    (b"LRS", Order::Lrs, 0o54),
+    (b"ALS", Order::Als, 0o56),
+    (b"COM", Order::Com, 0o60),
+    (b"ABS", Order::Abs, 0o62),
+    (b"INP", Order::Inp, 0o64),
+    (b"OUT", Order::Out, 0o66),
+    (b"DLY", Order::Dly, 0o70),
+    (b"TSQ", Order::Tsq, 0o72),
+];
+
+/// An order has this name, and its standard code is these two octal digits.
+fn expect_coded(rt: &impl Abort, codes: &Codes, name: &[u8; 3], order: Order, digits: u32) {
+    assert!(rt; digits < 64);
+    let decoded = Decoded {
+        order,
+        indexed: true,
+        address: 0o7777,
+    };
+    assert_eq!(rt;
+        (
+            order.name().as_bytes(),
+            order_named(name),
+            encode(codes, order, false, 0).number(),
+            decode(codes, cell(rt, digits * 4096 + 0o17777)),
+        ),
+        (name.as_slice(), Some(order), digits * 4096, Some(decoded))
+    );
+}
+
+#[test]
+fn names_and_standard_codes(rt: HostRuntime) {
+    let codes = Codes::standard();
+    for (name, order, digits) in &DIGITS {
+        expect_coded(&rt, &codes, name, *order, *digits);
+    }
+    for number in 0..27 {
+        assert_eq!(rt; Order::ALL[number].number(), number);
+    }
+}
+
+#[test]
+fn worked_words(rt: HostRuntime) {
+    let codes = Codes::standard();
+    for (order, indexed, address, number) in [
+        (Order::Cla, false, 0o4010, 0o204010),
+        (Order::Add, true, 0o200, 0o230200),
+        (Order::Com, false, 0, 0o600000),
+        (Order::Tra, false, 0o4001, 0o404001),
+    ] {
+        assert!(rt; address < 4096);
+        let word = cell(&rt, number);
+        assert_eq!(rt; encode(&codes, order, indexed, address), word);
+        assert_eq!(rt;
+            decode(&codes, word),
+            Some(Decoded {
+                order,
+                indexed,
+                address
+            })
+        );
+    }
+}
+
+#[test]
+fn no_order(rt: HostRuntime) {
+    let codes = Codes::standard();
+    for digits in [0o00, 0o01, 0o04, 0o05, 0o06, 0o07, 0o74, 0o75, 0o76, 0o77] {
+        assert!(rt; decode(&codes, cell(&rt, digits * 4096)).is_none());
+        assert!(rt; decode(&codes, cell(&rt, digits * 4096 + 0o7777)).is_none());
+    }
+    for text in [
+        b"".as_slice(),
+        b"CL",
+        b"CLAA",
+        b"cla",
+        b"Cla",
+        b" CLA",
+        b"CLA ",
+        b"XYZ",
+    ] {
+        assert!(rt; order_named(text).is_none());
+    }
+}
+
+#[test]
+fn tables(rt: HostRuntime) {
+    let mut table = [0; 27];
+    for place in 0..27 {
+        table[place] = 31 - place as u8;
+    }
+    let codes = Codes::of(&table).expect(&rt, "distinct codes below 32");
+    assert_eq!(rt;
+        (codes.code_of(Order::Abs), codes.code_of(Order::Tsq)),
+        (31, 5)
+    );
+    let add = Decoded {
+        order: Order::Add,
+        indexed: false,
+        address: 0o0200,
+    };
+    assert_eq!(rt; decode(&codes, cell(&rt, 0o740200)), Some(add));
+    assert!(rt; decode(&codes, cell(&rt, 0o100200)).is_none());
+    let mut high = table;
+    high[26] = 32;
+    assert!(rt; Codes::of(&high).is_none());
+    let mut twice = table;
+    twice[0] = 5;
+    assert!(rt; Codes::of(&twice).is_none());
+}
