@@ -71,60 +71,50 @@ fn expect_step(rt: &impl Abort, machine: &Machine, core: &mut Core, wanted: Repo
     expect(rt, machine, core, Event::Step, wanted);
 }
 
+/// Expects that a step runs an order, a location and its word, and stores 400000 at an address.
+fn expect_store(
+    rt: &impl Abort,
+    machine: &Machine,
+    core: &mut Core,
+    order: (u16, u32),
+    address: u16,
+)
+    requires inputs { length core.old.inputs ≡ length machine.now.ports.inputs }
+    requires outputs { length core.old.outputs ≡ length machine.now.ports.outputs }
+    ensures inputs { length core.new.inputs ≡ length core.old.inputs }
+    ensures outputs { length core.new.outputs ≡ length core.old.outputs }
+{
+    let stored = number_at(rt, address, 0o400000);
+    let ran = ran(rt, order.0, order.1);
+    expect_step(rt, machine, core, Report { stored, ..ran });
+}
+
+/// Expects that a step runs an order, a location and its word, and gives 400000 to an address.
+fn expect_gift(rt: &impl Abort, machine: &Machine, core: &mut Core, order: (u16, u32), address: u16)
+    requires inputs { length core.old.inputs ≡ length machine.now.ports.inputs }
+    requires outputs { length core.old.outputs ≡ length machine.now.ports.outputs }
+    ensures inputs { length core.new.inputs ≡ length core.old.inputs }
+    ensures outputs { length core.new.outputs ≡ length core.old.outputs }
+{
+    let gave = number_at(rt, address, 0o400000);
+    let ran = ran(rt, order.0, order.1);
+    expect_step(rt, machine, core, Report { gave, ..ran });
+}
+
 /// Expects what the steps from 4005 octal on are told to do, where A is 400000.
 fn expect_stores(rt: &impl Abort, machine: &Machine, core: &mut Core)
     requires inputs { length core.old.inputs ≡ length machine.now.ports.inputs }
     requires outputs { length core.old.outputs ≡ length machine.now.ports.outputs }
 {
-    let stored = number_at(rt, 0o0015, 0o400000);
-    expect_step(
-        rt,
-        machine,
-        core,
-        Report {
-            stored,
-            ..ran(rt, 0o4005, 0o110010)
-        },
-    );
-    let stored = number_at(rt, 0o4010, 0o400000);
-    expect_step(
-        rt,
-        machine,
-        core,
-        Report {
-            stored,
-            ..ran(rt, 0o4006, 0o104010)
-        },
-    );
-    let gave = number_at(rt, 0o6200, 0o400000);
-    expect_step(
-        rt,
-        machine,
-        core,
-        Report {
-            gave,
-            ..ran(rt, 0o4007, 0o666200)
-        },
-    );
-    let gave = number_at(rt, 0o6003, 0o400000);
-    expect_step(
-        rt,
-        machine,
-        core,
-        Report {
-            gave,
-            ..ran(rt, 0o4010, 0o666003)
-        },
-    );
-    expect_step(
-        rt,
-        machine,
-        core,
-        Report {
-            ran: false,
-            ..ran(rt, 0o4011, 0)
-        },
-    );
+    expect_store(rt, machine, core, (0o4005, 0o110010), 0o0015);
+    expect_store(rt, machine, core, (0o4006, 0o104010), 0o4010);
+    expect_gift(rt, machine, core, (0o4007, 0o666200), 0o6200);
+    expect_gift(rt, machine, core, (0o4010, 0o666003), 0o6003);
+    let halted = Report {
+        ran: false,
+        ..ran(rt, 0o4011, 0)
+    };
+    expect_step(rt, machine, core, halted);
 }
 
 /// Transfers from registers, a sum that overflows, stores, and transfers to registers, from 4000 octal on.
