@@ -22,7 +22,7 @@ use Rattle.ags_plan.specs.Walk.{Told, Agrees}
 use Rattle.ags_top.specs.declared.files.SourceFile.{SourceFile}
 use Rattle.ags_top.specs.declared.refusal.Refusal.{Refusal}
 use Rattle.ags_top.specs.declared.refusal.Refusal.TheVariants as refusal
-use Rattle.ags_top.specs.Files.{Kind, MachineFile, Source, Listing, Certificate, Assembly, Value}
+use Rattle.ags_top.specs.Files.{Kind, MachineFile, Source, Listing, Certificate, Value}
 use Rattle.ags_top.specs.Program.{program}
 use Rattle.ags_top.specs.Text.{certificate_fault_line, fault_line, listing_fault_line, machine_fault_line}
 use Rattle.ags_top.specs.Work.{Work}
@@ -111,59 +111,26 @@ pub loads_as_before : (told now : Told) (kind : Kind) (name : List ℕ) (result 
     → LoadsFile program told kind name result
 loads_as_before told now kind name result same loads = subst (λ (t : Told). LoadsFile program t kind name result) same loads
 
--- ---- a source, and then a file of another kind
+-- what is left of a plan is loaded from a shelf that tells what it told before as from that
+pub goes_on_as_before : (told now : Told) (plan : Plan program) (result : Result Work (Option (End program))) → now ≡ told → Loads program now plan result → Loads program told plan result
+goes_on_as_before told now plan result same loads = subst (λ (t : Told). Loads program t plan result) same loads
 
-module _ (told now : Told) (machine : Machine) (source name : List ℕ) (kind : Kind) (done : Assembly → Value kind → Work) (assembly : Assembly)
-    (first : LoadsFile program told (Source machine) source (Ok assembly)) (same : now ≡ told) where
+-- ---- a file, and then one of another kind
+
+module _ (told now : Told) (former : Kind) (one : List ℕ) (latter : Kind) (other : List ℕ) (done : Value former → Value latter → Work) (held : Value former)
+    (first : LoadsFile program told former one (Ok held)) (same : now ≡ told) where
   -- both, one behind the other
   abbrev pub both : Plan program
-  both = Read (Source machine) source (λ a. Read kind name (λ value. Do (done a value)))
+  both = Read former one (λ a. Read latter other (λ b. Do (done a b)))
 
   -- the second file is why they aren't loaded
-  pub second_stops : (why : Option (End program)) → LoadsFile program now kind name (Err why) → Loads program told both (Err why)
+  pub second_stops : (why : Option (End program)) → LoadsFile program now latter other (Err why) → Loads program told both (Err why)
   second_stops why loads =
-      loads_on program told (Source machine) source (λ a. Read kind name (λ value. Do (done a value))) assembly (Err why) first
-      (loads_stop program told kind name (λ value. Do (done assembly value)) why (loads_as_before told now kind name (Err why) same loads))
+      loads_on program told former one (λ a. Read latter other (λ b. Do (done a b))) held (Err why) first
+      (loads_stop program told latter other (λ b. Do (done held b)) why (loads_as_before told now latter other (Err why) same loads))
 
   -- both are loaded
-  pub both_load : (value : Value kind) → LoadsFile program now kind name (Ok value) → Loads program told both (Ok (done assembly value))
+  pub both_load : (value : Value latter) → LoadsFile program now latter other (Ok value) → Loads program told both (Ok (done held value))
   both_load value loads =
-      loads_on program told (Source machine) source (λ a. Read kind name (λ v. Do (done a v))) assembly (Ok (done assembly value)) first
-      (loads_on program told kind name (λ v. Do (done assembly v)) value (Ok (done assembly value)) (loads_as_before told now kind name (Ok value) same loads) refl)
-
--- ---- a source, and then files of two more kinds
-
-module _ (told now : Told) (machine : Machine) (source name third : List ℕ) (kind last : Kind) (done : Assembly → Value kind → Value last → Work) (assembly : Assembly)
-    (first : LoadsFile program told (Source machine) source (Ok assembly)) (same : now ≡ told) where
-  -- what is left behind the source
-  abbrev behind : Assembly → Plan program
-  behind a = Read kind name (λ value. Read last third (λ v. Do (done a value v)))
-
-  -- all three, one behind the other
-  abbrev pub all_three : Plan program
-  all_three = Read (Source machine) source behind
-
-  -- the second file is why they aren't loaded
-  pub second_of_three_stops : (why : Option (End program)) → LoadsFile program now kind name (Err why) → Loads program told all_three (Err why)
-  second_of_three_stops why loads =
-      loads_on program told (Source machine) source behind assembly (Err why) first
-      (loads_stop program told kind name (λ value. Read last third (λ v. Do (done assembly value v))) why (loads_as_before told now kind name (Err why) same loads))
-
-  module _ (later : Told) (value : Value kind) (second : LoadsFile program now kind name (Ok value)) (still : later ≡ now) where
-    -- what comes of the third file comes of all three
-    all_by_third : (result : Result Work (Option (End program))) → Loads program told (Read last third (λ v. Do (done assembly value v))) result
-        → Loads program told all_three result
-    all_by_third result loads =
-        loads_on program told (Source machine) source behind assembly result first
-        (loads_on program told kind name (λ v. Read last third (λ w. Do (done assembly v w))) value result (loads_as_before told now kind name (Ok value) same second) loads)
-
-    -- the third file is why they aren't loaded
-    pub third_stops : (why : Option (End program)) → LoadsFile program later last third (Err why) → Loads program told all_three (Err why)
-    third_stops why loads =
-        all_by_third (Err why) (loads_stop program told last third (λ v. Do (done assembly value v)) why (loads_as_before told later last third (Err why) (still ∙ same) loads))
-
-    -- all are loaded
-    pub all_load : (held : Value last) → LoadsFile program later last third (Ok held) → Loads program told all_three (Ok (done assembly value held))
-    all_load held loads =
-        all_by_third (Ok (done assembly value held))
-        (loads_on program told last third (λ v. Do (done assembly value v)) held (Ok (done assembly value held)) (loads_as_before told later last third (Ok held) (still ∙ same) loads) refl)
+      loads_on program told former one (λ a. Read latter other (λ b. Do (done a b))) held (Ok (done held value)) first
+      (loads_on program told latter other (λ b. Do (done held b)) value (Ok (done held value)) (loads_as_before told now latter other (Ok value) same loads) refl)

@@ -1,5 +1,6 @@
 -- The program: its definition, and the plan of each command.
 use Rattle.std.specs.Prelude.{ℕ, List, Option, Some, None}
+use Rattle.ags_image.specs.Image.{PlacedWord}
 use Rattle.ags_plan.specs.Plan.{Definition, Plan, Do, Read}
 use Rattle.ags_ports.specs.declared.machines.Machine.{Machine}
 use Rattle.ags_ports.specs.Machine.{standard_machine}
@@ -24,6 +25,11 @@ program = record {
   cause = cause_of;
 }
 
+-- what is read, in this order, and done for a guarded run, behind its source
+abbrev pub guard_plan : Machine → (script certificate : List ℕ) → (defined : List (Option PlacedWord)) → Plan program
+guard_plan machine script certificate defined =
+    Read (Certificate machine) certificate (λ cert. Read (Script machine) script (λ commands. Do (GuardScript machine defined cert commands)))
+
 -- what a command reads, in this order, and does, on a machine
 abbrev pub command_plan : Machine → Command → Plan program
 command_plan machine (Write text source) = Read (Source machine) source (λ assembly. Do (WriteText text assembly))
@@ -33,9 +39,7 @@ command_plan machine (Certify source certificate) =
     Read (Source machine) source (λ assembly. Read (Certificate machine) certificate (λ cert. Do (JudgeCertificate machine assembly cert)))
 command_plan machine (Run source script) =
     Read (Source machine) source (λ assembly. Read (Script machine) script (λ commands. Do (PlayScript machine assembly.defined commands)))
-command_plan machine (Guard source script certificate) =
-    Read (Source machine) source (λ assembly. Read (Certificate machine) certificate
-    (λ cert. Read (Script machine) script (λ commands. Do (GuardScript machine assembly.defined cert commands))))
+command_plan machine (Guard source script certificate) = Read (Source machine) source (λ assembly. guard_plan machine script certificate assembly.defined)
 
 -- what is read and done on the machine of a file of that name, or on the standard one, where none is named
 abbrev pub plan_on : Option (List ℕ) → (Machine → Plan program) → Plan program

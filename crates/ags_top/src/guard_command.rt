@@ -15,7 +15,7 @@ ghost use Rattle.ags_run.specs.ErrorText.{error_text};
 ghost use Rattle.ags_script.specs.Script.{IsReadFor};
 ghost use Rattle.ags_top.specs.Command as command;
 ghost use Rattle.ags_top.specs.Guarding.{Guards};
-ghost use Rattle.ags_top.specs.Program.{program, command_plan};
+ghost use Rattle.ags_top.specs.Program.{program, command_plan, guard_plan};
 ghost use Rattle.ags_top.specs.Views.{HasImage, IsReady, line_of, status_of, work_of};
 ghost use Rattle.ags_top.specs.Work as work;
 
@@ -36,6 +36,32 @@ use ags_run::{PlayError, play};
 use ags_script::Script;
 use std::alloc::{AllocError, Global};
 
+/// Loads the certificate and the script of these names, in this order, for a source that was read and is to be guarded on a machine.
+fn load_guard<'a, S: Shelf>(
+    alloc: Global,
+    machine: Machine,
+    made: Assembled,
+    script: &'a str,
+    certificate: &'a str,
+    shelf: &mut S,
+) -> Result<Work, Unloaded<'a, Refusal>>
+    requires { HasImage made }
+    ensures loads { Loads program (S.told shelf.old) (guard_plan machine script.entry.now certificate.entry.now (map defined made.cards.items))
+        (result_map_both work_of (end_of program line_of status_of) result) }
+    ensures ready { IfOk result IsReady }
+    ensures faults { HasCause (S.faults shelf.old) (S.faults shelf.new) (is_read_fault result) }
+    ensures absences { HasCause (S.absences shelf.old) (S.absences shelf.new) (is_absence result) }
+{
+    let cert = load_certificate(alloc, &machine, certificate, shelf)?;
+    let script = load_script(alloc, &machine, script, shelf)?;
+    Ok(Work::GuardScript {
+        machine,
+        made,
+        cert,
+        script,
+    })
+}
+
 /// Loads the source, the certificate and the script of these names, in this order, to be guarded on a machine.
 pub(crate) fn load_guarded<'a, S: Shelf>(
     alloc: Global,
@@ -52,14 +78,7 @@ pub(crate) fn load_guarded<'a, S: Shelf>(
     ensures absences { HasCause (S.absences shelf.old) (S.absences shelf.new) (is_absence result) }
 {
     let source = load_source(alloc, &machine, source, shelf)?;
-    let cert = load_certificate(alloc, &machine, certificate, shelf)?;
-    let script = load_script(alloc, &machine, script, shelf)?;
-    Ok(Work::GuardScript {
-        machine,
-        made: source.made,
-        cert,
-        script,
-    })
+    load_guard(alloc, machine, source.made, script, certificate, shelf)
 }
 
 /// The line of what a play met.

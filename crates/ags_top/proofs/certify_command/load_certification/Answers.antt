@@ -19,13 +19,13 @@ returns-in_err-source-clause-loads g c =
 pub returns-in_err-cert-clause-loads : goal.returns-in_err-cert-clause-loads
 returns-in_err-cert-clause-loads g c =
     let p = err_from_is_err_and c.from_residual-in_err-cert.result c.from_residual-in_err-cert.ensures.1 in
-    rw (p.1, p.2) (second_stops (g.S.Shelf.told c.args.shelf.now) (g.S.Shelf.told c.load_source.new.shelf) c.args.machine c.args.source.now c.args.certificate.now (Certificate c.args.machine)
+    rw (p.1, p.2) (second_stops (g.S.Shelf.told c.args.shelf.now) (g.S.Shelf.told c.load_source.new.shelf) (Source c.args.machine) c.args.source.now (Certificate c.args.machine) c.args.certificate.now
     (λ assembly cert. JudgeCertificate c.args.machine assembly cert) (assembly_of c.in_ok-source.source) c.in_ok-source.ensures.loads c.in_ok-source.ensures.same
     (end_of program line_of status_of c.in_err-cert.field-0.0) c.in_err-cert.ensures.loads)
 
 pub returns-clause-loads : goal.returns-clause-loads
 returns-clause-loads g c =
-    both_load (g.S.Shelf.told c.args.shelf.now) (g.S.Shelf.told c.load_source.new.shelf) c.args.machine c.args.source.now c.args.certificate.now (Certificate c.args.machine)
+    both_load (g.S.Shelf.told c.args.shelf.now) (g.S.Shelf.told c.load_source.new.shelf) (Source c.args.machine) c.args.source.now (Certificate c.args.machine) c.args.certificate.now
     (λ assembly cert. JudgeCertificate c.args.machine assembly cert) (assembly_of c.in_ok-source.source) c.in_ok-source.ensures.loads c.in_ok-source.ensures.same
     c.in_ok-cert.cert c.in_ok-cert.ensures.loads
 

@@ -19,13 +19,13 @@ returns-in_err-source-clause-loads g c =
 pub returns-in_err-listed-clause-loads : goal.returns-in_err-listed-clause-loads
 returns-in_err-listed-clause-loads g c =
     let p = err_from_is_err_and c.from_residual-in_err-listed.result c.from_residual-in_err-listed.ensures.1 in
-    rw (p.1, p.2) (second_stops (g.S.Shelf.told c.args.shelf.now) (g.S.Shelf.told c.load_source.new.shelf) c.args.machine.now c.args.source.now c.args.listing.now Listing
+    rw (p.1, p.2) (second_stops (g.S.Shelf.told c.args.shelf.now) (g.S.Shelf.told c.load_source.new.shelf) (Source c.args.machine.now) c.args.source.now Listing c.args.listing.now
     (λ assembly listed. CompareImages assembly.defined listed) (assembly_of c.in_ok-source.source) c.in_ok-source.ensures.loads c.in_ok-source.ensures.same
     (end_of program line_of status_of c.in_err-listed.field-0.0) c.in_err-listed.ensures.loads)
 
 pub returns-clause-loads : goal.returns-clause-loads
 returns-clause-loads g c =
-    both_load (g.S.Shelf.told c.args.shelf.now) (g.S.Shelf.told c.load_source.new.shelf) c.args.machine.now c.args.source.now c.args.listing.now Listing
+    both_load (g.S.Shelf.told c.args.shelf.now) (g.S.Shelf.told c.load_source.new.shelf) (Source c.args.machine.now) c.args.source.now Listing c.args.listing.now
     (λ assembly listed. CompareImages assembly.defined listed) (assembly_of c.in_ok-source.source) c.in_ok-source.ensures.loads c.in_ok-source.ensures.same
     c.in_ok-listed.listed c.in_ok-listed.ensures.loads
 

@@ -1,63 +1,34 @@
 use Rattle.std.proofs.lemmas.Result.{err_from_is_err_and}
-use Rattle.ags_plan.specs.Plan.{Do, Read}
+use Rattle.std.specs.Result.{result_map_both}
 use Rattle.ags_plan.specs.Loading.{end_of}
-use Rattle.ags_plan.proofs.LoadingLemmas.{loads_stop}
-use Rattle.ags_top.specs.Files.{Source, Certificate, Script}
-use Rattle.ags_top.specs.Program.{program}
-use Rattle.ags_top.specs.Views.{assembly_of, line_of, status_of}
-use Rattle.ags_top.specs.Work.{GuardScript}
-use Rattle.ags_top.proofs.FilesLemmas.{all_load, counted_on, second_of_three_stops, third_stops}
+use Rattle.ags_plan.proofs.LoadingLemmas.{loads_on, loads_stop}
+use Rattle.ags_top.specs.Files.{Source}
+use Rattle.ags_top.specs.Program.{guard_plan, program}
+use Rattle.ags_top.specs.Views.{assembly_of, line_of, status_of, work_of}
+use Rattle.ags_top.proofs.FilesLemmas.{counted_on, goes_on_as_before}
 use Rattle.ags_top.proofs.guard_command.load_guarded.Goals as goal
 
 pub returns-in_err-source-clause-loads : goal.returns-in_err-source-clause-loads
 returns-in_err-source-clause-loads g c =
     let p = err_from_is_err_and c.from_residual.result c.from_residual.ensures.1 in
     rw (p.1, p.2) (loads_stop program (g.S.Shelf.told c.args.shelf.now) (Source c.args.machine) c.args.source.now
-    (λ assembly. Read (Certificate c.args.machine) c.args.certificate.now
-    (λ cert. Read (Script c.args.machine) c.args.script.now (λ commands. Do (GuardScript c.args.machine assembly.defined cert commands))))
+    (λ assembly. guard_plan c.args.machine c.args.script.now c.args.certificate.now assembly.defined)
     (end_of program line_of status_of c.in_err-source.field-0.0) c.in_err-source.ensures.loads)
 
-pub returns-in_err-cert-clause-loads : goal.returns-in_err-cert-clause-loads
-returns-in_err-cert-clause-loads g c =
-    let p = err_from_is_err_and c.from_residual-in_err-cert.result c.from_residual-in_err-cert.ensures.1 in
-    rw (p.1, p.2) (second_of_three_stops (g.S.Shelf.told c.args.shelf.now) (g.S.Shelf.told c.load_source.new.shelf) c.args.machine c.args.source.now c.args.certificate.now c.args.script.now
-    (Certificate c.args.machine) (Script c.args.machine) (λ assembly cert commands. GuardScript c.args.machine assembly.defined cert commands) (assembly_of c.in_ok-source.source)
-    c.in_ok-source.ensures.loads c.in_ok-source.ensures.same (end_of program line_of status_of c.in_err-cert.field-0.0) c.in_err-cert.ensures.loads)
-
-pub returns-in_err-script-clause-loads : goal.returns-in_err-script-clause-loads
-returns-in_err-script-clause-loads g c =
-    let p = err_from_is_err_and c.from_residual-in_err-script.result c.from_residual-in_err-script.ensures.1 in
-    rw (p.1, p.2) (third_stops (g.S.Shelf.told c.args.shelf.now) (g.S.Shelf.told c.load_source.new.shelf) c.args.machine c.args.source.now c.args.certificate.now c.args.script.now
-    (Certificate c.args.machine) (Script c.args.machine) (λ assembly cert commands. GuardScript c.args.machine assembly.defined cert commands) (assembly_of c.in_ok-source.source)
-    c.in_ok-source.ensures.loads c.in_ok-source.ensures.same (g.S.Shelf.told c.load_certificate.new.shelf) c.in_ok-cert.cert c.in_ok-cert.ensures.loads c.in_ok-cert.ensures.same
-    (end_of program line_of status_of c.in_err-script.field-0.0) c.in_err-script.ensures.loads)
+pub load_guard-requires : goal.load_guard-requires
+load_guard-requires g c = c.in_ok-source.ensures.ready.image
 
 pub returns-clause-loads : goal.returns-clause-loads
 returns-clause-loads g c =
-    all_load (g.S.Shelf.told c.args.shelf.now) (g.S.Shelf.told c.load_source.new.shelf) c.args.machine c.args.source.now c.args.certificate.now c.args.script.now
-    (Certificate c.args.machine) (Script c.args.machine) (λ assembly cert commands. GuardScript c.args.machine assembly.defined cert commands) (assembly_of c.in_ok-source.source)
-    c.in_ok-source.ensures.loads c.in_ok-source.ensures.same (g.S.Shelf.told c.load_certificate.new.shelf) c.in_ok-cert.cert c.in_ok-cert.ensures.loads c.in_ok-cert.ensures.same
-    c.in_ok-script.script c.in_ok-script.ensures.loads
+    let assembly = assembly_of c.in_ok-source.source in
+    let result = result_map_both work_of (end_of program line_of status_of) c.load_guard.result in
+    loads_on program (g.S.Shelf.told c.args.shelf.now) (Source c.args.machine) c.args.source.now
+    (λ a. guard_plan c.args.machine c.args.script.now c.args.certificate.now a.defined) assembly result c.in_ok-source.ensures.loads
+    (goes_on_as_before (g.S.Shelf.told c.args.shelf.now) (g.S.Shelf.told c.load_source.new.shelf) (guard_plan c.args.machine c.args.script.now c.args.certificate.now assembly.defined)
+    result c.in_ok-source.ensures.same c.load_guard.ensures.loads)
 
-pub returns-clause-ready : goal.returns-clause-ready
-returns-clause-ready g c = (c.in_ok-source.ensures.ready.image, c.in_ok-script.ensures.ready)
+pub returns-clause-faults : goal.returns-clause-faults
+returns-clause-faults g c = counted_on _ _ _ _ c.in_ok-source.ensures.faults c.load_guard.ensures.faults
 
-pub returns-in_err-script-clause-faults : goal.returns-in_err-script-clause-faults
-returns-in_err-script-clause-faults g c =
-    let p = err_from_is_err_and c.from_residual-in_err-script.result c.from_residual-in_err-script.ensures.1 in
-    counted_on _ _ _ _ (counted_on _ _ _ _ c.in_ok-source.ensures.faults c.in_ok-cert.ensures.faults) (rw (p.1, p.2) c.in_err-script.ensures.faults)
-
-pub returns-in_err-script-clause-absences : goal.returns-in_err-script-clause-absences
-returns-in_err-script-clause-absences g c =
-    let p = err_from_is_err_and c.from_residual-in_err-script.result c.from_residual-in_err-script.ensures.1 in
-    counted_on _ _ _ _ (counted_on _ _ _ _ c.in_ok-source.ensures.absences c.in_ok-cert.ensures.absences) (rw (p.1, p.2) c.in_err-script.ensures.absences)
-
-pub returns-in_err-cert-clause-faults : goal.returns-in_err-cert-clause-faults
-returns-in_err-cert-clause-faults g c =
-    let p = err_from_is_err_and c.from_residual-in_err-cert.result c.from_residual-in_err-cert.ensures.1 in
-    counted_on _ _ _ _ c.in_ok-source.ensures.faults (rw (p.1, p.2) c.in_err-cert.ensures.faults)
-
-pub returns-in_err-cert-clause-absences : goal.returns-in_err-cert-clause-absences
-returns-in_err-cert-clause-absences g c =
-    let p = err_from_is_err_and c.from_residual-in_err-cert.result c.from_residual-in_err-cert.ensures.1 in
-    counted_on _ _ _ _ c.in_ok-source.ensures.absences (rw (p.1, p.2) c.in_err-cert.ensures.absences)
+pub returns-clause-absences : goal.returns-clause-absences
+returns-clause-absences g c = counted_on _ _ _ _ c.in_ok-source.ensures.absences c.load_guard.ensures.absences

@@ -19,13 +19,13 @@ returns-in_err-source-clause-loads g c =
 pub returns-in_err-script-clause-loads : goal.returns-in_err-script-clause-loads
 returns-in_err-script-clause-loads g c =
     let p = err_from_is_err_and c.from_residual-in_err-script.result c.from_residual-in_err-script.ensures.1 in
-    rw (p.1, p.2) (second_stops (g.S.Shelf.told c.args.shelf.now) (g.S.Shelf.told c.load_source.new.shelf) c.args.machine c.args.source.now c.args.script.now (Script c.args.machine)
+    rw (p.1, p.2) (second_stops (g.S.Shelf.told c.args.shelf.now) (g.S.Shelf.told c.load_source.new.shelf) (Source c.args.machine) c.args.source.now (Script c.args.machine) c.args.script.now
     (λ assembly commands. PlayScript c.args.machine assembly.defined commands) (assembly_of c.in_ok-source.source) c.in_ok-source.ensures.loads c.in_ok-source.ensures.same
     (end_of program line_of status_of c.in_err-script.field-0.0) c.in_err-script.ensures.loads)
 
 pub returns-clause-loads : goal.returns-clause-loads
 returns-clause-loads g c =
-    both_load (g.S.Shelf.told c.args.shelf.now) (g.S.Shelf.told c.load_source.new.shelf) c.args.machine c.args.source.now c.args.script.now (Script c.args.machine)
+    both_load (g.S.Shelf.told c.args.shelf.now) (g.S.Shelf.told c.load_source.new.shelf) (Source c.args.machine) c.args.source.now (Script c.args.machine) c.args.script.now
     (λ assembly commands. PlayScript c.args.machine assembly.defined commands) (assembly_of c.in_ok-source.source) c.in_ok-source.ensures.loads c.in_ok-source.ensures.same
     c.in_ok-script.script c.in_ok-script.ensures.loads
 
