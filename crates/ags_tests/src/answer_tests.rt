@@ -2,10 +2,11 @@
 //! docs/SCRIPT.md.
 
 use crate::command_lines::arguments_of;
+use ags_command::arguments_ask_for_one_command;
 use ags_outside::{SteadyShelf, SteadySink};
 use ags_top::{
-    Status, ags_main, arguments_ask_for_one_command, arguments_have_one_answer,
-    certified_lines_begin_with_certified, each_command_has_an_answer,
+    Status, ags_main, arguments_have_one_answer, certified_lines_begin_with_certified,
+    each_command_has_an_answer,
 };
 use std::process::Abort;
 use std::test::Fail;

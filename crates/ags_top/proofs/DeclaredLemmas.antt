@@ -1,5 +1,6 @@
 -- What is played under a certificate that is certified is a run of it.
 use Rattle.std.proofs.Common.{◌≡◌, ℕ, List, ◌++◌, Option, Some, sym, ap, subst, ◌∙◌, ◌⊎◌, inl, inr}
+use Rattle.ags_command.specs.Command.{Guard}
 use Rattle.ags_outside.specs.ToldFile.{Stored}
 use Rattle.ags_plan.specs.Walk.{Told, Agrees, LeadsTo}
 use Rattle.ags_plan.proofs.WalkLemmas.{told_bytes}
@@ -25,7 +26,6 @@ use Rattle.ags_verdict.specs.declared.verdicts.Verdict.{Verdict}
 use Rattle.ags_verdict.specs.declared.verdicts.Verdict.TheVariants.{Certified, Refused}
 use Rattle.ags_verdict.proofs.VerdictLemmas.{accepted_of, counted_of}
 use Rattle.ags_top.specs.declared.status.Status.{Status}
-use Rattle.ags_top.specs.Command.{Guard}
 use Rattle.ags_top.specs.Outcome.{IsGuardedOn, IsRefusedFor, IsDeclaredPlay, IsDeclaredOn}
 use Rattle.ags_top.specs.Program.{program, command_plan}
 use Rattle.ags_top.specs.Text.{met_line, verdict_line}

@@ -1,6 +1,5 @@
 pub mod CertifiedLineLemmas
 pub mod CertifyLemmas
-pub mod CommandLemmas
 pub mod CompareLemmas
 pub mod DeclaredLemmas
 pub mod FilesLemmas

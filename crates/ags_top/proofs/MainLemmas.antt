@@ -1,5 +1,8 @@
 -- What `ags_main` says, from its content: command by command and status by status.
 use Rattle.std.proofs.Common.{◌≡◌, ℕ, ◌≤◌, List, ◌++◌, length, ◌⊎◌, Option, Some, None, Ok, refl, sym, ap, subst, ◌∙◌, inl, inr}
+use Rattle.ags_command.specs.declared.source_texts.SourceText.{SourceText}
+use Rattle.ags_command.specs.Command.{Command, Write, Compare, Certify, Run, Guard, CommandLine, line_arguments, line_of, AreNoForm}
+use Rattle.ags_command.proofs.CommandLemmas.{line_of-line_arguments, line_arguments-line_of}
 use Rattle.ags_outside.specs.ToldFile.{Stored}
 use Rattle.ags_outside.specs.Sink.{appended}
 use Rattle.ags_plan.specs.Plan.{Plan, End, AbsentAt, LongAt, RefusedAt, WorkAt}
@@ -41,15 +44,12 @@ use Rattle.ags_play.specs.Played.{Met, Nothing}
 use Rattle.ags_top.proofs.DeclaredLemmas.{guarded_told, declared_of}
 use Rattle.ags_top.specs.declared.status.Status.{Status}
 use Rattle.ags_top.specs.declared.status.Status.TheVariants.{Done, No, BadMachine, BadSource, BadWords, BadCert, BadText}
-use Rattle.ags_top.specs.declared.source_texts.SourceText.{SourceText}
-use Rattle.ags_top.specs.Command.{Command, Write, Compare, Certify, Run, Guard, CommandLine, line_arguments, line_of, AreNoForm}
 use Rattle.ags_top.specs.Files.{Kind, MachineFile, Source, Listing, Certificate, Script, limit_of, Refuses, refused_status}
 use Rattle.ags_top.specs.Outcome.{EndsWith, IsMachineOf, WritesWhatIsDefined, IsComparedOn, ComparesWhatIsDefined, IsJudgedOn, JudgesWhatIsDefined, IsCertifiedOn, CertifiesWhatIsSafe, TellsMachine, TellsAccepted, CertifiesAccepted, BadCertExactly, IsOneImage, EqualsWhatIsDefined, IsShownOn, PlaysWhatIsDefined, IsGuardedOn, GuardsWhatIsDefined, IsDeclaredOn, PlaysWhatIsDeclared, DoneAlways, NoExactly, BadWordsExactly, FindsFault, BadMachineExactly, BadSourceExactly, BadTextExactly}
 use Rattle.ags_top.specs.Program.{program, command_plan, plan_on, asked_plan, plan_of}
 use Rattle.ags_top.specs.ProgramLaws.{IsWorkStatus, comes_to_no_form, lawful_program, not_refused_work}
 use Rattle.ags_top.specs.Text.{words_line, certificate_fault_line, fault_line, listing_fault_line, machine_fault_line, script_fault_line, verdict_line}
 use Rattle.ags_top.specs.Work.{Work, NoForm, WriteText, CompareImages, JudgeCertificate, PlayScript, GuardScript, IsTextOf, IsJudgementOf, IsPlayedBy, compared_status, met_status, verdict_status, Makes}
-use Rattle.ags_top.proofs.CommandLemmas.{line_of-line_arguments, line_arguments-line_of}
 
 -- ---- a run that ends with the status of a work came to a work
 

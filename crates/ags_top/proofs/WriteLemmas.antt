@@ -1,5 +1,7 @@
 -- What is said of a text of a source.
 use Rattle.std.proofs.Common.{◌≡◌, ℕ, List, Option, map, refl}
+use Rattle.ags_command.specs.declared.source_texts.SourceText.{SourceText}
+use Rattle.ags_command.specs.declared.source_texts.SourceText.TheVariants.{Tape, CrossReference}
 use Rattle.ags_outside.specs.Sink.{appended, WroteFront}
 use Rattle.ags_plan.specs.Plan.{WorkAt}
 use Rattle.ags_plan.specs.Saying.{SaidWhole, SaidInPart}
@@ -8,8 +10,6 @@ use Rattle.ags_listing.specs.Listing.{listing}
 use Rattle.ags_tape.specs.Tape.{tape_text}
 use Rattle.ags_xref.specs.Xref.{xref_text}
 use Rattle.ags_top.specs.declared.files.SourceFile.{SourceFile}
-use Rattle.ags_top.specs.declared.source_texts.SourceText.{SourceText}
-use Rattle.ags_top.specs.declared.source_texts.SourceText.TheVariants.{Tape, CrossReference}
 use Rattle.ags_top.specs.declared.status.Status.TheVariants.{Done}
 use Rattle.ags_top.specs.Program.{program}
 use Rattle.ags_top.specs.Views.{IsReadSource, assembly_of}

@@ -1,5 +1,4 @@
 -- what the public contracts cite
-pub mod Command
 pub mod Files
 pub mod Listed
 pub mod Outcome

@@ -1,5 +1,8 @@
 -- What `ags_main` comes to, command by command and status by status, in the program's own words.
 use Rattle.std.specs.Prelude.{◌≡◌, ℕ, ◌≤◌, ◌⊎◌, List, [], ◌++◌, length, Option, Some, None, Ok, Err}
+use Rattle.ags_command.specs.declared.source_texts.SourceText.{SourceText}
+use Rattle.ags_command.specs.Command as command
+use Rattle.ags_command.specs.Command.{line_arguments, AreNoForm}
 use Rattle.ags_outside.specs.ToldFile.{Stored}
 use Rattle.ags_outside.specs.Sink.{appended, WroteFront}
 use Rattle.ags_plan.specs.Plan.{WorkAt}
@@ -39,9 +42,6 @@ use Rattle.ags_play.specs.Guard.{Outside}
 use Rattle.ags_play.specs.Played.{Met, OutsideStart, IsPlayOf}
 use Rattle.ags_top.specs.declared.status.Status.{Status}
 use Rattle.ags_top.specs.declared.status.Status.TheVariants.{Done, No, BadMachine, BadSource, BadWords, BadCert, BadText}
-use Rattle.ags_top.specs.declared.source_texts.SourceText.{SourceText}
-use Rattle.ags_top.specs.Command as command
-use Rattle.ags_top.specs.Command.{line_arguments, AreNoForm}
 use Rattle.ags_top.specs.Files.{Kind, MachineFile, Source, Listing, Certificate, Script, limit_of, Refuses}
 use Rattle.ags_top.specs.Program.{program, plan_of}
 use Rattle.ags_top.specs.Text.{certified_word, met_line, verdict_line, words_line}

@@ -1,11 +1,11 @@
 -- The program: its definition, and the plan of each command.
 use Rattle.std.specs.Prelude.{ℕ, List, Option, Some, None}
+use Rattle.ags_command.specs.Command.{Command, Write, Compare, Certify, Run, Guard, CommandLine, line_of}
 use Rattle.ags_image.specs.Image.{PlacedWord}
 use Rattle.ags_plan.specs.Plan.{Definition, Plan, Do, Read}
 use Rattle.ags_ports.specs.declared.machines.Machine.{Machine}
 use Rattle.ags_ports.specs.Machine.{standard_machine}
 use Rattle.ags_top.specs.declared.status.Status.{Status}
-use Rattle.ags_top.specs.Command.{Command, Write, Compare, Certify, Run, Guard, CommandLine, line_of}
 use Rattle.ags_top.specs.Files.{Kind, MachineFile, Source, Listing, Certificate, Script, Value, limit_of, Holds, Refuses, refused_status}
 use Rattle.ags_top.specs.Status.{cause_of, stop_status}
 use Rattle.ags_top.specs.Work.{Work, NoForm, WriteText, CompareImages, JudgeCertificate, PlayScript, GuardScript, Makes}

@@ -1,6 +1,9 @@
 -- That the program's definition is lawful: its files mean one thing each, and its works make one text each.
 use Rattle.std.specs.Prelude.{◌≡◌, ◌≢◌, ◌⊎◌, ℕ, ◌++◌, List, Option, Some, None, Result, Ok, Err}
 use Rattle.std.proofs.Common.{refl, sym, ap, subst, ◌∙◌, inl, inr}
+use Rattle.ags_command.specs.declared.source_texts.SourceText.{SourceText}
+use Rattle.ags_command.specs.declared.source_texts.SourceText.TheVariants as what
+use Rattle.ags_command.specs.Command.{Command, Write, Compare, Certify, Run, Guard, CommandLine, line_of}
 use Rattle.ags_plan.specs.declared.causes.Cause.TheVariants as cause
 use Rattle.ags_plan.specs.Plan.{WorkAt}
 use Rattle.ags_plan.specs.Walk.{Told, Agrees, EndsAt, LeadsTo}
@@ -52,9 +55,6 @@ use Rattle.ags_script.proofs.ScriptLemmas as script
 use Rattle.ags_play.specs.Played.{Met, Nothing}
 use Rattle.ags_top.specs.declared.status.Status.{Status}
 use Rattle.ags_top.specs.declared.status.Status.TheVariants.{Done, No, BadWords, LongFile}
-use Rattle.ags_top.specs.declared.source_texts.SourceText.{SourceText}
-use Rattle.ags_top.specs.declared.source_texts.SourceText.TheVariants as what
-use Rattle.ags_top.specs.Command.{Command, Write, Compare, Certify, Run, Guard, CommandLine, line_of}
 use Rattle.ags_top.specs.Files.{Kind, MachineFile, Source, Listing, Certificate, Script, Assembly, Value, HoldsSource, Holds, Refuses, refused_status}
 use Rattle.ags_top.specs.PlayLaws.{some_shown, one_shown, some_guarded, one_guarded}
 use Rattle.ags_top.specs.Program.{program, command_plan, plan_on, asked_plan, plan_of}

@@ -1,5 +1,5 @@
 -- What clauses see of the program's own values.
-use Rattle.std.specs.Prelude.{◌≡◌, ℕ, List, map, option_map, Err}
+use Rattle.std.specs.Prelude.{◌≡◌, ℕ, List, map, Err}
 use Rattle.ags_asm.specs.declared.assembling.Assembled.{Assembled}
 use Rattle.ags_asm.specs.Source.{Defines, IsAssembled, IsFaulty, defined, placed_words}
 use Rattle.ags_image.specs.Image.{IsImageOf}
@@ -13,9 +13,6 @@ use Rattle.ags_machfile.specs.MachineFile.{machine_of}
 use Rattle.ags_plan.specs.declared.unloaded.Unloaded.{Unloaded}
 use Rattle.ags_plan.specs.declared.unloaded.Unloaded.TheVariants.{Refused, NoMemory}
 use Rattle.ags_script.specs.Script.{IsReadFor}
-use Rattle.ags_top.specs.declared.command.Command.{Command}
-use Rattle.ags_top.specs.declared.command.Command.TheVariants as named
-use Rattle.ags_top.specs.declared.command.CommandLine.{CommandLine}
 use Rattle.ags_top.specs.declared.files.SourceFile.{SourceFile}
 use Rattle.ags_top.specs.declared.refusal.Refusal.{Refusal}
 use Rattle.ags_top.specs.declared.refusal.Refusal.TheVariants as refusal
@@ -23,22 +20,9 @@ use Rattle.ags_top.specs.declared.status.Status.{Status}
 use Rattle.ags_top.specs.declared.status.Status.TheVariants.{BadMachine, BadSource, BadCert, BadText}
 use Rattle.ags_top.specs.declared.works.Work.{Work}
 use Rattle.ags_top.specs.declared.works.Work.TheVariants as loaded
-use Rattle.ags_top.specs.Command as asked
 use Rattle.ags_top.specs.Files.{Assembly}
 use Rattle.ags_top.specs.Text.{certificate_fault_line, fault_line, listing_fault_line, machine_fault_line, script_fault_line}
 use Rattle.ags_top.specs.Work as work
-
--- a command without where its names lie in memory
-abbrev pub command_view : Command → asked.Command
-command_view (named.Write text source) = asked.Write text source.now
-command_view (named.Compare source listing) = asked.Compare source.now listing.now
-command_view (named.Certify source certificate) = asked.Certify source.now certificate.now
-command_view (named.Run source script) = asked.Run source.now script.now
-command_view (named.Guard source script certificate) = asked.Guard source.now script.now certificate.now
-
--- and a command line
-abbrev pub line_view : CommandLine → asked.CommandLine
-line_view line = record { command = command_view line.command; machine = option_map (λ name. name.now) line.machine }
 
 -- a source that was read, as its bytes and what its cards define
 abbrev pub assembly_of : SourceFile → Assembly

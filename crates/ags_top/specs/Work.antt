@@ -2,6 +2,8 @@
 use Rattle.std.specs.Prelude.{◌≡◌, ℕ, List, ◌++◌, Option, Some, None}
 use Rattle.ags_asm.specs.Source.{placed_words}
 use Rattle.ags_cert.specs.Cert.{Stated, certificate_of}
+use Rattle.ags_command.specs.declared.source_texts.SourceText.{SourceText}
+use Rattle.ags_command.specs.declared.source_texts.SourceText.TheVariants.{Listing, Tape, CrossReference}
 use Rattle.ags_compare.specs.declared.comparing.Compared.{Compared}
 use Rattle.ags_compare.specs.declared.comparing.Compared.TheVariants.{Equal, Differs}
 use Rattle.ags_compare.specs.Comparison.{IsComparison}
@@ -25,8 +27,6 @@ use Rattle.ags_play.specs.Bench.{begun_state}
 use Rattle.ags_play.specs.Played.{Met, Nothing, IsPlayOf}
 use Rattle.ags_top.specs.declared.status.Status.{Status}
 use Rattle.ags_top.specs.declared.status.Status.TheVariants.{Done, No, BadWords}
-use Rattle.ags_top.specs.declared.source_texts.SourceText.{SourceText}
-use Rattle.ags_top.specs.declared.source_texts.SourceText.TheVariants.{Listing, Tape, CrossReference}
 use Rattle.ags_top.specs.Files.{Assembly}
 use Rattle.ags_top.specs.Text.{compared_line, met_line, verdict_line, words_line}
 

@@ -1,9 +1,8 @@
 //! Laws of answers: what command lines and files come to.
 
-ghost use Rattle.std.specs.Prelude.{◌≡◌, ◌++◌, ℕ, List, Some};
+ghost use Rattle.std.specs.Prelude.{◌≡◌, ◌++◌, ℕ, List};
 ghost use Rattle.ags_plan.specs.Answer.{IsAnswer, TellsFiles};
 ghost use Rattle.ags_plan.specs.Walk.{Told};
-ghost use Rattle.ags_top.specs.Command.{CommandLine, line_arguments, line_of};
 ghost use Rattle.ags_top.specs.Program.{plan_of, program};
 ghost use Rattle.ags_top.specs.Text.{certified_word, verdict_line};
 ghost use Rattle.ags_verdict.specs.declared.verdicts.Verdict.TheVariants.{Certified};
@@ -28,12 +27,6 @@ pub fn arguments_have_one_answer()
 {
     command_lines_have_one_answer::<Ags>();
 }
-
-/// A command line's arguments ask for it, and no others do.
-pub fn arguments_ask_for_one_command()
-    ensures form { (line : CommandLine) → line_of (line_arguments line) ≡ Some line }
-    ensures only { (arguments : List (List ℕ)) (line : CommandLine) → line_of arguments ≡ Some line → arguments ≡ line_arguments line }
-{}
 
 /// The line of a certificate that is certified begins with the word of which `certified_line` of `ags_main` speaks.
 pub fn certified_lines_begin_with_certified()

@@ -3,13 +3,13 @@
 ghost use Rattle.std.specs.Prelude.{◌≡◌, ◌<◌, IfOk, map};
 ghost use Rattle.std.specs.Result.{result_map_both};
 ghost use Rattle.ags_asm.specs.Source.{defined};
+ghost use Rattle.ags_command.specs.Command as command;
 ghost use Rattle.ags_compare.specs.declared.comparing.Compared.{Compared};
 ghost use Rattle.ags_outside.specs.Count.{HasCause};
 ghost use Rattle.ags_outside.specs.Send.{is_write_fault};
 ghost use Rattle.ags_plan.specs.Loading.{Loads, end_of, is_absence, is_read_fault};
 ghost use Rattle.ags_plan.specs.Plan.{WorkAt};
 ghost use Rattle.ags_plan.specs.Saying.{Says};
-ghost use Rattle.ags_top.specs.Command as command;
 ghost use Rattle.ags_top.specs.Program.{program, command_plan};
 ghost use Rattle.ags_top.specs.Text.{compared_line, word_column};
 ghost use Rattle.ags_top.specs.Views.{HasImage, IsReady, line_of, status_of, work_of};

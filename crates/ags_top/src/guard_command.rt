@@ -5,6 +5,7 @@ ghost use Rattle.std.specs.Prelude.{◌≡◌, ◌++◌, IfOk, OnOk, OnErr, code
 ghost use Rattle.std.specs.Result.{result_map_both};
 ghost use Rattle.std.specs.String.{string_bytes};
 ghost use Rattle.ags_asm.specs.Source.{defined};
+ghost use Rattle.ags_command.specs.Command as command;
 ghost use Rattle.ags_outside.specs.Count.{HasCause};
 ghost use Rattle.ags_outside.specs.Send.{is_write_fault};
 ghost use Rattle.ags_outside.specs.Sink.{WroteFront, appended};
@@ -13,7 +14,6 @@ ghost use Rattle.ags_plan.specs.Plan.{WorkAt};
 ghost use Rattle.ags_plan.specs.Saying.{Says};
 ghost use Rattle.ags_run.specs.ErrorText.{error_text};
 ghost use Rattle.ags_script.specs.Script.{IsReadFor};
-ghost use Rattle.ags_top.specs.Command as command;
 ghost use Rattle.ags_top.specs.Guarding.{Guards};
 ghost use Rattle.ags_top.specs.Program.{program, command_plan, guard_plan};
 ghost use Rattle.ags_top.specs.Views.{HasImage, IsReady, line_of, status_of, work_of};

@@ -9,8 +9,8 @@ ghost use Rattle.ags_top.specs.Outcome.{BadCertExactly, BadMachineExactly, BadSo
 ghost use Rattle.ags_top.specs.Program.{plan_of, program};
 
 use crate::program::Ags;
-use crate::source_texts::SourceText;
 use crate::status::Status;
+use ags_command::SourceText;
 use ags_outside::{Shelf, Sink};
 use std::alloc::Global;
 

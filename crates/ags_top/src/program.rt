@@ -2,6 +2,7 @@
 
 ghost use Rattle.std.specs.Prelude.{IfOk, Some};
 ghost use Rattle.std.specs.Result.{result_map_both};
+ghost use Rattle.ags_command.specs.Views.{command_view, line_view};
 ghost use Rattle.ags_outside.specs.Count.{HasCause};
 ghost use Rattle.ags_outside.specs.Send.{is_write_fault};
 ghost use Rattle.ags_plan.specs.Loading.{Loads, end_of, is_absence, is_read_fault};
@@ -13,7 +14,6 @@ ghost use Rattle.ags_top.specs.Views as views;
 ghost use Rattle.ags_top.specs.Work as work;
 
 use crate::certify_command::{judge_certificate, load_certification};
-use crate::command::{Command, CommandLine, read_line};
 use crate::compare_command::{compare_images, load_comparison};
 use crate::files::load_machine;
 use crate::guard_command::{guard_script, load_guarded};
@@ -22,6 +22,7 @@ use crate::run_command::{load_play, play_script};
 use crate::status::Status;
 use crate::works::Work;
 use crate::write_command::{load_text, write_text};
+use ags_command::{Command, CommandLine, read_line};
 use ags_outside::{SendError, Shelf, Sink, send};
 use ags_plan::{Program, Stop, Unloaded};
 use ags_ports::Machine;
@@ -46,7 +47,7 @@ fn load_command<'a, S: Shelf>(
     command: Command<'a>,
     shelf: &mut S,
 ) -> Result<Work, Unloaded<'a, Refusal>>
-    ensures loads { Loads definition.program (S.told shelf.old) (definition.command_plan machine (views.command_view command.entry))
+    ensures loads { Loads definition.program (S.told shelf.old) (definition.command_plan machine (command_view command.entry))
         (result_map_both views.work_of (end_of definition.program views.line_of views.status_of) result) }
     ensures ready { IfOk result views.IsReady }
     ensures faults { HasCause (S.faults shelf.old) (S.faults shelf.new) (is_read_fault result) }
@@ -77,7 +78,7 @@ fn load_on<'a, S: Shelf>(
     command: Command<'a>,
     shelf: &mut S,
 ) -> Result<Work, Unloaded<'a, Refusal>>
-    ensures loads { Loads definition.program (S.told shelf.old) (definition.plan_on (Some name.entry.now) (λ machine. definition.command_plan machine (views.command_view command.entry)))
+    ensures loads { Loads definition.program (S.told shelf.old) (definition.plan_on (Some name.entry.now) (λ machine. definition.command_plan machine (command_view command.entry)))
         (result_map_both views.work_of (end_of definition.program views.line_of views.status_of) result) }
     ensures ready { IfOk result views.IsReady }
     ensures faults { HasCause (S.faults shelf.old) (S.faults shelf.new) (is_read_fault result) }
@@ -93,7 +94,7 @@ fn load_line<'a, S: Shelf>(
     line: CommandLine<'a>,
     shelf: &mut S,
 ) -> Result<Work, Unloaded<'a, Refusal>>
-    ensures loads { Loads definition.program (S.told shelf.old) (definition.asked_plan (Some (views.line_view line.entry)))
+    ensures loads { Loads definition.program (S.told shelf.old) (definition.asked_plan (Some (line_view line.entry)))
         (result_map_both views.work_of (end_of definition.program views.line_of views.status_of) result) }
     ensures ready { IfOk result views.IsReady }
     ensures faults { HasCause (S.faults shelf.old) (S.faults shelf.new) (is_read_fault result) }

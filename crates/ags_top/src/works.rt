@@ -1,9 +1,9 @@
 //! What is loaded for a command line, and then done.
 
 use crate::files::SourceFile;
-use crate::source_texts::SourceText;
 use ags_asm::Assembled;
 use ags_cert::Cert;
+use ags_command::SourceText;
 use ags_image::Image;
 use ags_ports::Machine;
 use ags_script::Script;

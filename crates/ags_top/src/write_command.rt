@@ -2,21 +2,21 @@
 
 ghost use Rattle.std.specs.Prelude.{IfOk};
 ghost use Rattle.std.specs.Result.{result_map_both};
+ghost use Rattle.ags_command.specs.Command as command;
 ghost use Rattle.ags_outside.specs.Count.{HasCause};
 ghost use Rattle.ags_outside.specs.Send.{is_write_fault};
 ghost use Rattle.ags_plan.specs.Loading.{Loads, end_of, is_absence, is_read_fault};
 ghost use Rattle.ags_plan.specs.Plan.{WorkAt};
 ghost use Rattle.ags_plan.specs.Saying.{Says};
-ghost use Rattle.ags_top.specs.Command as command;
 ghost use Rattle.ags_top.specs.Program.{program, command_plan};
 ghost use Rattle.ags_top.specs.Views.{IsReadSource, IsReady, assembly_of, line_of, status_of, work_of};
 ghost use Rattle.ags_top.specs.Work as work;
 
 use crate::files::{SourceFile, load_source};
 use crate::refusal::Refusal;
-use crate::source_texts::SourceText;
 use crate::status::Status;
 use crate::works::Work;
+use ags_command::SourceText;
 use ags_listing::send_listing;
 use ags_outside::{SendError, Shelf, Sink};
 use ags_plan::Unloaded;

@@ -1,7 +1,7 @@
 use Rattle.std.proofs.Common.{map}
 use Rattle.std.specs.String.{string_bytes}
+use Rattle.ags_command.specs.declared.source_texts.SourceText.TheVariants.{Listing, Tape, CrossReference}
 use Rattle.ags_plan.proofs.StatusLemmas.{absent_exactly, long_exactly, ends_exactly}
-use Rattle.ags_top.specs.declared.source_texts.SourceText.TheVariants.{Listing, Tape, CrossReference}
 use Rattle.ags_top.specs.Program.{plan_of, program}
 use Rattle.ags_top.specs.ProgramLaws.{lawful_program}
 use Rattle.ags_top.proofs.CertifiedLineLemmas.{safe_where_certified_is_written}

@@ -1,12 +1,13 @@
 use Rattle.std.specs.Result.{result_map_both}
 use Rattle.std.proofs.Common.{subst}
 use Rattle.std.proofs.lemmas.Result.{err_from_is_err_and}
+use Rattle.ags_command.specs.Views.{command_view}
 use Rattle.ags_plan.specs.Loading.{Loads, end_of}
 use Rattle.ags_plan.specs.Walk.{Told}
 use Rattle.ags_plan.proofs.LoadingLemmas.{loads_on, loads_stop}
 use Rattle.ags_top.specs.Files.{MachineFile}
 use Rattle.ags_top.specs.Program.{command_plan, program}
-use Rattle.ags_top.specs.Views.{command_view, line_of, status_of, work_of}
+use Rattle.ags_top.specs.Views.{line_of, status_of, work_of}
 use Rattle.ags_top.proofs.program.load_on.Goals as goal
 
 pub returns-in_err-machine-clause-loads : goal.returns-in_err-machine-clause-loads

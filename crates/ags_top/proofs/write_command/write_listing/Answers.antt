@@ -1,6 +1,6 @@
 use Rattle.std.proofs.Common.{inl, refl}
 use Rattle.std.proofs.lemmas.Result.{err_from_is_err_and}
-use Rattle.ags_top.specs.declared.source_texts.SourceText.TheVariants.{Listing}
+use Rattle.ags_command.specs.declared.source_texts.SourceText.TheVariants.{Listing}
 use Rattle.ags_top.proofs.WriteLemmas.{listing_of, text_said, text_said_in_part}
 use Rattle.ags_top.proofs.write_command.write_listing.Goals as goal
 

@@ -1,5 +1,5 @@
-use Rattle.ags_top.proofs.CommandLemmas.{line_of-line_arguments, line_arguments-line_of}
-use Rattle.ags_top.proofs.answer_laws.arguments_ask_for_one_command.Goals as goal
+use Rattle.ags_command.proofs.CommandLemmas.{line_of-line_arguments, line_arguments-line_of}
+use Rattle.ags_command.proofs.laws.arguments_ask_for_one_command.Goals as goal
 
 pub returns-clause-form : goal.returns-clause-form
 returns-clause-form c = line_of-line_arguments

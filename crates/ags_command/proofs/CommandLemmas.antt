@@ -5,9 +5,9 @@ use Rattle.std.proofs.Common.{◌≡◌, ℕ, Bool, true, false, List, [], ◌�
 use Rattle.std.specs.Prelude.{if◌then◌else◌}
 use Rattle.std.specs.Str.{bytes_eq}
 use Rattle.std.proofs.lemmas.Slice.Eq.{bytes_eq-Decides}
-use Rattle.ags_top.specs.declared.source_texts.SourceText.{SourceText}
-use Rattle.ags_top.specs.declared.source_texts.SourceText.TheVariants.{Listing, Tape, CrossReference}
-use Rattle.ags_top.specs.Command.{Command, Write, Compare, Certify, Run, Guard, CommandLine, verb_of, arguments_of, machine_argument, line_arguments, line_with, one_name, two_names, three_names, Form, form_of, forms, line_named, line_of}
+use Rattle.ags_command.specs.declared.source_texts.SourceText.{SourceText}
+use Rattle.ags_command.specs.declared.source_texts.SourceText.TheVariants.{Listing, Tape, CrossReference}
+use Rattle.ags_command.specs.Command.{Command, Write, Compare, Certify, Run, Guard, CommandLine, verb_of, arguments_of, machine_argument, line_arguments, line_with, one_name, two_names, three_names, Form, form_of, forms, line_named, line_of}
 
 -- what stands behind a command's names is read back
 line_with-machine_argument : (command : Command) (machine : Option (List ℕ)) → line_with command (machine_argument machine) ≡ Some (record { command = command; machine = machine })

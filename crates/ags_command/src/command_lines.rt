@@ -3,14 +3,14 @@
 ghost use Rattle.std.specs.Prelude.{◌≡◌, map};
 ghost use Rattle.std.specs.Option.{option_map};
 ghost use Rattle.std.specs.String.{string_bytes};
-ghost use Rattle.ags_top.specs.Command as asked;
-ghost use Rattle.ags_top.specs.Views.{command_view, line_view};
+ghost use Rattle.ags_command.specs.Command as asked;
+ghost use Rattle.ags_command.specs.Views.{command_view, line_view};
 
 use crate::source_texts::SourceText;
 
-/// What is done.
+/// What is done (README, Commands).
 #[derive(Clone, Copy)]
-pub(crate) enum Command<'a> {
+pub enum Command<'a> {
     /// A text of a source.
     Write {
         /// The text.
@@ -52,11 +52,11 @@ pub(crate) enum Command<'a> {
 
 /// What a command line asks for.
 #[derive(Clone, Copy)]
-pub(crate) struct CommandLine<'a> {
+pub struct CommandLine<'a> {
     /// The command.
-    pub(crate) command: Command<'a>,
+    pub command: Command<'a>,
     /// The name of the file of its machine, and nothing where that is the standard one.
-    pub(crate) machine: Option<&'a str>,
+    pub machine: Option<&'a str>,
 }
 
 /// A command with what stands behind its names: nothing, or a machine file's name.
@@ -174,7 +174,7 @@ fn read_names<'a>(verb: &str, names: &'a [String]) -> Option<CommandLine<'a>>
 }
 
 /// What a command line asks for, by its arguments.
-pub(crate) fn read_line(arguments: &[String]) -> Option<CommandLine<'_>>
+pub fn read_line(arguments: &[String]) -> Option<CommandLine<'_>>
     ensures { option_map line_view result ≡ asked.line_of (map string_bytes arguments.now) }
 {
     match arguments {

@@ -2,8 +2,8 @@
 -- where one is given.
 use Rattle.std.specs.Prelude.{◌≡◌, ℕ, List, [], ◌∷◌, ◌++◌, Option, Some, None, codes, if◌then◌else◌}
 use Rattle.std.specs.Str.{bytes_eq}
-use Rattle.ags_top.specs.declared.source_texts.SourceText.{SourceText}
-use Rattle.ags_top.specs.declared.source_texts.SourceText.TheVariants.{Listing, Tape, CrossReference}
+use Rattle.ags_command.specs.declared.source_texts.SourceText.{SourceText}
+use Rattle.ags_command.specs.declared.source_texts.SourceText.TheVariants.{Listing, Tape, CrossReference}
 
 -- what is done
 pub data Command : Type 0 where
