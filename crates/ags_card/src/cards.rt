@@ -7,7 +7,7 @@ use ags_isa::Order;
 use ags_word::Word;
 
 /// What a card asks for (docs/SOURCE.md, Cards).
-#[derive(Debug, Drop)]
+#[derive(Drop)]
 pub enum Body {
     /// Nothing: it is a comment.
     Comment,
@@ -35,7 +35,7 @@ pub enum Body {
 }
 
 /// A card: the symbol in its symbol field, where it has one, and what it asks for.
-#[derive(Debug, Drop)]
+#[derive(Drop)]
 pub struct Card {
     /// The symbol that it defines. A comment has none, and `Equ` has one.
     pub symbol: Option<Name>,

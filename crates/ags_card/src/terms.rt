@@ -8,7 +8,7 @@ use arrayvec::ArrayVec;
 use std::marker::Model;
 
 /// What a term stands for (docs/SOURCE.md, Expressions).
-#[derive(Clone, Copy, Debug, Default, PartialEq, Eq)]
+#[derive(Clone, Copy, Default, PartialEq, Eq)]
 pub enum Atom {
     /// A number, written in octal or in decimal digits.
     Number(u32),
@@ -20,7 +20,7 @@ pub enum Atom {
 }
 
 /// A term of an expression with its sign.
-#[derive(Clone, Copy, Debug, Default, PartialEq, Eq)]
+#[derive(Clone, Copy, Default, PartialEq, Eq)]
 pub struct Term {
     /// Whether it is taken away.
     pub minus: bool,
@@ -29,7 +29,7 @@ pub struct Term {
 }
 
 /// The terms of an expression, which stands for their sum: 1 to 64, each number among them at most 999,999.
-#[derive(Debug, Drop)]
+#[derive(Drop)]
 pub struct Terms {
     items: ArrayVec<Term, 64>,
 }

@@ -18,7 +18,7 @@ use ags_text::{are_blanks, split_field};
 const MOST_BYTES: usize = 512;
 
 /// What a certificate's first line is.
-#[derive(Clone, Copy, Debug, PartialEq, Eq)]
+#[derive(Clone, Copy, PartialEq, Eq)]
 pub enum FirstLine {
     /// It opens a certificate of this version.
     Opening,
@@ -29,7 +29,7 @@ pub enum FirstLine {
 }
 
 /// What a further line is.
-#[derive(Clone, Copy, Debug, PartialEq, Eq)]
+#[derive(Clone, Copy, PartialEq, Eq)]
 pub enum FurtherLine {
     /// It makes a statement.
     Stated(Statement),

@@ -3,7 +3,7 @@
 use ags_domain::Value;
 
 /// An address and the value behind it.
-#[derive(Clone, Copy, Debug, PartialEq, Eq)]
+#[derive(Clone, Copy, PartialEq, Eq)]
 pub struct Entry {
     /// The address, below 4096.
     pub address: u16,
@@ -12,7 +12,7 @@ pub struct Entry {
 }
 
 /// What the line of a row states.
-#[derive(Clone, Copy, Debug, PartialEq, Eq)]
+#[derive(Clone, Copy, PartialEq, Eq)]
 pub struct RowLine {
     /// The location, below 4096.
     pub location: u16,
@@ -27,7 +27,7 @@ pub struct RowLine {
 }
 
 /// What a line states.
-#[derive(Clone, Copy, Debug, PartialEq, Eq)]
+#[derive(Clone, Copy, PartialEq, Eq)]
 pub enum Statement {
     /// The location that a run starts at.
     Start(u16),

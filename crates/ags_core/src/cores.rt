@@ -22,7 +22,7 @@ const CELLS: u16 = 4096;
 const FIXED: u16 = 2048;
 
 /// The machine as it runs: its registers, its cells, and the words of its input and output registers.
-#[derive(Drop, Debug)]
+#[derive(Drop)]
 pub struct Core {
     pub(crate) a: Word,
     pub(crate) q: Word,

@@ -11,7 +11,7 @@ use std::marker::Model;
 const MEMORY_SIZE: usize = 4096;
 
 /// What an assembly puts into the machine's memory: for each of its 4096 locations a word, or none.
-#[derive(Drop, Debug)]
+#[derive(Drop)]
 pub struct Image {
     entries: Vec<Option<Word>>,
 }

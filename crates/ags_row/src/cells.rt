@@ -7,7 +7,7 @@ use crate::ats::At;
 use std::marker::Model;
 
 /// A list of cells with what each may hold.
-#[derive(Debug, Drop)]
+#[derive(Drop)]
 pub struct Cells<D> {
     list: Vec<At<D>>,
 }

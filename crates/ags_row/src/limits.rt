@@ -15,7 +15,7 @@ const ADDRESSES: usize = 4096;
 
 /// What each erasable cell, each input register and each output register may hold, and the locations that are named as places
 /// of an overflow.
-#[derive(Debug, Drop)]
+#[derive(Drop)]
 pub struct Limits<D> {
     cells: Vec<D>,
     inputs: Vec<D>,

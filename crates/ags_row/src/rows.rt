@@ -14,7 +14,7 @@ const MOST_CELLS: usize = 64;
 const LOCATIONS: u16 = 4096;
 
 /// The parts that a row is made of.
-#[derive(Debug, Drop)]
+#[derive(Drop)]
 pub struct RowParts<D> {
     /// The location, below 4096.
     pub location: u16,
@@ -31,7 +31,7 @@ pub struct RowParts<D> {
 }
 
 /// What may stand where the order at one location begins. A cell that it doesn't name may hold what the limits say.
-#[derive(Debug, Drop)]
+#[derive(Drop)]
 pub struct Row<D> {
     location: u16,
     a: D,

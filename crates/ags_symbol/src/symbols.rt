@@ -15,7 +15,7 @@ use thiserror::Error;
 pub const VALUE_LIMIT: i32 = 262_143;
 
 /// What a symbol stands for.
-#[derive(Clone, Copy, Debug, PartialEq, Eq)]
+#[derive(Clone, Copy, PartialEq, Eq)]
 pub struct Defined {
     /// Its value (docs/SOURCE.md, Places).
     pub value: i32,

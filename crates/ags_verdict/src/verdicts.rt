@@ -5,7 +5,7 @@ use ags_posts::Stop;
 use ags_word::Word;
 
 /// What fails first in one row.
-#[derive(Debug, PartialEq, Eq, Drop)]
+#[derive(PartialEq, Eq, Drop)]
 pub enum RowFault<D> {
     /// The words at the row's location are more than 16.
     CodeUnknown,
@@ -30,7 +30,7 @@ pub enum RowFault<D> {
 }
 
 /// The first item that fails of what is checked. Rows are numbered from 1, in the order of the certificate.
-#[derive(Debug, PartialEq, Eq, Drop)]
+#[derive(PartialEq, Eq, Drop)]
 pub enum Refusal<D> {
     /// An erasable cell's first word is not one of the cell's limit: the image's word, or 0 where nothing is stated of the start.
     InitRange {
@@ -116,7 +116,7 @@ pub enum Refusal<D> {
 }
 
 /// The answer of the checker.
-#[derive(Debug, PartialEq, Eq, Drop)]
+#[derive(PartialEq, Eq, Drop)]
 pub enum Verdict<D> {
     /// All that is checked holds.
     Certified {
