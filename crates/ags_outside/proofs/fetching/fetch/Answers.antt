@@ -1,4 +1,4 @@
-use Rattle.std.proofs.Common.{◌≡◌, ◌++◌, arith, refl, take, ◌∙◌, length-append, length-drop, length-take}
+use Rattle.std.proofs.Common.{◌≡◌, ◌++◌, arith, refl, take, ◌∙◌, length-append, length-drop, length-take, rules}
 use Rattle.std.proofs.lemmas.Grind.{common_steps}
 use Rattle.ags_outside.proofs.SoFar.{front_nothing, front_more}
 use Rattle.ags_outside.proofs.fetching.fetch.Goals as goal
@@ -26,3 +26,9 @@ pulls-preserved g c =
       faults_stay = c.in-Got.ensures.faults.clean refl ∙ c.pulls.invariant.faults_stay;
       absences_stay = c.in-Got.ensures.absences.clean refl ∙ c.pulls.invariant.absences_stay;
     }
+
+pub returns-in-Absent-clause-absences : goal.returns-in-Absent-clause-absences
+returns-in-Absent-clause-absences g c = search rules
+
+pub returns-then-len-limit-clause-tells : goal.returns-then-len-limit-clause-tells
+returns-then-len-limit-clause-tells g c = search rules

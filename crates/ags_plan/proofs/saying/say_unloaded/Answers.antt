@@ -1,4 +1,4 @@
-use Rattle.std.proofs.Common.{refl}
+use Rattle.std.proofs.Common.{refl, rules}
 use Rattle.ags_plan.specs.Plan.{AbsentAt, LongAt, RefusedAt, absent_line, long_line}
 use Rattle.ags_plan.proofs.SayingLemmas.{said}
 use Rattle.ags_plan.proofs.saying.say_unloaded.Goals as goal
@@ -26,3 +26,9 @@ returns-in-Refused-clause-says g c =
     (said g.P.Program.definition (RefusedAt line (g.P.Program.status_of refusal)) _ _ line c.refusal_status.result c.say-in-Refused.result
     (refl, c.refusal_status.ensures)
     c.say-in-Refused.ensures.ended (c.say-in-Refused.ensures.sent _ c.refusal_line.ensures) (c.say-in-Refused.ensures.prefix _ c.refusal_line.ensures))
+
+pub returns-in-ReadFault-clause-says : goal.returns-in-ReadFault-clause-says
+returns-in-ReadFault-clause-says g c = search rules
+
+pub returns-in-ReadFault-clause-faults : goal.returns-in-ReadFault-clause-faults
+returns-in-ReadFault-clause-faults g c = search rules

@@ -2,7 +2,7 @@ use Rattle.std.proofs.Common.{◌≡◌, ◌+◌, ◌*◌, ◌^◌, ◌<◌, ℕ
 use Rattle.std.specs.Char.{digit_value}
 use Rattle.std.specs.Str.Parse.{AllDigits, digits_value, digits_value_after}
 use Rattle.std.proofs.Math.Nat.{mul_comm}
-use Rattle.std.proofs.lemmas.Grind.{pow_more}
+use Rattle.std.proofs.lemmas.Grind.{pow_more, common_steps}
 use Rattle.std.proofs.lemmas.Nat.{mul-add-lt}
 use Rattle.ags_text.proofs.NumeralLemmas.{room, below_most}
 use Rattle.ags_text.proofs.numerals.read_digits.Goals as goal
@@ -47,3 +47,6 @@ overflow_add-number c =
 
 pub returns-clause-below : goal.returns-clause-below
 returns-clause-below c = below_most c.args.base c.args.most c.loop-byte.byte-index c.loop-byte.number c.requires.low (omega arith) c.loop-byte.invariant.small
+
+pub returns-clause-found : goal.returns-clause-found
+returns-clause-found c = grind (arith, common_steps)

@@ -1,4 +1,4 @@
-use Rattle.std.proofs.Common.{inl}
+use Rattle.std.proofs.Common.{inl, rules}
 use Rattle.std.proofs.lemmas.Result.{err_from_is_err_and}
 use Rattle.ags_top.proofs.GuardLemmas.{play_says, verdict_in_part}
 use Rattle.ags_top.proofs.guard_command.guard_script.Goals as goal
@@ -15,3 +15,6 @@ returns-in-Certified-clause-says g c =
     play_says c.args.machine.now c.args.made.now c.args.cert.now c.args.script.now (g.K.Sink.told c.args.out.now) (g.K.Sink.told c.send.new.out) (g.K.Sink.told c.play_guarded.new.out)
     c.requires.image c.in-Certified.rows c.in-Certified.cases c.play_guarded.result (rw c.in-Certified.is at c.check-verdict.ensures.verdict)
     (rw (c.as_bytes.ensures.value, c.in-Ok.ensures, c.in-Certified.is) at c.in_ok-send.ensures.sent) c.play_guarded.ensures.guards
+
+pub returns-clause-says : goal.returns-clause-says
+returns-clause-says g c = search rules

@@ -17,3 +17,6 @@ loop-row-preserved g c = (
 pub returns : goal.returns
 returns g c = rows_counted g.D.Domain.meaning c.args.self.now c.args.rows.now c.loop-row.row-index c.loop-row.count
     c.loop-row.invariant.0 (search rules)
+
+pub loop-row-init : goal.loop-row-init
+loop-row-init g c = search rules

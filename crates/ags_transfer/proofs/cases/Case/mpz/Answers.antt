@@ -1,4 +1,4 @@
-use Rattle.std.proofs.Common.{arith}
+use Rattle.std.proofs.Common.{arith, rules}
 use Rattle.ags_posts.specs.Posts.{frees_q}
 use Rattle.ags_transfer.proofs.DecisionLemmas.{store_goes_on}
 use Rattle.ags_transfer.proofs.cases.Case.mpz.Goals as goal
@@ -13,3 +13,6 @@ returns g c = λ y. store_goes_on c.args.e _ _ (omega (arith, c.if-e-ge-FIXED.fa
     c.computed_and_cleared.ensures (frees_q g.D.Domain.meaning c.args.self.now) c.frees_q.ensures,
   ),
 )
+
+pub returns-then-e-ge-FIXED : goal.returns-then-e-ge-FIXED
+returns-then-e-ge-FIXED g c = search rules

@@ -1,0 +1,5 @@
+use Rattle.std.proofs.Common.{rules}
+use Rattle.ags_core.proofs.cores.Core.inp.Goals as goal
+
+pub returns : goal.returns
+returns c = search rules

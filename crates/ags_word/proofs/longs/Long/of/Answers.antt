@@ -1,0 +1,12 @@
+use Rattle.std.proofs.Common.{rules}
+use Rattle.ags_word.specs.Long.{long, pair, fits_long, wrap_long, divided}
+use Rattle.ags_word.specs.Word.{val, fits, wrap, word_of_value}
+use Rattle.ags_word.proofs.longs.Long.of.Goals as goal
+
+pub invariant_of-result : goal.invariant_of-result
+unfolding val fits wrap word_of_value long pair fits_long wrap_long divided
+invariant_of-result c = search rules
+
+pub returns : goal.returns
+unfolding val fits wrap word_of_value long pair fits_long wrap_long divided
+returns c = search rules
