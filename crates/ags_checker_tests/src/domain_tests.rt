@@ -97,7 +97,7 @@ const INTERVALS: [Interval; 29] = [
 
 #[test]
 fn intervals(rt: HostRuntime) {
-    for (operation, a, m, ends) in INTERVALS {
+    for &(operation, a, m, ends) in &INTERVALS {
         let told = answer(&rt, operation, &range(&rt, a), &range(&rt, m));
         assert_eq!(rt; told, Ok(range(&rt, ends)));
     }

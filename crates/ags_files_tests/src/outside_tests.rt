@@ -114,7 +114,7 @@ const PIECES_ARE_ASKED_FOR_UP_TO_THE_LIMIT: [(usize, u64, &[usize]); 4] = [
 #[test]
 fn pieces_are_asked_for_up_to_the_limit(rt: HostRuntime) -> Result<(), Fail> {
     let alloc = rt.alloc();
-    for (length, limit, asked) in PIECES_ARE_ASKED_FOR_UP_TO_THE_LIMIT {
+    for &(length, limit, asked) in &PIECES_ARE_ASKED_FOR_UP_TO_THE_LIMIT {
         let mut shelf = ZeroShelf {
             length,
             fails: false,
@@ -266,7 +266,7 @@ const A_FAULT_IN_MID_TEXT_IS_TOLD: [(&[u8], u64, Result<(), SendError>, u64); 5]
 
 #[test]
 fn a_fault_in_mid_text_is_told(rt: HostRuntime) {
-    for (bytes, fails_at, wanted, puts) in A_FAULT_IN_MID_TEXT_IS_TOLD {
+    for &(bytes, fails_at, wanted, puts) in &A_FAULT_IN_MID_TEXT_IS_TOLD {
         let mut sink = ShortSink {
             fails_at,
             puts: 0,

@@ -355,7 +355,7 @@ fn want_of_memory_prints_nothing(rt: HostRuntime) -> Result<(), Fail> {
 #[test]
 fn missing_orders_are_a_fault(rt: HostRuntime) -> Result<(), Fail> {
     let alloc = rt.alloc();
-    for (order, _) in CODES {
+    for &(order, _) in &CODES {
         let missing = table(alloc, "[codes]", &CODES, order, "")?;
         let wanted = format!(in alloc; "MACHINE ERROR 2 MissingKey codes.{order}")?;
         expect_fault(&rt, alloc, missing.as_bytes(), wanted.as_str())?;

@@ -48,7 +48,7 @@ const WORDS_ARE_MADE: [(&[u8], u32); 12] = [
 
 #[test]
 fn words_are_made(rt: HostRuntime) {
-    for (source, word) in WORDS_ARE_MADE {
+    for &(source, word) in &WORDS_ARE_MADE {
         let made = assembled(&rt, rt.alloc(), source);
         expect_word(&rt, &made, word);
     }

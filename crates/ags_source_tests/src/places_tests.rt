@@ -91,7 +91,7 @@ const FAULTS_OF_WORDS_ARE_PRINTED: [(SourceKind, &str); 4] = [
 #[test]
 fn faults_of_words_are_printed(rt: HostRuntime) -> Result<(), Fail> {
     let alloc = rt.alloc();
-    for (kind, wanted) in FAULTS_OF_WORDS_ARE_PRINTED {
+    for &(kind, wanted) in &FAULTS_OF_WORDS_ARE_PRINTED {
         let fault = SourceError { card: 12, kind };
         assert!(rt; format!(in alloc; "{fault}")?.as_str() == wanted);
     }

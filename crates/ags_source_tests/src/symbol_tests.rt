@@ -81,7 +81,7 @@ fn expressions_are_sums(rt: HostRuntime) -> Result<(), Fail> {
     let mut symbols = Symbols::new(rt.alloc());
     assert!(rt; symbols.define(name(&rt, b"A"), 100, 1).is_ok());
     assert!(rt; symbols.define(name(&rt, b"B"), -7, 2).is_ok());
-    for (line, wanted) in EXPRESSIONS_ARE_SUMS {
+    for &(line, wanted) in &EXPRESSIONS_ARE_SUMS {
         assert!(rt; symbols.value_of(&terms(&rt, line), 4096) == wanted);
     }
     pairs_are_found_by_name();

@@ -82,7 +82,7 @@ const REFERENCES_ARE_SENT: [(&str, &str); 6] = [
 #[test]
 fn references_are_sent(rt: HostRuntime) -> Result<(), Fail> {
     let alloc = rt.alloc();
-    for (source, text) in REFERENCES_ARE_SENT {
+    for &(source, text) in &REFERENCES_ARE_SENT {
         let mut out = SteadySink::new(alloc, 100);
         assert!(rt; send_source(&rt, alloc, source.as_bytes(), &mut out).is_ok());
         assert_eq!(rt; str::from_utf8(out.bytes())?, text);

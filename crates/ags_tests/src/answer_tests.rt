@@ -165,7 +165,7 @@ const PLAYS_SCRIPTS: [Played; 7] = [
 
 #[test]
 fn plays_scripts(rt: HostRuntime) -> Result<(), Fail> {
-    for (source, script, text) in PLAYS_SCRIPTS {
+    for &(source, script, text) in &PLAYS_SCRIPTS {
         let files = [("S", source.as_bytes()), ("P", script.as_bytes())];
         for most in [1000, 1] {
             compare_over(&rt, &files, "run S P", most, Status::Done, text)?;
@@ -197,7 +197,7 @@ const SAYS_THE_FIRST_FAULT_OF_A_SCRIPT: [(&str, &str); 4] = [
 #[test]
 fn says_the_first_fault_of_a_script(rt: HostRuntime) -> Result<(), Fail> {
     let source = b"* FIRST\n ORG /4000\nA OCT 7\n".as_slice();
-    for (script, line) in SAYS_THE_FIRST_FAULT_OF_A_SCRIPT {
+    for &(script, line) in &SAYS_THE_FIRST_FAULT_OF_A_SCRIPT {
         let files = [("S", source), ("P", script.as_bytes())];
         compare_over(&rt, &files, "run S P", 9, Status::BadText, line)?;
     }

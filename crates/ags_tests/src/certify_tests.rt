@@ -73,7 +73,7 @@ const CERTIFIES_A_RETURN_WORD: [(&str, Status, &str); 3] = [
 
 #[test]
 fn certifies_a_return_word(rt: HostRuntime) -> Result<(), Fail> {
-    for (certificate, status, verdict) in CERTIFIES_A_RETURN_WORD {
+    for &(certificate, status, verdict) in &CERTIFIES_A_RETURN_WORD {
         compare_verdict(&rt, RETURN, RETURN_LISTING, certificate, status, verdict)?;
     }
     Ok(())
@@ -100,7 +100,7 @@ const REFUSES_OVERFLOWS_THAT_ARE_NOT_NAMED: [(&str, Status, &str); 3] = [
 
 #[test]
 fn refuses_overflows_that_are_not_named(rt: HostRuntime) -> Result<(), Fail> {
-    for (certificate, status, verdict) in REFUSES_OVERFLOWS_THAT_ARE_NOT_NAMED {
+    for &(certificate, status, verdict) in &REFUSES_OVERFLOWS_THAT_ARE_NOT_NAMED {
         compare_verdict(&rt, SUMS, SUMS_LISTING, certificate, status, verdict)?;
     }
     Ok(())
@@ -147,7 +147,7 @@ const REFUSES_WHAT_FAILS_FIRST: [Refused; 5] = [
 
 #[test]
 fn refuses_what_fails_first(rt: HostRuntime) -> Result<(), Fail> {
-    for (source, certificate, listing, verdict) in REFUSES_WHAT_FAILS_FIRST {
+    for &(source, certificate, listing, verdict) in &REFUSES_WHAT_FAILS_FIRST {
         compare_verdict(&rt, source, listing, certificate, Status::No, verdict)?;
     }
     Ok(())
@@ -184,7 +184,7 @@ const OUT_OF_RANGE: [Refused; 4] = [
 
 #[test]
 fn refuses_what_is_out_of_range(rt: HostRuntime) -> Result<(), Fail> {
-    for (source, certificate, listing, verdict) in OUT_OF_RANGE {
+    for &(source, certificate, listing, verdict) in &OUT_OF_RANGE {
         compare_verdict(&rt, source, listing, certificate, Status::No, verdict)?;
     }
     Ok(())
@@ -230,7 +230,7 @@ const SAYS_THE_FIRST_FAULT_OF_A_CERTIFICATE: [(&str, &str); 8] = [
 
 #[test]
 fn says_the_first_fault_of_a_certificate(rt: HostRuntime) -> Result<(), Fail> {
-    for (certificate, line) in SAYS_THE_FIRST_FAULT_OF_A_CERTIFICATE {
+    for &(certificate, line) in &SAYS_THE_FIRST_FAULT_OF_A_CERTIFICATE {
         compare_fault(&rt, certificate, line)?;
     }
     Ok(())
@@ -293,7 +293,7 @@ fn takes_the_registers_of_a_machine_file(rt: HostRuntime) -> Result<(), Fail> {
             b"input = [{ address = 0o17, once = true }]\n".as_slice(),
         ),
     ];
-    for (line, status, text) in TAKES_THE_REGISTERS_OF_A_MACHINE_FILE {
+    for &(line, status, text) in &TAKES_THE_REGISTERS_OF_A_MACHINE_FILE {
         compare_over(&rt, &files, line, 9, status, text)?;
     }
     Ok(())

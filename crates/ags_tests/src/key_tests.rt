@@ -149,7 +149,7 @@ fn shows_each_list_of_four_keys(rt: HostRuntime) -> Result<(), Fail> {
 /// Presses each key behind the first so many of a form.
 fn compare_behind(rt: &(impl AllocGlobal + Abort), form: &[Key]) -> Result<(), Fail> {
     for count in 0..form.len() + 1 {
-        for key in KEYS {
+        for &key in &KEYS {
             let mut keys = Vec::from_slice(rt.alloc(), &form[..count])?;
             keys.push(key)?;
             compare_display(rt, &keys);

@@ -45,7 +45,7 @@ const COMPARES_LISTINGS: [(&str, &str, Status, &str); 9] = [
 
 #[test]
 fn compares_listings(rt: HostRuntime) -> Result<(), Fail> {
-    for (source, listing, status, text) in COMPARES_LISTINGS {
+    for &(source, listing, status, text) in &COMPARES_LISTINGS {
         let files = [("S", source.as_bytes()), ("L", listing.as_bytes())];
         compare_over(&rt, &files, "compare S L", 9, status, text)?;
     }
@@ -84,7 +84,7 @@ const SAYS_THE_FIRST_FAULT_OF_A_LISTING: [(&str, &str); 8] = [
 
 #[test]
 fn says_the_first_fault_of_a_listing(rt: HostRuntime) -> Result<(), Fail> {
-    for (listing, line) in SAYS_THE_FIRST_FAULT_OF_A_LISTING {
+    for &(listing, line) in &SAYS_THE_FIRST_FAULT_OF_A_LISTING {
         let files = [("S", FIRST.as_bytes()), ("L", listing.as_bytes())];
         compare_over(&rt, &files, "compare S L", 9, Status::BadText, line)?;
     }
@@ -114,7 +114,7 @@ const TAKES_THE_SOURCE_BEFORE_THE_LISTING: [(&str, Status, &str); 7] = [
 #[test]
 fn takes_the_source_before_the_listing(rt: HostRuntime) -> Result<(), Fail> {
     let files = [("S", b" _CLA 1\n".as_slice()), ("T", FIRST.as_bytes())];
-    for (line, status, text) in TAKES_THE_SOURCE_BEFORE_THE_LISTING {
+    for &(line, status, text) in &TAKES_THE_SOURCE_BEFORE_THE_LISTING {
         compare_over(&rt, &files, line, 9, status, text)?;
     }
     Ok(())
@@ -133,7 +133,7 @@ const WRITES_TAPES: [(&str, &str); 3] = [
 
 #[test]
 fn writes_tapes(rt: HostRuntime) -> Result<(), Fail> {
-    for (source, text) in WRITES_TAPES {
+    for &(source, text) in &WRITES_TAPES {
         for most in [1000, 1] {
             compare(&rt, source.as_bytes(), "tape S", most, Status::Done, text)?;
         }
@@ -154,7 +154,7 @@ const WRITES_CROSS_REFERENCES: [(&str, &str); 3] = [
 
 #[test]
 fn writes_cross_references(rt: HostRuntime) -> Result<(), Fail> {
-    for (source, text) in WRITES_CROSS_REFERENCES {
+    for &(source, text) in &WRITES_CROSS_REFERENCES {
         for most in [1000, 1] {
             compare(&rt, source.as_bytes(), "xref S", most, Status::Done, text)?;
         }
@@ -184,7 +184,7 @@ fn takes_a_machine_file(rt: HostRuntime) -> Result<(), Fail> {
         ("M", b"".as_slice()),
         ("N", b"= =\n".as_slice()),
     ];
-    for (line, status, text) in TAKES_A_MACHINE_FILE {
+    for &(line, status, text) in &TAKES_A_MACHINE_FILE {
         compare_over(&rt, &files, line, 9, status, text)?;
     }
     Ok(())

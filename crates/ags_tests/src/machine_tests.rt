@@ -36,7 +36,7 @@ const SAYS_THE_FIRST_FAULT_OF_A_MACHINE_FILE: [(&str, &str); 5] = [
 
 #[test]
 fn says_the_first_fault_of_a_machine_file(rt: HostRuntime) -> Result<(), Fail> {
-    for (machine, line) in SAYS_THE_FIRST_FAULT_OF_A_MACHINE_FILE {
+    for &(machine, line) in &SAYS_THE_FIRST_FAULT_OF_A_MACHINE_FILE {
         let files = [("S", FIRST.as_bytes()), ("M", machine.as_bytes())];
         for asked in ["assemble S M", "run S S M", "assemble Z M"] {
             compare_over(&rt, &files, asked, 9, Status::BadMachine, line)?;
@@ -70,7 +70,7 @@ fn takes_the_machine_file_first(rt: HostRuntime) -> Result<(), Fail> {
         ("M", b"".as_slice()),
         ("L", long.as_slice()),
     ];
-    for (line, status, text) in TAKES_THE_MACHINE_FILE_FIRST {
+    for &(line, status, text) in &TAKES_THE_MACHINE_FILE_FIRST {
         compare_over(&rt, &files, line, 9, status, text)?;
     }
     Ok(())

@@ -69,7 +69,7 @@ const SHOWS_KEYS: [(&str, &str); 3] = [
 
 #[test]
 fn shows_keys(rt: HostRuntime) -> Result<(), Fail> {
-    for (script, text) in SHOWS_KEYS {
+    for &(script, text) in &SHOWS_KEYS {
         compare_shown(&rt, WAITING, script, text)?;
     }
     Ok(())
@@ -144,7 +144,7 @@ fn connects_the_panel_by_a_machine_file(rt: HostRuntime) -> Result<(), Fail> {
         ("M", b"deda_in = 0o2001\n".as_slice()),
         ("N", b"deda_in = 0o2005\ndeda_out = 0o6005\n".as_slice()),
     ];
-    for (line, status, text) in CONNECTS_THE_PANEL_BY_A_MACHINE_FILE {
+    for &(line, status, text) in &CONNECTS_THE_PANEL_BY_A_MACHINE_FILE {
         compare_over(&rt, &files, line, 9, status, text)?;
     }
     Ok(())
@@ -193,7 +193,7 @@ const STOPS_BEFORE_A_WORD_OUTSIDE: [(&str, &str); 2] = [
 
 #[test]
 fn stops_before_a_word_outside(rt: HostRuntime) -> Result<(), Fail> {
-    for (script, shown) in STOPS_BEFORE_A_WORD_OUTSIDE {
+    for &(script, shown) in &STOPS_BEFORE_A_WORD_OUTSIDE {
         compare_outside(&rt, script, shown)?;
     }
     Ok(())
@@ -220,7 +220,7 @@ const STOPS_BEFORE_A_START_OUTSIDE: [(&str, &str); 5] = [
 
 #[test]
 fn stops_before_a_start_outside(rt: HostRuntime) -> Result<(), Fail> {
-    for (script, shown) in STOPS_BEFORE_A_START_OUTSIDE {
+    for &(script, shown) in &STOPS_BEFORE_A_START_OUTSIDE {
         compare_outside(&rt, script, shown)?;
     }
     // what is set later counts
@@ -336,7 +336,7 @@ const TESTS_WHAT_THE_PANEL_SENDS: [(&str, &str); 2] = [
 
 #[test]
 fn tests_what_the_panel_sends(rt: HostRuntime) -> Result<(), Fail> {
-    for (script, text) in TESTS_WHAT_THE_PANEL_SENDS {
+    for &(script, text) in &TESTS_WHAT_THE_PANEL_SENDS {
         compare_guarded(&rt, (WAITING, script, SMALL_DIGITS), Status::No, text)?;
     }
     // without a digit, and while the register holds a word, a cycle feeds nothing
@@ -409,7 +409,7 @@ fn reads_the_files_of_a_guarded_run_in_order(rt: HostRuntime) -> Result<(), Fail
         ("T", STORING.as_bytes()),
         ("P", b"STEP\n".as_slice()),
     ];
-    for (line, status, text) in READS_THE_FILES_OF_A_GUARDED_RUN_IN_ORDER {
+    for &(line, status, text) in &READS_THE_FILES_OF_A_GUARDED_RUN_IN_ORDER {
         compare_over(&rt, &files, line, 9, status, text)?;
     }
     Ok(())
@@ -432,7 +432,7 @@ const REFUSES_SCRIPTS: [(&str, &str); 8] = [
 
 #[test]
 fn refuses_scripts(rt: HostRuntime) -> Result<(), Fail> {
-    for (script, line) in REFUSES_SCRIPTS {
+    for &(script, line) in &REFUSES_SCRIPTS {
         let files = [("S", WAITING.as_bytes()), ("P", script.as_bytes())];
         compare_over(&rt, &files, "run S P", 9, Status::BadText, line)?;
     }

@@ -246,7 +246,7 @@ const LISTS_WORDS: [Listed; 10] = [
 
 #[test]
 fn lists_words(rt: HostRuntime) -> Result<(), Fail> {
-    for (source, listing) in LISTS_WORDS {
+    for &(source, listing) in &LISTS_WORDS {
         compare(&rt, source, "assemble S", 90, Status::Done, listing)?;
     }
     Ok(())

@@ -22,7 +22,7 @@ const NUMBERS: [(u32, i32); 6] = [
 
 #[test]
 fn numbers_and_values(rt: HostRuntime) {
-    for (number, value) in NUMBERS {
+    for &(number, value) in &NUMBERS {
         assert!(rt; cell(&rt, number).value() == value && word(&rt, value).number() == number);
     }
     assert!(rt; Word::ZERO.number() == 0);
@@ -52,7 +52,7 @@ const SUMS: [(i32, i32, i32, bool); 12] = [
 
 #[test]
 fn sums(rt: HostRuntime) {
-    for (a, m, result, over) in SUMS {
+    for &(a, m, result, over) in &SUMS {
         assert_eq!(rt; word(&rt, a).add(word(&rt, m)), (word(&rt, result), over));
     }
 }
@@ -75,7 +75,7 @@ const DIFFERENCES: [(i32, i32, i32, bool); 12] = [
 
 #[test]
 fn differences(rt: HostRuntime) {
-    for (a, m, result, over) in DIFFERENCES {
+    for &(a, m, result, over) in &DIFFERENCES {
         assert_eq!(rt; word(&rt, a).sub(word(&rt, m)), (word(&rt, result), over));
     }
 }
@@ -91,7 +91,7 @@ const NEGATIVES_AND_SIZES: [(i32, i32, i32, bool); 5] = [
 
 #[test]
 fn negatives_and_sizes(rt: HostRuntime) {
-    for (a, negative, size, over) in NEGATIVES_AND_SIZES {
+    for &(a, negative, size, over) in &NEGATIVES_AND_SIZES {
         assert_eq!(rt; word(&rt, a).com(), (word(&rt, negative), over));
         assert_eq!(rt; word(&rt, a).abs(), (word(&rt, size), over));
     }
@@ -119,7 +119,7 @@ const LEFT_SHIFTS: [(i32, u32, i32, bool); 16] = [
 
 #[test]
 fn left_shifts(rt: HostRuntime) {
-    for (a, count, result, over) in LEFT_SHIFTS {
+    for &(a, count, result, over) in &LEFT_SHIFTS {
         assert!(rt; count < 64);
         assert_eq!(rt; word(&rt, a).als(count), (word(&rt, result), over));
     }
@@ -145,7 +145,7 @@ const PRODUCTS: [(i32, i32, u32, u32, u32, bool); 14] = [
 
 #[test]
 fn products(rt: HostRuntime) {
-    for (a, m, high, low, rounded, over) in PRODUCTS {
+    for &(a, m, high, low, rounded, over) in &PRODUCTS {
         let q = cell(&rt, low);
         assert_eq!(rt;
             word(&rt, a).multiply(word(&rt, m)),
@@ -178,7 +178,7 @@ const LONG_RIGHT_SHIFTS: [(u32, u32, u32, u32, u32); 14] = [
 
 #[test]
 fn long_right_shifts(rt: HostRuntime) {
-    for (a, q, count, high, low) in LONG_RIGHT_SHIFTS {
+    for &(a, q, count, high, low) in &LONG_RIGHT_SHIFTS {
         assert!(rt; count < 64);
         let shifted = Long::of(cell(&rt, a), cell(&rt, q)).lrs(count);
         assert_eq!(rt; shifted.split(), (cell(&rt, high), cell(&rt, low)));
@@ -208,7 +208,7 @@ const LONG_LEFT_SHIFTS: [(u32, u32, u32, u32, u32, bool); 17] = [
 
 #[test]
 fn long_left_shifts(rt: HostRuntime) {
-    for (a, q, count, high, low, over) in LONG_LEFT_SHIFTS {
+    for &(a, q, count, high, low, over) in &LONG_LEFT_SHIFTS {
         assert!(rt; count < 64);
         let (shifted, overflowed) = Long::of(cell(&rt, a), cell(&rt, q)).lls(count);
         assert_eq!(rt; shifted.split(), (cell(&rt, high), cell(&rt, low)));
@@ -244,7 +244,7 @@ const DIVISIONS: [(u32, u32, i32, Option<i32>); 22] = [
 
 #[test]
 fn divisions(rt: HostRuntime) {
-    for (a, q, m, quotient) in DIVISIONS {
+    for &(a, q, m, quotient) in &DIVISIONS {
         let answer = Long::of(cell(&rt, a), cell(&rt, q)).divide(word(&rt, m));
         assert_eq!(rt; answer.map(Word::value), quotient);
     }
