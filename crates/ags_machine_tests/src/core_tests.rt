@@ -21,7 +21,7 @@ fn loaded(
     ensures { IsState machine.now result }
 {
     let mut image = Image::new(alloc).expect(rt, "memory for an image");
-    for (address, number) in cells.iter().copied() {
+    for &(address, number) in cells {
         assert!(rt; address < 4096);
         image.set(address, word(rt, number));
     }
@@ -61,60 +61,64 @@ fn expect(rt: &impl Abort, machine: &Machine, core: &mut Core, event: Event, wan
     assert_eq!(rt; told, wanted);
 }
 
-/// Expects what a step is told to do.
-fn expect_step(rt: &impl Abort, machine: &Machine, core: &mut Core, wanted: Report)
-    requires inputs { length core.old.inputs ≡ length machine.now.ports.inputs }
-    requires outputs { length core.old.outputs ≡ length machine.now.ports.outputs }
-    ensures inputs { length core.new.inputs ≡ length core.old.inputs }
-    ensures outputs { length core.new.outputs ≡ length core.old.outputs }
-{
-    expect(rt, machine, core, Event::Step, wanted);
+/// What a step that runs an order is told to do beside that, with the address of what it takes, stores or gives.
+#[derive(Clone, Copy)]
+enum Told {
+    Nothing,
+    Overflow,
+    Took(u16),
+    Stored(u16),
+    Gave(u16),
 }
 
-/// Expects that a step runs an order, a location and its word, and stores 400000 at an address.
-fn expect_store(
-    rt: &impl Abort,
-    machine: &Machine,
-    core: &mut Core,
-    order: (u16, u32),
-    address: u16,
-)
-    requires inputs { length core.old.inputs ≡ length machine.now.ports.inputs }
-    requires outputs { length core.old.outputs ≡ length machine.now.ports.outputs }
-    ensures inputs { length core.new.inputs ≡ length core.old.inputs }
-    ensures outputs { length core.new.outputs ≡ length core.old.outputs }
-{
-    let stored = number_at(rt, address, 0o400000);
-    let ran = ran(rt, order.0, order.1);
-    expect_step(rt, machine, core, Report { stored, ..ran });
+/// The report of an order that ran, where what is stored or given is 400000.
+fn report(rt: &impl Abort, order: (u16, u32), told: Told) -> Report {
+    let mut report = ran(rt, order.0, order.1);
+    match told {
+        Told::Nothing => {}
+        Told::Overflow => report.overflow = true,
+        Told::Took(address) => report.took = Some(address),
+        Told::Stored(address) => report.stored = number_at(rt, address, 0o400000),
+        Told::Gave(address) => report.gave = number_at(rt, address, 0o400000),
+    }
+    report
 }
 
-/// Expects that a step runs an order, a location and its word, and gives 400000 to an address.
-fn expect_gift(rt: &impl Abort, machine: &Machine, core: &mut Core, order: (u16, u32), address: u16)
+/// Expects that a step runs an order, a location and its word, and is told to do this.
+fn expect_step(rt: &impl Abort, machine: &Machine, core: &mut Core, order: (u16, u32), told: Told)
     requires inputs { length core.old.inputs ≡ length machine.now.ports.inputs }
     requires outputs { length core.old.outputs ≡ length machine.now.ports.outputs }
     ensures inputs { length core.new.inputs ≡ length core.old.inputs }
     ensures outputs { length core.new.outputs ≡ length core.old.outputs }
 {
-    let gave = number_at(rt, address, 0o400000);
-    let ran = ran(rt, order.0, order.1);
-    expect_step(rt, machine, core, Report { gave, ..ran });
+    expect(rt, machine, core, Event::Step, report(rt, order, told));
+}
+
+/// Expects what the steps up to 4004 octal are told to do.
+fn expect_sums(rt: &impl Abort, machine: &Machine, core: &mut Core)
+    requires inputs { length core.old.inputs ≡ length machine.now.ports.inputs }
+    requires outputs { length core.old.outputs ≡ length machine.now.ports.outputs }
+    ensures inputs { length core.new.inputs ≡ length core.old.inputs }
+    ensures outputs { length core.new.outputs ≡ length core.old.outputs }
+{
+    expect_step(rt, machine, core, (0o4000, 0o642200), Told::Took(0o2200));
+    expect_step(rt, machine, core, (0o4001, 0o642003), Told::Took(0o2003));
+    expect_step(rt, machine, core, (0o4002, 0o200200), Told::Nothing);
+    expect_step(rt, machine, core, (0o4003, 0o220201), Told::Overflow);
+    expect_step(rt, machine, core, (0o4004, 0o500005), Told::Nothing);
 }
 
 /// Expects what the steps from 4005 octal on are told to do, where A is 400000.
 fn expect_stores(rt: &impl Abort, machine: &Machine, core: &mut Core)
     requires inputs { length core.old.inputs ≡ length machine.now.ports.inputs }
     requires outputs { length core.old.outputs ≡ length machine.now.ports.outputs }
+    ensures inputs { length core.new.inputs ≡ length core.old.inputs }
+    ensures outputs { length core.new.outputs ≡ length core.old.outputs }
 {
-    expect_store(rt, machine, core, (0o4005, 0o110010), 0o0015);
-    expect_store(rt, machine, core, (0o4006, 0o104010), 0o4010);
-    expect_gift(rt, machine, core, (0o4007, 0o666200), 0o6200);
-    expect_gift(rt, machine, core, (0o4010, 0o666003), 0o6003);
-    let halted = Report {
-        ran: false,
-        ..ran(rt, 0o4011, 0)
-    };
-    expect_step(rt, machine, core, halted);
+    expect_step(rt, machine, core, (0o4005, 0o110010), Told::Stored(0o0015));
+    expect_step(rt, machine, core, (0o4006, 0o104010), Told::Stored(0o4010));
+    expect_step(rt, machine, core, (0o4007, 0o666200), Told::Gave(0o6200));
+    expect_step(rt, machine, core, (0o4010, 0o666003), Told::Gave(0o6003));
 }
 
 /// Transfers from registers, a sum that overflows, stores, and transfers to registers, from 4000 octal on.
@@ -135,6 +139,14 @@ const CELLS: [(u16, u32); 12] = [
     (0o4011, 0o000000),
 ];
 
+/// The report of an event that runs no order at a location with this word.
+fn idle(rt: &impl Abort, location: u16, number: u32) -> Report {
+    Report {
+        ran: false,
+        ..ran(rt, location, number)
+    }
+}
+
 #[test]
 fn events_are_told(rt: HostRuntime) {
     let machine = Machine::standard();
@@ -143,40 +155,8 @@ fn events_are_told(rt: HostRuntime) {
         address: 0o2200,
         word: word(&rt, 7),
     };
-    let first = ran(&rt, 0o4000, 0o642200);
-    expect(
-        &rt,
-        &machine,
-        &mut core,
-        put,
-        Report {
-            ran: false,
-            ..first
-        },
-    );
-    let took = Some(0o2200);
-    expect_step(&rt, &machine, &mut core, Report { took, ..first });
-    let took = Some(0o2003);
-    expect_step(
-        &rt,
-        &machine,
-        &mut core,
-        Report {
-            took,
-            ..ran(&rt, 0o4001, 0o642003)
-        },
-    );
-    expect_step(&rt, &machine, &mut core, ran(&rt, 0o4002, 0o200200));
-    let overflow = true;
-    expect_step(
-        &rt,
-        &machine,
-        &mut core,
-        Report {
-            overflow,
-            ..ran(&rt, 0o4003, 0o220201)
-        },
-    );
-    expect_step(&rt, &machine, &mut core, ran(&rt, 0o4004, 0o500005));
+    expect(&rt, &machine, &mut core, put, idle(&rt, 0o4000, 0o642200));
+    expect_sums(&rt, &machine, &mut core);
     expect_stores(&rt, &machine, &mut core);
+    expect(&rt, &machine, &mut core, Event::Step, idle(&rt, 0o4011, 0));
 }

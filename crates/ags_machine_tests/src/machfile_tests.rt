@@ -1,5 +1,6 @@
 //! Rows typed from the rules of docs/MACHINE.md, Machine files, and from its tables of codes, times and registers.
 
+use crate::common::expect_same;
 use ags_isa::{Codes, Order};
 use ags_machfile::{MachError, laws, read};
 use ags_ports::{Machine, Port, Times};
@@ -82,126 +83,174 @@ output = [
 ]
 ";
 
+/// Adds a piece to a text.
+fn add(rt: &impl Abort, text: &mut String, piece: &str) {
+    assert!(rt; text.push_str(piece).is_ok());
+}
+
+/// These pieces, one behind the other.
+fn joined(rt: &impl Abort, alloc: Global, pieces: &[&str]) -> String {
+    let mut text = String::new(alloc);
+    for piece in pieces {
+        add(rt, &mut text, piece);
+    }
+    text
+}
+
+/// A piece so many times.
+fn repeated(rt: &impl Abort, alloc: Global, piece: &str, count: u32) -> String {
+    let mut text = String::new(alloc);
+    for _ in 0..count {
+        add(rt, &mut text, piece);
+    }
+    text
+}
+
+/// Adds the line of an order's value to a text.
+fn add_line(rt: &impl Abort, text: &mut String, name: &str, value: &str) {
+    add(rt, text, name);
+    add(rt, text, " = ");
+    add(rt, text, value);
+    add(rt, text, "\n");
+}
+
 /// A table of a file, with another value for one order; where that is empty, the order is left out.
 fn table(
+    rt: &impl Abort,
     alloc: Global,
     header: &str,
     rows: &[(&str, &str)],
     order: &str,
     other: &str,
-) -> Result<String, Fail> {
-    let mut text = format!(in alloc; "{header}\n")?;
-    for (name, value) in rows {
-        let value = if *name == order { other } else { *value };
+) -> String {
+    let mut text = joined(rt, alloc, &[header, "\n"]);
+    for &(name, value) in rows {
+        let value = if name == order { other } else { value };
         if !value.is_empty() {
-            let line = format!(in alloc; "{name} = {value}\n")?;
-            text.push_str(line.as_str())?;
+            add_line(rt, &mut text, name, value);
         }
     }
-    Ok(text)
+    text
+}
+
+/// The line of the fault of a file, and an empty one of a file that gives a machine.
+fn fault_line(rt: &impl Abort, alloc: Global, text: &[u8]) -> String {
+    assert!(rt; text.len() <= 65_536);
+    match read(alloc, text) {
+        Ok(_) => String::new(alloc),
+        Err(fault) => format!(in alloc; "{fault}").expect(rt, "memory for a line"),
+    }
 }
 
 /// Reads a file that is refused, and compares the line of its fault.
-fn expect_fault(rt: &impl Abort, alloc: Global, text: &[u8], wanted: &str) -> Result<(), Fail> {
-    assert!(rt; text.len() <= 65_536, "{wanted}");
-    let Err(fault) = read(alloc, text) else {
-        return Err(Fail::from(wanted));
-    };
-    let line = format!(in alloc; "{fault}")?;
-    assert_eq!(rt; line.as_str(), wanted);
-    Ok(())
+fn expect_fault(rt: &impl Abort, alloc: Global, text: &[u8], wanted: &str) {
+    expect_same(rt, &fault_line(rt, alloc, text).as_str(), &wanted);
 }
 
 /// Reads a file that gives a machine.
-fn machine(rt: &impl Abort, alloc: Global, text: &[u8]) -> Result<Machine, Fail> {
+fn machine(rt: &impl Abort, alloc: Global, text: &[u8]) -> Machine {
     assert!(rt; text.len() <= 65_536);
-    match read(alloc, text) {
-        Ok(machine) => Ok(machine),
-        Err(_) => Err(Fail::from("a machine file is refused")),
-    }
+    read(alloc, text)
+        .ok()
+        .expect(rt, "a machine file without a fault")
 }
 
-/// Compares a machine with the standard one.
-fn expect_standard(rt: &impl Abort, machine: &Machine) {
-    let standard = Machine::standard();
-    assert!(rt; machine.codes == Codes::standard());
-    assert!(rt; machine.times == Times::standard());
-    assert!(rt; machine.ports.inputs() == standard.ports.inputs());
-    assert!(rt; machine.ports.outputs() == standard.ports.outputs());
-    assert_eq!(rt; machine.deda_in, 0o2200);
-    assert_eq!(rt; machine.deda_out, 0o6200);
+/// Whether the codes and the times of a machine are the standard ones.
+fn has_standard_tables(machine: &Machine) -> bool {
+    machine.codes == Codes::standard() && machine.times == Times::standard()
+}
+
+/// Whether the registers of a machine are those of another.
+fn has_registers_of(machine: &Machine, other: &Machine) -> bool {
+    machine.ports.inputs() == other.ports.inputs()
+        && machine.ports.outputs() == other.ports.outputs()
+}
+
+/// Reads a file, and compares its machine with the standard one.
+fn expect_standard(rt: &impl Abort, alloc: Global, text: &[u8]) {
+    let machine = machine(rt, alloc, text);
+    assert!(rt; has_standard_tables(&machine));
+    assert!(rt; has_registers_of(&machine, &Machine::standard()));
+    expect_same(rt, &(machine.deda_in, machine.deda_out), &(0o2200, 0o6200));
+}
+
+/// A file with these registers, and with other values for one order.
+fn file_of(
+    rt: &impl Abort,
+    alloc: Global,
+    registers: &str,
+    order: &str,
+    code: &str,
+    time: &str,
+) -> String {
+    let codes = table(rt, alloc, "[codes]", &CODES, order, code);
+    let times = table(rt, alloc, "[times]", &TIMES, order, time);
+    joined(rt, alloc, &[registers, codes.as_str(), times.as_str()])
 }
 
 #[test]
-fn standard_machine_written_out(rt: HostRuntime) -> Result<(), Fail> {
+fn standard_machine_written_out(rt: HostRuntime) {
     let alloc = rt.alloc();
-    let codes = table(alloc, "[codes]", &CODES, "", "")?;
-    let times = table(alloc, "[times]", &TIMES, "", "")?;
-    let text = format!(in alloc; "{REGISTERS}{codes}{times}")?;
-    expect_standard(&rt, &machine(&rt, alloc, text.as_bytes())?);
-    expect_standard(&rt, &machine(&rt, alloc, b"")?);
-    expect_standard(
-        &rt,
-        &machine(&rt, alloc, b"# none\r\nname = \"LM\"\n[panel]\n")?,
-    );
-    let mut longest = String::new(alloc);
-    for _ in 0..65_536 {
-        longest.push_str("#")?;
-    }
-    expect_standard(&rt, &machine(&rt, alloc, longest.as_bytes())?);
-    Ok(())
+    let written = file_of(&rt, alloc, REGISTERS, "", "", "");
+    expect_standard(&rt, alloc, written.as_bytes());
+    let longest = repeated(&rt, alloc, "#", 65_536);
+    expect_standard(&rt, alloc, longest.as_bytes());
 }
 
 #[test]
-fn other_machines(rt: HostRuntime) -> Result<(), Fail> {
-    let alloc = rt.alloc();
-    let codes = table(alloc, "[codes]", &CODES, "CLA", "0o74")?;
-    let times = table(alloc, "[times]", &TIMES, "CLA", "1000")?;
-    let ports =
-        "input = [{ address = 4095, once = true }, { address = 0, name = 3 }]\noutput = []\ndeda_in = 7\n";
-    let text = format!(in alloc; "{ports}{codes}{times}")?;
-    let machine = machine(&rt, alloc, text.as_bytes())?;
-    assert_eq!(rt; machine.codes.code_of(Order::Cla), 0o36);
-    assert_eq!(rt; machine.codes.code_of(Order::Dvp), 0o01);
-    assert_eq!(rt; machine.time_of(Order::Cla), 1000);
-    assert_eq!(rt; machine.time_of(Order::Dvp), 73);
-    let once = Port {
+fn standard_machine_of_no_table(rt: HostRuntime) {
+    expect_standard(&rt, rt.alloc(), b"");
+    expect_standard(&rt, rt.alloc(), b"# none\r\nname = \"LM\"\n[panel]\n");
+}
+
+/// Other registers and another address of the panel.
+const OTHER_REGISTERS: &str =
+    "input = [{ address = 4095, once = true }, { address = 0, name = 3 }]\noutput = []\ndeda_in = 7\n";
+
+/// Expects the codes and the times of the orders CLA and DVP.
+fn expect_other_tables(rt: &impl Abort, machine: &Machine) {
+    let codes = &machine.codes;
+    expect_same(rt, &codes.code_of(Order::Cla), &0o36);
+    expect_same(rt, &codes.code_of(Order::Dvp), &0o01);
+    expect_same(rt, &machine.time_of(Order::Cla), &1000);
+    expect_same(rt, &machine.time_of(Order::Dvp), &73);
+}
+
+/// Its input registers.
+const OTHER_INPUTS: [Port; 2] = [
+    Port {
         address: 4095,
         once: true,
-    };
-    let held = Port {
+    },
+    Port {
         address: 0,
         once: false,
-    };
-    assert!(rt; machine.ports.inputs() == [once, held].as_slice());
+    },
+];
+
+/// Expects the registers of `OTHER_REGISTERS`.
+fn expect_other_registers(rt: &impl Abort, machine: &Machine) {
+    assert!(rt; machine.ports.inputs() == OTHER_INPUTS.as_slice());
     assert!(rt; machine.ports.outputs().is_empty());
-    assert_eq!(rt; machine.deda_in, 7);
-    assert_eq!(rt; machine.deda_out, 0o6200);
-    Ok(())
+    expect_same(rt, &(machine.deda_in, machine.deda_out), &(7, 0o6200));
 }
 
-/// Looks at the fault of each machine file.
-fn expect_faults(rt: &impl Abort, alloc: Global, rows: &[(&[u8], &str)]) -> Result<(), Fail> {
-    for (text, wanted) in rows.iter().copied() {
-        expect_fault(rt, alloc, text, wanted)?;
-    }
-    Ok(())
+#[test]
+fn other_machines(rt: HostRuntime) {
+    let alloc = rt.alloc();
+    let text = file_of(&rt, alloc, OTHER_REGISTERS, "CLA", "0o74", "1000");
+    let machine = machine(&rt, alloc, text.as_bytes());
+    expect_other_tables(&rt, &machine);
+    expect_other_registers(&rt, &machine);
 }
 
-/// The rows of `faults_of_documents`.
-const FAULTS_OF_DOCUMENTS: [(&[u8], &str); 3] = [
+/// Machine files, each with the line of its fault.
+const FAULTS: [(&[u8], &str); 36] = [
+    // documents
     (b"= =", "MACHINE ERROR 1 NotToml"),
     (b"# \xff", "MACHINE ERROR 1 NotToml"),
     (b"deda_in = 1\ndeda_in = 1", "MACHINE ERROR 1 NotToml"),
-];
-
-#[test]
-fn faults_of_documents(rt: HostRuntime) -> Result<(), Fail> {
-    expect_faults(&rt, rt.alloc(), &FAULTS_OF_DOCUMENTS)
-}
-
-/// The rows of `faults_of_tables`.
-const FAULTS_OF_TABLES: [(&[u8], &str); 8] = [
+    // the tables of codes and times
     (b"codes = 1", "MACHINE ERROR 3 BadValue codes"),
     (b"[[codes]]", "MACHINE ERROR 3 BadValue codes"),
     (
@@ -213,15 +262,7 @@ const FAULTS_OF_TABLES: [(&[u8], &str); 8] = [
     (b"[times]", "MACHINE ERROR 2 MissingKey times.ABS"),
     (b"times = 1\ncodes = 1", "MACHINE ERROR 3 BadValue codes"),
     (b"input = 1\ntimes = 1", "MACHINE ERROR 3 BadValue times"),
-];
-
-#[test]
-fn faults_of_tables(rt: HostRuntime) -> Result<(), Fail> {
-    expect_faults(&rt, rt.alloc(), &FAULTS_OF_TABLES)
-}
-
-/// The rows of `faults_of_input_addresses`.
-const FAULTS_OF_INPUT_ADDRESSES: [(&[u8], &str); 7] = [
+    // addresses of input registers
     (b"input = { address = 1 }", "MACHINE ERROR 3 BadValue input"),
     (b"input = [1]", "MACHINE ERROR 3 BadValue input.0"),
     (b"input = [{}]", "MACHINE ERROR 2 MissingKey input.0"),
@@ -241,15 +282,7 @@ const FAULTS_OF_INPUT_ADDRESSES: [(&[u8], &str); 7] = [
         b"input = [{ address = \"16\" }]",
         "MACHINE ERROR 3 BadValue input.0",
     ),
-];
-
-#[test]
-fn faults_of_input_addresses(rt: HostRuntime) -> Result<(), Fail> {
-    expect_faults(&rt, rt.alloc(), &FAULTS_OF_INPUT_ADDRESSES)
-}
-
-/// The rows of `faults_of_once_and_same_addresses`.
-const FAULTS_OF_ONCE_AND_SAME_ADDRESSES: [(&[u8], &str); 6] = [
+    // `once` and two registers of one address
     (
         b"input = [{ address = 1, once = 1 }]",
         "MACHINE ERROR 3 BadValue input.0",
@@ -274,15 +307,7 @@ const FAULTS_OF_ONCE_AND_SAME_ADDRESSES: [(&[u8], &str); 6] = [
         b"input = [{ address = 9 }, { address = 4095 }, { address = 0o7777 }, {}]",
         "MACHINE ERROR 5 SamePort 7777",
     ),
-];
-
-#[test]
-fn faults_of_once_and_same_addresses(rt: HostRuntime) -> Result<(), Fail> {
-    expect_faults(&rt, rt.alloc(), &FAULTS_OF_ONCE_AND_SAME_ADDRESSES)
-}
-
-/// The rows of `faults_of_outputs`.
-const FAULTS_OF_OUTPUTS: [(&[u8], &str); 5] = [
+    // output registers
     (
         b"output = 1\ninput = []\n",
         "MACHINE ERROR 3 BadValue output",
@@ -300,15 +325,7 @@ const FAULTS_OF_OUTPUTS: [(&[u8], &str); 5] = [
         b"[[output]]\naddress = 5\n[[output]]",
         "MACHINE ERROR 2 MissingKey output.1",
     ),
-];
-
-#[test]
-fn faults_of_outputs(rt: HostRuntime) -> Result<(), Fail> {
-    expect_faults(&rt, rt.alloc(), &FAULTS_OF_OUTPUTS)
-}
-
-/// The rows of `faults_of_panel_registers`.
-const FAULTS_OF_PANEL_REGISTERS: [(&[u8], &str); 7] = [
+    // the panel's addresses
     (b"deda_in = 4096", "MACHINE ERROR 3 BadValue deda_in"),
     (b"deda_in = true", "MACHINE ERROR 3 BadValue deda_in"),
     (
@@ -325,24 +342,23 @@ const FAULTS_OF_PANEL_REGISTERS: [(&[u8], &str); 7] = [
 ];
 
 #[test]
-fn faults_of_panel_registers(rt: HostRuntime) -> Result<(), Fail> {
-    expect_faults(&rt, rt.alloc(), &FAULTS_OF_PANEL_REGISTERS)
+fn faults_of_files(rt: HostRuntime) {
+    for &(text, wanted) in &FAULTS {
+        expect_fault(&rt, rt.alloc(), text, wanted);
+    }
 }
 
 #[test]
-fn too_many_registers_are_a_fault(rt: HostRuntime) -> Result<(), Fail> {
+fn too_many_registers_are_a_fault(rt: HostRuntime) {
     let alloc = rt.alloc();
-    let mut many = String::from_str(alloc, "output = [")?;
-    for _ in 0..33 {
-        many.push_str("1,")?;
-    }
-    many.push_str("]")?;
+    let many = repeated(&rt, alloc, "1,", 33);
+    let text = joined(&rt, alloc, &["output = [", many.as_str(), "]"]);
     expect_fault(
         &rt,
         alloc,
-        many.as_bytes(),
+        text.as_bytes(),
         "MACHINE ERROR 3 BadValue output",
-    )
+    );
 }
 
 #[test]
@@ -352,50 +368,95 @@ fn want_of_memory_prints_nothing(rt: HostRuntime) -> Result<(), Fail> {
     Ok(())
 }
 
+/// Leaves an order out of a table, and looks at the fault, which ends in its name.
+fn expect_missing(
+    rt: &impl Abort,
+    alloc: Global,
+    header: &str,
+    rows: &[(&str, &str)],
+    order: &str,
+    fault: &str,
+) {
+    let text = table(rt, alloc, header, rows, order, "");
+    let wanted = joined(rt, alloc, &[fault, order]);
+    expect_fault(rt, alloc, text.as_bytes(), wanted.as_str());
+}
+
 #[test]
-fn missing_orders_are_a_fault(rt: HostRuntime) -> Result<(), Fail> {
-    let alloc = rt.alloc();
+fn missing_orders_are_a_fault(rt: HostRuntime) {
+    let (alloc, codes, times) = (rt.alloc(), "[codes]", "[times]");
     for &(order, _) in &CODES {
-        let missing = table(alloc, "[codes]", &CODES, order, "")?;
-        let wanted = format!(in alloc; "MACHINE ERROR 2 MissingKey codes.{order}")?;
-        expect_fault(&rt, alloc, missing.as_bytes(), wanted.as_str())?;
-        let missing = table(alloc, "[times]", &TIMES, order, "")?;
-        let wanted = format!(in alloc; "MACHINE ERROR 2 MissingKey times.{order}")?;
-        expect_fault(&rt, alloc, missing.as_bytes(), wanted.as_str())?;
+        expect_missing(
+            &rt,
+            alloc,
+            codes,
+            &CODES,
+            order,
+            "MACHINE ERROR 2 MissingKey codes.",
+        );
+        expect_missing(
+            &rt,
+            alloc,
+            times,
+            &TIMES,
+            order,
+            "MACHINE ERROR 2 MissingKey times.",
+        );
     }
-    Ok(())
 }
 
+/// Expects the fault of a table where one order has another value.
+fn expect_value_fault(
+    rt: &impl Abort,
+    alloc: Global,
+    header: &str,
+    rows: &[(&str, &str)],
+    order: &str,
+    value: &str,
+    wanted: &str,
+) {
+    let text = table(rt, alloc, header, rows, order, value);
+    expect_fault(rt, alloc, text.as_bytes(), wanted);
+}
+
+/// What is no code.
+const BAD_CODES: [&str; 9] = [
+    "63", "64", "1", "0o21", "-2", "16.0", "true", "\"16\"", "[16]",
+];
+
+/// What is no time.
+const BAD_TIMES: [&str; 7] = ["0", "1001", "-1", "10.0", "false", "\"10\"", "{}"];
+
 #[test]
-fn bad_codes_and_times_are_a_fault(rt: HostRuntime) -> Result<(), Fail> {
-    let alloc = rt.alloc();
-    for value in [
-        "63", "64", "1", "0o21", "-2", "16.0", "true", "\"16\"", "[16]",
-    ] {
-        let wrong = table(alloc, "[codes]", &CODES, "ADD", value)?;
+fn bad_codes_are_a_fault(rt: HostRuntime) {
+    for value in &BAD_CODES {
         let wanted = "MACHINE ERROR 3 BadValue codes.ADD";
-        expect_fault(&rt, alloc, wrong.as_bytes(), wanted)?;
+        expect_value_fault(&rt, rt.alloc(), "[codes]", &CODES, "ADD", value, wanted);
     }
-    for value in ["0", "1001", "-1", "10.0", "false", "\"10\"", "{}"] {
-        let wrong = table(alloc, "[times]", &TIMES, "TSQ", value)?;
-        let wanted = "MACHINE ERROR 3 BadValue times.TSQ";
-        expect_fault(&rt, alloc, wrong.as_bytes(), wanted)?;
-    }
-    Ok(())
 }
 
 #[test]
-fn orders_of_one_code_are_a_fault(rt: HostRuntime) -> Result<(), Fail> {
+fn bad_times_are_a_fault(rt: HostRuntime) {
+    for value in &BAD_TIMES {
+        let wanted = "MACHINE ERROR 3 BadValue times.TSQ";
+        expect_value_fault(&rt, rt.alloc(), "[times]", &TIMES, "TSQ", value, wanted);
+    }
+}
+
+#[test]
+fn orders_of_one_code_are_a_fault(rt: HostRuntime) {
     let alloc = rt.alloc();
-    let same = table(alloc, "[codes]", &CODES, "ADD", "0o20")?;
     let wanted = "MACHINE ERROR 4 SameCode ADD CLA";
-    expect_fault(&rt, alloc, same.as_bytes(), wanted)?;
+    expect_value_fault(&rt, alloc, "[codes]", &CODES, "ADD", "0o20", wanted);
     // TSQ and DVP have the code of ABS, and ABS and DVP are the least pair.
-    let mut rows = CODES;
-    rows[26] = ("TSQ", "0o62");
-    let three = table(alloc, "[codes]", &rows, "DVP", "0o62")?;
-    let wanted = "MACHINE ERROR 4 SameCode ABS DVP";
-    expect_fault(&rt, alloc, three.as_bytes(), wanted)
+    let mut three = table(&rt, alloc, "[codes]", &CODES[..26], "DVP", "0o62");
+    add_line(&rt, &mut three, "TSQ", "0o62");
+    expect_fault(
+        &rt,
+        alloc,
+        three.as_bytes(),
+        "MACHINE ERROR 4 SameCode ABS DVP",
+    );
 }
 
 #[test]

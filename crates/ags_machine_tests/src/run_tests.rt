@@ -1,9 +1,9 @@
 //! Scripts that are played on the standard machine, with what they print typed by hand.
 
-ghost use Rattle.std.specs.Prelude.{◌≤◌, length, None, IfOk};
+ghost use Rattle.std.specs.Prelude.{◌≤◌, length, None};
 ghost use Rattle.ags_script.specs.Script.{IsReadFor};
 
-use crate::common::word;
+use crate::common::{expect_same, word};
 use ags_cert::{Cert, CertParts};
 use ags_domain::{Domain, Range, Value};
 use ags_image::Image;
@@ -11,17 +11,44 @@ use ags_outside::{PutDone, Sink, SteadySink};
 use ags_ports::Machine;
 use ags_row::{Limits, Row, RowParts};
 use ags_run::{Outside, PlayError, Played, play};
-use ags_script::{SCRIPT_LIMIT, Script, ScriptError, read};
+use ags_script::{SCRIPT_LIMIT, Script, read};
 use std::alloc::Global;
 use std::process::Abort;
-use std::test::Fail;
 
 /// The script of a text for a machine.
-fn script_of(alloc: Global, text: &str, machine: &Machine) -> Result<Script, ScriptError>
+fn script_of(rt: &impl Abort, alloc: Global, text: &str, machine: &Machine) -> Script
     requires { length text.now ≤ SCRIPT_LIMIT }
-    ensures { IfOk result (IsReadFor machine.now) }
+    ensures { IsReadFor machine.now result }
 {
     read(alloc, text.as_bytes(), machine)
+        .ok()
+        .expect(rt, "a script without a fault")
+}
+
+/// An image with these words in its cells.
+fn image_of(rt: &impl Abort, alloc: Global, cells: &[(u16, u32)]) -> Image {
+    let mut image = Image::new(alloc).expect(rt, "memory for an image");
+    for &(address, number) in cells {
+        assert!(rt; address < 4096);
+        image.set(address, word(rt, number));
+    }
+    image
+}
+
+/// Plays a script with these words in the cells.
+fn played(
+    rt: &impl Abort,
+    alloc: Global,
+    cells: &[(u16, u32)],
+    script: &str,
+    guard: Option<&Cert>,
+    out: &mut SteadySink,
+) -> Result<Played, PlayError> {
+    assert!(rt; script.len() <= SCRIPT_LIMIT);
+    let machine = Machine::standard();
+    let commands = script_of(rt, alloc, script, &machine);
+    let image = image_of(rt, alloc, cells);
+    play(alloc, &machine, &image, &commands, guard, out)
 }
 
 /// Plays a script with these words in the cells, and looks at the answer and at what it prints.
@@ -33,187 +60,123 @@ fn expect_play(
     guard: Option<&Cert>,
     text: &str,
     wanted: Result<Played, PlayError>,
-) -> Result<(), Fail> {
-    assert!(rt; script.len() <= SCRIPT_LIMIT);
-    let machine = Machine::standard();
-    let mut image = Image::new(alloc)?;
-    for (address, number) in cells.iter().copied() {
-        assert!(rt; address < 4096);
-        image.set(address, word(rt, number));
-    }
-    let commands = script_of(alloc, script, &machine)?;
+) {
     let mut out = SteadySink::new(alloc, 7);
-    let played = play(alloc, &machine, &image, &commands, guard, &mut out);
-    assert!(rt; played == wanted, "{script}");
-    assert!(rt; out.bytes() == text.as_bytes(), "{script}");
-    Ok(())
+    let answer = played(rt, alloc, cells, script, guard, &mut out);
+    expect_same(
+        rt,
+        &(script, answer, out.bytes()),
+        &(script, wanted, text.as_bytes()),
+    );
 }
 
-/// Plays each script with these words in the cells and without a guard, and looks at what it prints and at how many steps and puts
-/// are counted.
-fn expect_plays(
-    rt: &impl Abort,
-    alloc: Global,
-    cells: &[(u16, u32)],
-    rows: &[(&str, &str, u64, u64)],
-) -> Result<(), Fail> {
-    for (script, text, steps, puts) in rows.iter().copied() {
-        expect_play(
-            rt,
-            alloc,
-            cells,
-            script,
-            None,
-            text,
-            Ok(Played { steps, puts }),
-        )?;
+/// DLY 4000.
+const WAITS: &[(u16, u32)] = &[(0o4000, 0o704000)];
+
+/// CLA 4010, ADD 4011, and TOV 4004.
+const OVERFLOWS: &[(u16, u32)] = &[
+    (0o4000, 0o204010),
+    (0o4001, 0o224011),
+    (0o4002, 0o444004),
+    (0o4010, 0o377777),
+    (0o4011, 0o000001),
+];
+
+/// INP 2001, OUT 6001, AXT 0005, LDQ 4000, and a word that is no order.
+const COPIES: &[(u16, u32)] = &[
+    (0o4000, 0o642001),
+    (0o4001, 0o666001),
+    (0o4002, 0o500005),
+    (0o4003, 0o144000),
+    (0o4004, 0o000000),
+];
+
+/// CLA 0020.
+const READS: &[(u16, u32)] = &[(0o17, 0o200020), (0o20, 0o000001)];
+
+/// DVP 4002, of 73 microseconds, TRA 4000, of 10, and the word 1: three cycles end 3, 6 and 9 microseconds late, behind 482 steps
+/// each, and the fourth behind the DVP of 481.
+const LOOPS: &[(u16, u32)] = &[(0o4000, 0o024002), (0o4001, 0o404000), (0o4002, 0o000001)];
+
+/// INP 2200, OUT 6200, DLY 4000: what the panel sends is shown to it.
+const ECHOES: &[(u16, u32)] = &[(0o4000, 0o642200), (0o4001, 0o666200), (0o4002, 0o704000)];
+
+/// The words in the cells, a script, what it prints without a guard, and how many steps and puts are counted.
+const PLAYS: [(&[(u16, u32)], &str, &str, u64, u64); 10] = [
+    // pulses end a wait
+    (
+        WAITS,
+        "PULSE\nSTEP 2\nSHOW REG\nPULSE\nSHOW REG\n",
+        "A 000000 Q 000000 X 0 V 0 P 4000 W\nA 000000 Q 000000 X 0 V 0 P 4000 R\n",
+        2,
+        0,
+    ),
+    // steps run orders
+    (
+        OVERFLOWS,
+        "STEP 2\nSHOW REG\nSTEP 1\nSHOW REG\nSTEP 0\nSHOW CELL 4010\n",
+        "A 400000 Q 000000 X 0 V 1 P 4002 R\nA 400000 Q 000000 X 0 V 0 P 4004 R\nCELL 4010 377777\n",
+        3,
+        0,
+    ),
+    // words are put and shown
+    (
+        COPIES,
+        "SET 2001 012345\nSHOW OUT 6001\nSTEP 2\nSHOW OUT 6001\nSTEP 3\nSHOW REG\nPULSE\nSHOW REG\n",
+        "OUT 6001 000000\nOUT 6001 012345\nA 012345 Q 642001 X 5 V 0 P 4004 H\nA 012345 Q 642001 X 5 V 0 P 4004 H\n",
+        5,
+        1,
+    ),
+    // the last setting of a cell counts
+    (
+        READS,
+        "CELL 0020 000002\nPORT 2001 000004\nSTART 0017\nCELL 0020 000003\nSTEP 1\nSHOW REG\nSTEP 1\nSHOW REG\n",
+        "A 000003 Q 000000 X 0 V 0 P 0020 R\nA 000003 Q 000000 X 0 V 0 P 0020 H\n",
+        2,
+        0,
+    ),
+    // cycles of a wait are played
+    (
+        WAITS,
+        "CYCLE 2\nSHOW REG\n",
+        "A 000000 Q 000000 X 0 V 0 P 4000 W\n",
+        2,
+        0,
+    ),
+    (WAITS, "CYCLE 0\n", "", 0, 0),
+    // the first digit's word is there till an order reads it
+    (WAITS, "KEY CLR 0 4 7 RO\nCYCLE 3\n", "", 3, 1),
+    // cycles carry their time on
+    (
+        LOOPS,
+        "CYCLE 3\nSHOW REG\nSTEP 2\nCYCLE 1\nSHOW REG\n",
+        "A 000000 Q 000000 X 0 V 0 P 4000 R\nA 000000 Q 000000 X 0 V 0 P 4001 R\n",
+        1929,
+        0,
+    ),
+    // the panel is played
+    (
+        ECHOES,
+        "KEY CLR 0 4 7 + 0 1 2 3 4 ENTR\nFEED\nFEED\nSTEP 2\nSHOW OUT 6200\nSHOW DEDA\n",
+        "OUT 6200 000024\nDEDA |047+01234 |\n",
+        2,
+        2,
+    ),
+    (
+        ECHOES,
+        "KEY CLR 0 4 7 RO\nSHOW DEDA\nCYCLE 10\nSHOW DEDA\nKEY 9\nFEED\nSHOW DEDA\n",
+        "DEDA |047       |\nDEDA |047?????? |\nDEDA |047??????E|\n",
+        30,
+        9,
+    ),
+];
+
+#[test]
+fn scripts_are_played(rt: HostRuntime) {
+    for &(cells, script, text, steps, puts) in &PLAYS {
+        let wanted = Ok(Played { steps, puts });
+        expect_play(&rt, rt.alloc(), cells, script, None, text, wanted);
     }
-    Ok(())
-}
-
-#[test]
-fn pulses_end_a_wait(rt: HostRuntime) -> Result<(), Fail> {
-    // DLY 4000
-    let waits = [(0o4000, 0o704000)];
-    expect_plays(
-        &rt,
-        rt.alloc(),
-        &waits,
-        &[(
-            "PULSE\nSTEP 2\nSHOW REG\nPULSE\nSHOW REG\n",
-            "A 000000 Q 000000 X 0 V 0 P 4000 W\nA 000000 Q 000000 X 0 V 0 P 4000 R\n",
-            2,
-            0,
-        )],
-    )
-}
-
-#[test]
-fn steps_run_orders(rt: HostRuntime) -> Result<(), Fail> {
-    // CLA 4010, ADD 4011, and TOV 4004
-    let overflows = [
-        (0o4000, 0o204010),
-        (0o4001, 0o224011),
-        (0o4002, 0o444004),
-        (0o4010, 0o377777),
-        (0o4011, 0o000001),
-    ];
-    expect_plays(
-        &rt,
-        rt.alloc(),
-        &overflows,
-        &[(
-            "STEP 2\nSHOW REG\nSTEP 1\nSHOW REG\nSTEP 0\nSHOW CELL 4010\n",
-            "A 400000 Q 000000 X 0 V 1 P 4002 R\nA 400000 Q 000000 X 0 V 0 P 4004 R\nCELL 4010 377777\n",
-            3,
-            0,
-        )],
-    )
-}
-
-#[test]
-fn words_are_put_and_shown(rt: HostRuntime) -> Result<(), Fail> {
-    // INP 2001, OUT 6001, AXT 0005, LDQ 4000, and a word that is no order
-    let copies = [
-        (0o4000, 0o642001),
-        (0o4001, 0o666001),
-        (0o4002, 0o500005),
-        (0o4003, 0o144000),
-        (0o4004, 0o000000),
-    ];
-    expect_plays(
-        &rt,
-        rt.alloc(),
-        &copies,
-        &[(
-            "SET 2001 012345\nSHOW OUT 6001\nSTEP 2\nSHOW OUT 6001\nSTEP 3\nSHOW REG\nPULSE\nSHOW REG\n",
-            "OUT 6001 000000\nOUT 6001 012345\nA 012345 Q 642001 X 5 V 0 P 4004 H\nA 012345 Q 642001 X 5 V 0 P 4004 H\n",
-            5,
-            1,
-        )],
-    )
-}
-
-#[test]
-fn last_setting_of_a_cell_counts(rt: HostRuntime) -> Result<(), Fail> {
-    // CLA 0020
-    let reads = [(0o17, 0o200020), (0o20, 0o000001)];
-    expect_plays(
-        &rt,
-        rt.alloc(),
-        &reads,
-        &[(
-            "CELL 0020 000002\nPORT 2001 000004\nSTART 0017\nCELL 0020 000003\nSTEP 1\nSHOW REG\nSTEP 1\nSHOW REG\n",
-            "A 000003 Q 000000 X 0 V 0 P 0020 R\nA 000003 Q 000000 X 0 V 0 P 0020 H\n",
-            2,
-            0,
-        )],
-    )
-}
-
-#[test]
-fn cycles_of_a_wait_are_played(rt: HostRuntime) -> Result<(), Fail> {
-    // DLY 4000
-    let waits = [(0o4000, 0o704000)];
-    expect_plays(
-        &rt,
-        rt.alloc(),
-        &waits,
-        &[
-            (
-                "CYCLE 2\nSHOW REG\n",
-                "A 000000 Q 000000 X 0 V 0 P 4000 W\n",
-                2,
-                0,
-            ),
-            ("CYCLE 0\n", "", 0, 0),
-            // the first digit's word is there till an order reads it
-            ("KEY CLR 0 4 7 RO\nCYCLE 3\n", "", 3, 1),
-        ],
-    )
-}
-
-#[test]
-fn cycles_carry_their_time_on(rt: HostRuntime) -> Result<(), Fail> {
-    // DVP 4002, of 73 microseconds, TRA 4000, of 10, and the word 1: three cycles end 3, 6 and 9 microseconds late, behind 482 steps
-    // each, and the fourth behind the DVP of 481
-    let loops = [(0o4000, 0o024002), (0o4001, 0o404000), (0o4002, 0o000001)];
-    expect_plays(
-        &rt,
-        rt.alloc(),
-        &loops,
-        &[(
-            "CYCLE 3\nSHOW REG\nSTEP 2\nCYCLE 1\nSHOW REG\n",
-            "A 000000 Q 000000 X 0 V 0 P 4000 R\nA 000000 Q 000000 X 0 V 0 P 4001 R\n",
-            1929,
-            0,
-        )],
-    )
-}
-
-#[test]
-fn panel_is_played(rt: HostRuntime) -> Result<(), Fail> {
-    // INP 2200, OUT 6200, DLY 4000: what the panel sends is shown to it
-    let echoes = [(0o4000, 0o642200), (0o4001, 0o666200), (0o4002, 0o704000)];
-    expect_plays(
-        &rt,
-        rt.alloc(),
-        &echoes,
-        &[
-            (
-                "KEY CLR 0 4 7 + 0 1 2 3 4 ENTR\nFEED\nFEED\nSTEP 2\nSHOW OUT 6200\nSHOW DEDA\n",
-                "OUT 6200 000024\nDEDA |047+01234 |\n",
-                2,
-                2,
-            ),
-            (
-                "KEY CLR 0 4 7 RO\nSHOW DEDA\nCYCLE 10\nSHOW DEDA\nKEY 9\nFEED\nSHOW DEDA\n",
-                "DEDA |047       |\nDEDA |047?????? |\nDEDA |047??????E|\n",
-                30,
-                9,
-            ),
-        ],
-    )
 }
 
 /// The value that is a range of two values.
@@ -221,13 +184,9 @@ fn value(rt: &impl Abort, least: i32, greatest: i32) -> Value {
     Value::Range(Range::of(least, greatest).expect(rt, "the ends of a range"))
 }
 
-/// A certificate that starts at 4000 octal, with 0 to 9 at the input register 2001 octal, 0 to 22 at 2200, and 5 to 7 in the
-/// cell 17 octal at the start.
-fn guard(rt: &impl Abort, alloc: Global) -> Cert {
-    let mut limits: Limits<Value> = Limits::new(alloc).expect(rt, "memory for limits");
-    limits.set_input(0o2001, value(rt, 0, 9));
-    limits.set_input(0o2200, value(rt, 0, 22));
-    let row = Row::of(RowParts {
+/// A row at 4000 octal where all may stand with index 0 and a clear indicator.
+fn row(rt: &impl Abort, alloc: Global) -> Row<Value> {
+    Row::of(RowParts {
         location: 0o4000,
         a: Value::full(),
         q: Value::full(),
@@ -235,80 +194,97 @@ fn guard(rt: &impl Abort, alloc: Global) -> Cert {
         v: [true, false],
         at: Vec::new(alloc),
     })
-    .expect(rt, "the parts of a row");
-    let mut rows = Vec::new(alloc);
-    assert!(rt; rows.push(row).is_ok());
+    .expect(rt, "the parts of a row")
+}
+
+/// The limits of `guard`.
+fn guard_limits(rt: &impl Abort, alloc: Global) -> Limits<Value> {
+    let mut limits: Limits<Value> = Limits::new(alloc).expect(rt, "memory for limits");
+    limits.set_input(0o2001, value(rt, 0, 9));
+    limits.set_input(0o2200, value(rt, 0, 22));
+    limits
+}
+
+/// What `guard` says of the start.
+fn guard_start(rt: &impl Abort, alloc: Global) -> Vec<Option<Value>> {
     let mut init: Vec<Option<Value>> = vec![in alloc; None; 2048].expect(
         rt,
         "memory for the start",
     );
     init[0o17] = Some(value(rt, 5, 7));
+    init
+}
+
+/// A certificate that starts at 4000 octal, with 0 to 9 at the input register 2001 octal, 0 to 22 at 2200, and 5 to 7 in the
+/// cell 17 octal at the start.
+fn guard(rt: &impl Abort, alloc: Global) -> Cert {
+    let mut rows = Vec::new(alloc);
+    assert!(rt; rows.push(row(rt, alloc)).is_ok());
     let parts = CertParts {
         start: 0o4000,
-        limits,
-        init,
+        limits: guard_limits(rt, alloc),
+        init: guard_start(rt, alloc),
         rows,
     };
     let made = Cert::of(alloc, parts).expect(rt, "memory for a certificate");
     made.expect(rt, "the parts of a certificate")
 }
 
-#[test]
-fn guard_stops_words(rt: HostRuntime) -> Result<(), Fail> {
-    let cert = guard(&rt, rt.alloc());
-    let rows = [
-        (
-            "CELL 0017 000006\nSET 2001 000011\nSHOW OUT 6001\nSET 2002 777777\nSTEP 3\n",
-            "OUT 6001 000000\n",
-            Ok(Played { steps: 3, puts: 2 }),
-        ),
-        (
-            "CELL 0017 000006\nSHOW OUT 6001\nSET 2001 000012\nSHOW OUT 6001\n",
-            "OUT 6001 000000\n",
-            Err(PlayError::InputRange {
-                address: 0o2001,
-                word: word(&rt, 10),
-            }),
-        ),
-        (
-            "CELL 0017 000006\nKEY CLR 0 4 7 RO\nFEED\nFEED\nSHOW OUT 6001\nFEED\nSHOW OUT 6001\n",
-            "OUT 6001 000000\n",
-            Err(PlayError::InputRange {
-                address: 0o2200,
-                word: word(&rt, 0o27),
-            }),
-        ),
-    ];
-    for (script, text, wanted) in rows {
-        expect_play(
-            &rt,
-            rt.alloc(),
-            &[(0o4000, 0o404000)],
-            script,
-            Some(&cert),
-            text,
-            wanted,
-        )?;
-    }
-    Ok(())
+/// Plays a script under the guard, where the cell 4000 octal is assembled with a jump to itself, and looks that it shows one output
+/// register and ends so.
+fn expect_guarded(
+    rt: &impl Abort,
+    alloc: Global,
+    cert: &Cert,
+    script: &str,
+    wanted: Result<Played, PlayError>,
+) {
+    let text = "OUT 6001 000000\n";
+    expect_play(
+        rt,
+        alloc,
+        &[(0o4000, 0o404000)],
+        script,
+        Some(cert),
+        text,
+        wanted,
+    );
 }
 
-/// Plays each script under the guard, where the cell 21 octal is assembled with 2, and looks that it shows nothing and stops at that
+/// The error at a register that is put a word outside its limit.
+fn out_of_limit(rt: &impl Abort, address: u16, number: u32) -> Result<Played, PlayError> {
+    Err(PlayError::InputRange {
+        address,
+        word: word(rt, number),
+    })
+}
+
+#[test]
+fn guard_stops_words(rt: HostRuntime) {
+    let alloc = rt.alloc();
+    let cert = guard(&rt, alloc);
+    let script = "CELL 0017 000006\nSET 2001 000011\nSHOW OUT 6001\nSET 2002 777777\nSTEP 3\n";
+    expect_guarded(&rt, alloc, &cert, script, Ok(Played { steps: 3, puts: 2 }));
+    let script = "CELL 0017 000006\nSHOW OUT 6001\nSET 2001 000012\nSHOW OUT 6001\n";
+    expect_guarded(&rt, alloc, &cert, script, out_of_limit(&rt, 0o2001, 10));
+    let script =
+        "CELL 0017 000006\nKEY CLR 0 4 7 RO\nFEED\nFEED\nSHOW OUT 6001\nFEED\nSHOW OUT 6001\n";
+    expect_guarded(&rt, alloc, &cert, script, out_of_limit(&rt, 0o2200, 0o27));
+}
+
+/// Plays a script under the guard, where the cell 21 octal is assembled with 2, and looks that it shows nothing and stops at that
 /// start.
-fn expect_outside(rt: &impl Abort, alloc: Global, rows: &[(&str, Outside)]) -> Result<(), Fail> {
-    let cert = guard(rt, alloc);
-    for (script, outside) in rows.iter().copied() {
-        expect_play(
-            rt,
-            alloc,
-            &[(0o21, 0o000002)],
-            script,
-            Some(&cert),
-            "",
-            Err(PlayError::StartOutside(outside)),
-        )?;
-    }
-    Ok(())
+fn expect_outside(rt: &impl Abort, alloc: Global, cert: &Cert, script: &str, outside: Outside) {
+    let wanted = Err(PlayError::StartOutside(outside));
+    expect_play(
+        rt,
+        alloc,
+        &[(0o21, 0o000002)],
+        script,
+        Some(cert),
+        "",
+        wanted,
+    );
 }
 
 /// The cell at an address that has a word at the start.
@@ -319,48 +295,31 @@ fn cell(rt: &impl Abort, address: u16, number: u32) -> Outside {
     }
 }
 
+/// The register at an address that has a word at the start.
+fn register(rt: &impl Abort, address: u16, number: u32) -> Outside {
+    Outside::Port {
+        address,
+        word: word(rt, number),
+    }
+}
+
 #[test]
-fn guard_stops_starts(rt: HostRuntime) -> Result<(), Fail> {
+fn guard_stops_starts(rt: HostRuntime) {
+    let alloc = rt.alloc();
+    let cert = guard(&rt, alloc);
     let elsewhere = Outside::Place {
         script: 0o4001,
         cert: 0o4000,
     };
-    expect_outside(&rt, rt.alloc(), &[("START 4001\nSHOW REG\n", elsewhere)])
-}
-
-#[test]
-fn guard_stops_cells_of_the_start(rt: HostRuntime) -> Result<(), Fail> {
-    let rows = [
-        (
-            "CELL 0017 000010\nCELL 0020 000001\nSHOW REG\n",
-            cell(&rt, 0o17, 8),
-        ),
-        (
-            "PORT 2001 000012\nCELL 0017 000005\nCELL 0020 000001\nSHOW REG\n",
-            cell(&rt, 0o20, 1),
-        ),
-        (
-            "CELL 0017 000007\nCELL 0021 000003\nSHOW REG\n",
-            cell(&rt, 0o21, 3),
-        ),
-    ];
-    expect_outside(&rt, rt.alloc(), &rows)
-}
-
-#[test]
-fn guard_stops_registers_of_the_start(rt: HostRuntime) -> Result<(), Fail> {
-    let register = Outside::Port {
-        address: 0o2001,
-        word: word(&rt, 10),
-    };
-    expect_outside(
-        &rt,
-        rt.alloc(),
-        &[(
-            "CELL 0017 000005\nPORT 2200 000027\nPORT 2001 000012\nSHOW REG\n",
-            register,
-        )],
-    )
+    expect_outside(&rt, alloc, &cert, "START 4001\nSHOW REG\n", elsewhere);
+    let script = "CELL 0017 000010\nCELL 0020 000001\nSHOW REG\n";
+    expect_outside(&rt, alloc, &cert, script, cell(&rt, 0o17, 8));
+    let script = "PORT 2001 000012\nCELL 0017 000005\nCELL 0020 000001\nSHOW REG\n";
+    expect_outside(&rt, alloc, &cert, script, cell(&rt, 0o20, 1));
+    let script = "CELL 0017 000007\nCELL 0021 000003\nSHOW REG\n";
+    expect_outside(&rt, alloc, &cert, script, cell(&rt, 0o21, 3));
+    let script = "CELL 0017 000005\nPORT 2200 000027\nPORT 2001 000012\nSHOW REG\n";
+    expect_outside(&rt, alloc, &cert, script, register(&rt, 0o2001, 10));
 }
 
 /// A sink that tells nothing, and fails after so many puts.
@@ -385,21 +344,21 @@ impl Sink for ShortSink {
     }
 }
 
+/// Plays a script of two lines that are shown into a sink with room for so many puts, and looks at the answer.
+fn expect_room(rt: &impl Abort, alloc: Global, room: u64, wanted: Result<Played, PlayError>) {
+    let machine = Machine::standard();
+    let script = script_of(rt, alloc, "STEP 1\nSHOW REG\nPULSE\nSHOW REG\n", &machine);
+    let image = image_of(rt, alloc, &[]);
+    let mut sink = ShortSink { room, faults: 0 };
+    let answer = play(alloc, &machine, &image, &script, None, &mut sink);
+    expect_same(rt, &(room, answer), &(room, wanted));
+}
+
 // Each line is put as one piece, so that the two lines take two puts.
 #[test]
-fn fault_in_mid_script_is_told(rt: HostRuntime) -> Result<(), Fail> {
-    let machine = Machine::standard();
-    let image = Image::new(rt.alloc())?;
-    let script = script_of(rt.alloc(), "STEP 1\nSHOW REG\nPULSE\nSHOW REG\n", &machine)?;
-    let whole = Played { steps: 1, puts: 0 };
-    for (room, wanted) in [
-        (0, Err(PlayError::WriteFault)),
-        (1, Err(PlayError::WriteFault)),
-        (2, Ok(whole)),
-    ] {
-        let mut sink = ShortSink { room, faults: 0 };
-        let played = play(rt.alloc(), &machine, &image, &script, None, &mut sink);
-        assert!(rt; played == wanted, "{room} puts");
-    }
-    Ok(())
+fn fault_in_mid_script_is_told(rt: HostRuntime) {
+    let alloc = rt.alloc();
+    expect_room(&rt, alloc, 0, Err(PlayError::WriteFault));
+    expect_room(&rt, alloc, 1, Err(PlayError::WriteFault));
+    expect_room(&rt, alloc, 2, Ok(Played { steps: 1, puts: 0 }));
 }

@@ -1,11 +1,14 @@
 //! Rows worked by hand: TRA takes 10 microseconds on the standard machine.
 
-use crate::common::word;
+ghost use Rattle.ags_ports.specs.State.{IsState};
+
+use crate::common::{expect_same, word};
 use ags_core::Core;
 use ags_image::Image;
 use ags_ports::{Machine, Phase, Report};
 use ags_timed::{Watcher, laws, run_for};
-use std::test::Fail;
+use std::alloc::Global;
+use std::process::Abort;
 
 /// Where each row begins, 4000 octal.
 const START: u16 = 2048;
@@ -47,32 +50,46 @@ const TIMED: [Timed; 8] = [
     (0o724000, 17, 2, 2, 32, Phase::Running, START),
 ];
 
+/// A core with a word at the start, and nothing else.
+fn started(rt: &impl Abort, alloc: Global, machine: &Machine, number: u32) -> Core
+    ensures { IsState machine.now result }
+{
+    let mut image = Image::new(alloc).expect(rt, "memory for an image");
+    image.set(START, word(rt, number));
+    Core::new(alloc, machine, &image, START).expect(rt, "memory for a core")
+}
+
+/// Expects in which phase and where a core is.
+fn expect_state(rt: &impl Abort, core: &Core, phase: Phase, location: u16) {
+    expect_same(rt, &(core.phase(), core.location()), &(phase, location));
+}
+
+/// Runs from a core with just a word for some microseconds, and looks at what the row says of it.
+fn expect_run(rt: &impl Abort, alloc: Global, machine: &Machine, row: &Timed) {
+    let (number, micros, steps, ran, spent, phase, location) = *row;
+    assert!(rt; micros <= 20_000);
+    let mut core = started(rt, alloc, machine, number);
+    let mut watcher = Counter {
+        steps: 0,
+        ran: 0,
+        last: 0,
+    };
+    let told = run_for(&mut core, machine, micros, &mut watcher);
+    expect_same(
+        rt,
+        &(watcher.steps, watcher.ran, told),
+        &(steps, ran, spent),
+    );
+    assert!(rt; steps == 0 || watcher.last == START);
+    expect_state(rt, &core, phase, location);
+}
+
 #[test]
-fn timed_runs(rt: HostRuntime) -> Result<(), Fail> {
+fn timed_runs(rt: HostRuntime) {
     let machine = Machine::standard();
-    for (row, (number, micros, steps, ran, spent, phase, location)) in TIMED
-        .into_iter()
-        .enumerate()
-    {
-        let mut image = Image::new(rt.alloc())?;
-        image.set(START, word(&rt, number));
-        let mut core = Core::new(rt.alloc(), &machine, &image, START)?;
-        let mut watcher = Counter {
-            steps: 0,
-            ran: 0,
-            last: 0,
-        };
-        assert!(rt; micros <= 20_000);
-        let told = run_for(&mut core, &machine, micros, &mut watcher);
-        assert!(rt; told == spent, "row {row}");
-        assert!(rt; watcher.steps == steps && watcher.ran == ran, "row {row}");
-        assert!(rt; steps == 0 || watcher.last == START, "row {row}");
-        assert!(rt;
-            core.phase() == phase && core.location() == location,
-            "row {row}"
-        );
+    for row in &TIMED {
+        expect_run(&rt, rt.alloc(), &machine, row);
     }
-    Ok(())
 }
 
 #[test]
