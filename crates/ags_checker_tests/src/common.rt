@@ -1,9 +1,15 @@
-//! What several tests make.
+//! What several tests make, and what they assert.
 
 use ags_word::Word;
+use std::fmt::Debug;
 use std::process::Abort;
 
 /// The word of a number.
 pub(crate) fn word(rt: &impl Abort, number: u32) -> Word {
     Word::of(number).expect(rt, "the number of a word")
+}
+
+/// Asserts that what is told is what is wanted.
+pub(crate) fn expect_same<T: PartialEq + Debug>(rt: &impl Abort, told: &T, wanted: &T) {
+    assert_eq!(rt; *told, *wanted);
 }

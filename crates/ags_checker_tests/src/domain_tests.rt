@@ -1,10 +1,10 @@
 //! Rows that were worked out outside the crate, one table for each subject.
 
-use crate::common::word;
+use crate::common::{expect_same, word};
 use ags_domain::{Domain, Operands, Range, Value, WordSet};
 use ags_word::Word;
+use std::alloc::Global;
 use std::process::Abort;
-use std::test::Fail;
 
 /// The range of two values.
 fn range(rt: &impl Abort, ends: (i32, i32)) -> Range {
@@ -95,29 +95,55 @@ const INTERVALS: [Interval; 29] = [
     (Operation::Round, LEAST, (1, 1), (-1, -1)),
 ];
 
+/// Expects the ends of what an operation on two ranges leaves.
+fn expect_interval(rt: &impl Abort, operation: Operation, a: Range, m: Range, ends: Range) {
+    expect_same(rt, &answer(rt, operation, &a, &m), &Ok(ends));
+}
+
 #[test]
 fn intervals(rt: HostRuntime) {
     for &(operation, a, m, ends) in &INTERVALS {
-        let told = answer(&rt, operation, &range(&rt, a), &range(&rt, m));
-        assert_eq!(rt; told, Ok(range(&rt, ends)));
+        expect_interval(
+            &rt,
+            operation,
+            range(&rt, a),
+            range(&rt, m),
+            range(&rt, ends),
+        );
     }
+}
+
+/// Intervals that are asked of values too.
+const INTERVALS_OF_VALUES: [Interval; 2] = [
+    (Operation::Add, (-1000, 1000), (-125, 125), (-1125, 1125)),
+    (
+        Operation::Over,
+        (-1000, 1000),
+        (65536, 131071),
+        (-2000, 2001),
+    ),
+];
+
+/// The value that is a range of two values.
+fn value(rt: &impl Abort, ends: (i32, i32)) -> Value {
+    Value::Range(range(rt, ends))
+}
+
+/// Expects the ends of what an operation on two values leaves.
+fn expect_value(rt: &impl Abort, operation: Operation, a: Value, m: Value, ends: Value) {
+    expect_same(rt, &answer(rt, operation, &a, &m), &Ok(ends));
 }
 
 #[test]
 fn intervals_of_values(rt: HostRuntime) {
-    for (operation, a, m, ends) in [
-        (Operation::Add, (-1000, 1000), (-125, 125), (-1125, 1125)),
-        (
-            Operation::Over,
-            (-1000, 1000),
-            (65536, 131071),
-            (-2000, 2001),
-        ),
-    ] {
-        let a = Value::Range(range(&rt, a));
-        let m = Value::Range(range(&rt, m));
-        let told = answer(&rt, operation, &a, &m);
-        assert_eq!(rt; told, Ok(Value::Range(range(&rt, ends))));
+    for &(operation, a, m, ends) in &INTERVALS_OF_VALUES {
+        expect_value(
+            &rt,
+            operation,
+            value(&rt, a),
+            value(&rt, m),
+            value(&rt, ends),
+        );
     }
 }
 
@@ -134,99 +160,85 @@ fn assert_overflow(
         q: word(rt, numbers.1),
         m: word(rt, numbers.2),
     };
-    assert_eq!(rt;
-        answer(rt, operation, &range(rt, a), &range(rt, m)),
-        Err(told)
+    expect_same(
+        rt,
+        &answer(rt, operation, &range(rt, a), &range(rt, m)),
+        &Err(told),
     );
 }
 
+/// An operation, the ends of A and of the cell, and the numbers of the words that it tells: of A, of Q and of the cell.
+type Overflow = (Operation, (i32, i32), (i32, i32), (u32, u32, u32));
+
+const OVERFLOWS: [Overflow; 17] = [
+    // sums and differences
+    (Operation::Add, (100, 131071), (1, 1), (0o377777, 0, 1)),
+    (
+        Operation::Add,
+        (-131072, -100),
+        (-1, 0),
+        (0o400000, 0, 0o777777),
+    ),
+    (
+        Operation::Add,
+        (-131072, -131000),
+        (-131072, -131000),
+        (0o400110, 0, 0o400110),
+    ),
+    (
+        Operation::Sub,
+        (100, 131071),
+        (-1, 0),
+        (0o377777, 0, 0o777777),
+    ),
+    (Operation::Sub, (-131072, -100), (1, 1), (0o400000, 0, 1)),
+    // negatives and sizes
+    (Operation::Com, (-131072, 5), (0, 0), (0o400000, 0, 0)),
+    (Operation::Abs, (-131072, -131072), (0, 0), (0o400000, 0, 0)),
+    // shifts
+    (Operation::Als(1), (-65537, 0), (0, 0), (0o577777, 0, 0)),
+    (Operation::Als(17), (2, 2), (0, 0), (2, 0, 0)),
+    (
+        Operation::Lls(1),
+        (0, 65536),
+        (0, 0),
+        (0o200000, 0o377777, 0),
+    ),
+    (Operation::Lls(1), (-65537, 0), (0, 0), (0o577777, 0, 0)),
+    // products
+    (Operation::High, FULL, FULL, (0o400000, 0, 0o400000)),
+    (
+        Operation::Round,
+        FULL,
+        (-131072, -100),
+        (0o400000, 0, 0o400000),
+    ),
+    // quotients
+    (Operation::Over, (100, 131071), (-1, 1), (100, 0, 0)),
+    (Operation::Over, (1, 1), (1, 4), (1, 0, 1)),
+    (Operation::Over, (0, 1), (1, 4), (1, 0o377777, 1)),
+    (Operation::Over, (-3, 0), (-4, -1), (0o777775, 0, 0o777777)),
+];
+
 #[test]
-fn sums_and_differences_that_overflow(rt: HostRuntime) {
-    for (operation, a, m, numbers) in [
-        (Operation::Add, (100, 131071), (1, 1), (0o377777, 0, 1)),
-        (
-            Operation::Add,
-            (-131072, -100),
-            (-1, 0),
-            (0o400000, 0, 0o777777),
-        ),
-        (
-            Operation::Add,
-            (-131072, -131000),
-            (-131072, -131000),
-            (0o400110, 0, 0o400110),
-        ),
-        (
-            Operation::Sub,
-            (100, 131071),
-            (-1, 0),
-            (0o377777, 0, 0o777777),
-        ),
-        (Operation::Sub, (-131072, -100), (1, 1), (0o400000, 0, 1)),
-    ] {
+fn operations_that_overflow(rt: HostRuntime) {
+    for &(operation, a, m, numbers) in &OVERFLOWS {
         assert_overflow(&rt, operation, a, m, numbers);
     }
 }
 
-#[test]
-fn negatives_and_sizes_that_overflow(rt: HostRuntime) {
-    for (operation, a, m, numbers) in [
-        (Operation::Com, (-131072, 5), (0, 0), (0o400000, 0, 0)),
-        (Operation::Abs, (-131072, -131072), (0, 0), (0o400000, 0, 0)),
-    ] {
-        assert_overflow(&rt, operation, a, m, numbers);
-    }
-}
-
-#[test]
-fn shifts_that_overflow(rt: HostRuntime) {
-    for (operation, a, m, numbers) in [
-        (Operation::Als(1), (-65537, 0), (0, 0), (0o577777, 0, 0)),
-        (Operation::Als(17), (2, 2), (0, 0), (2, 0, 0)),
-        (
-            Operation::Lls(1),
-            (0, 65536),
-            (0, 0),
-            (0o200000, 0o377777, 0),
-        ),
-        (Operation::Lls(1), (-65537, 0), (0, 0), (0o577777, 0, 0)),
-    ] {
-        assert_overflow(&rt, operation, a, m, numbers);
-    }
-}
-
-#[test]
-fn products_that_overflow(rt: HostRuntime) {
-    for (operation, a, m, numbers) in [
-        (Operation::High, FULL, FULL, (0o400000, 0, 0o400000)),
-        (
-            Operation::Round,
-            FULL,
-            (-131072, -100),
-            (0o400000, 0, 0o400000),
-        ),
-    ] {
-        assert_overflow(&rt, operation, a, m, numbers);
-    }
-}
-
-#[test]
-fn quotients_that_overflow(rt: HostRuntime) {
-    for (operation, a, m, numbers) in [
-        (Operation::Over, (100, 131071), (-1, 1), (100, 0, 0)),
-        (Operation::Over, (1, 1), (1, 4), (1, 0, 1)),
-        (Operation::Over, (0, 1), (1, 4), (1, 0o377777, 1)),
-        (Operation::Over, (-3, 0), (-4, -1), (0o777775, 0, 0o777777)),
-    ] {
-        assert_overflow(&rt, operation, a, m, numbers);
-    }
-}
+/// The ends of A, a count, and the ends of what the shift to the right leaves.
+const RIGHT_SHIFTS: [((i32, i32), u32, (i32, i32)); 3] = [
+    ((-1, 3), 1, (-1, 1)),
+    (FULL, 0, FULL),
+    (FULL, 63, (-1, 0)),
+];
 
 #[test]
 fn right_shifts(rt: HostRuntime) {
-    for (a, count, ends) in [((-1, 3), 1, (-1, 1)), (FULL, 0, FULL), (FULL, 63, (-1, 0))] {
+    for &(a, count, ends) in &RIGHT_SHIFTS {
         assert!(rt; count < 64);
-        assert_eq!(rt; range(&rt, a).lrs_high(count), range(&rt, ends));
+        expect_same(&rt, &range(&rt, a).lrs_high(count), &range(&rt, ends));
     }
 }
 
@@ -237,60 +249,71 @@ fn pair(rt: &impl Abort, first: u32, second: u32) -> Value {
 
 #[test]
 fn joins(rt: HostRuntime) {
-    let sixteen = Value::Range(range(&rt, (-8, 7)));
-    let more = Value::Range(range(&rt, (-8, 8)));
-    assert_eq!(rt; more.few(), None);
-    assert_eq!(rt;
-        sixteen.few().map(Value::Words),
-        Some(sixteen.join(&pair(&rt, 7, 0o777770)))
+    let sixteen = value(&rt, (-8, 7));
+    let more = value(&rt, (-8, 8));
+    expect_same(&rt, &more.few().map(Value::Words), &None);
+    let ends = pair(&rt, 7, 0o777770);
+    expect_same(
+        &rt,
+        &sixteen.few().map(Value::Words),
+        &Some(sixteen.join(&ends)),
     );
-    assert_eq!(rt; sixteen.join(&pair(&rt, 8, 7)), more);
+    expect_same(&rt, &Some(sixteen.join(&pair(&rt, 8, 7))), &Some(more));
+}
+
+/// Expects whether a value is within another.
+fn expect_within(rt: &impl Abort, part: &Value, whole: &Value, wanted: bool) {
+    expect_same(rt, &part.within(whole), &wanted);
 }
 
 #[test]
 fn inclusions(rt: HostRuntime) {
-    let sixteen = Value::Range(range(&rt, (-8, 7)));
+    let sixteen = value(&rt, (-8, 7));
     let ends = pair(&rt, 7, 0o777770);
-    assert!(rt; ends.within(&sixteen));
-    assert!(rt; !sixteen.within(&ends));
-    assert!(rt; Value::Range(range(&rt, (7, 7))).within(&ends));
+    expect_within(&rt, &ends, &sixteen, true);
+    expect_within(&rt, &sixteen, &ends, false);
+    expect_within(&rt, &value(&rt, (7, 7)), &ends, true);
 }
 
 #[test]
 fn parts(rt: HostRuntime) {
     let ends = pair(&rt, 7, 0o777770);
-    assert_eq!(rt; ends.negative(), Some(pair(&rt, 0o777770, 0o777770)));
-    assert_eq!(rt; ends.rest(), Some(pair(&rt, 7, 7)));
-    assert_eq!(rt; Value::of_word(Word::ZERO).negative(), None);
-    assert_eq!(rt; Value::Range(range(&rt, (-2, -1))).rest(), None);
+    expect_same(&rt, &ends.negative(), &Some(pair(&rt, 0o777770, 0o777770)));
+    expect_same(&rt, &ends.rest(), &Some(pair(&rt, 7, 7)));
+    expect_same(&rt, &Value::of_word(Word::ZERO).negative(), &None);
+    expect_same(&rt, &value(&rt, (-2, -1)).rest(), &None);
 }
 
 /// Asserts that no set is made of these words.
 fn assert_no_set(rt: &impl Abort, words: &[Word]) {
-    assert_eq!(rt; WordSet::of(words), None);
+    expect_same(rt, &WordSet::of(words), &None);
 }
+
+/// Ends that no range has.
+const BAD_ENDS: [(i32, i32); 3] = [(3, 2), (-131073, 0), (0, 131072)];
 
 #[test]
 fn makers(rt: HostRuntime) {
-    for (least, greatest) in [(3, 2), (-131073, 0), (0, 131072)] {
-        assert_eq!(rt; Range::of(least, greatest), None);
+    for &(least, greatest) in &BAD_ENDS {
+        expect_same(&rt, &Range::of(least, greatest), &None);
     }
     assert_no_set(&rt, &[]);
     assert_no_set(&rt, &[word(&rt, 2), word(&rt, 2)]);
     assert_no_set(&rt, &[Word::ZERO; 17]);
 }
 
+/// Expects the text of a value.
+fn expect_text(rt: &impl Abort, alloc: Global, value: Value, text: &str) {
+    let printed = format!(in alloc; "{value}").expect(rt, "memory for a text");
+    expect_same(rt, &printed.as_str(), &text);
+}
+
 #[test]
-fn texts(rt: HostRuntime) -> Result<(), Fail> {
-    let range_of_two = Value::Range(range(&rt, (-98, 100)));
-    for (value, text) in [
-        (Value::full(), "ANY"),
-        (range_of_two, "RANGE -98 100"),
-        (pair(&rt, 0, 0o404001), "WORDS 000000 404001"),
-    ] {
-        assert_eq!(rt; format!(in rt.alloc(); "{value}")?.as_str(), text);
-    }
-    Ok(())
+fn texts(rt: HostRuntime) {
+    let alloc = rt.alloc();
+    expect_text(&rt, alloc, Value::full(), "ANY");
+    expect_text(&rt, alloc, value(&rt, (-98, 100)), "RANGE -98 100");
+    expect_text(&rt, alloc, pair(&rt, 0, 0o404001), "WORDS 000000 404001");
 }
 
 /// The number, where it is a word's value.
@@ -366,32 +389,52 @@ fn told(rt: &impl Abort, operation: Operation, a: i32, m: i32) -> Option<(i64, i
     }
 }
 
+/// The operations whose small ranges are walked.
+const WALKED: [Operation; 10] = [
+    Operation::Add,
+    Operation::Sub,
+    Operation::Com,
+    Operation::Abs,
+    Operation::Als(3),
+    Operation::Lls(2),
+    Operation::Lrs(5),
+    Operation::High,
+    Operation::Round,
+    Operation::Over,
+];
+
+/// Compares the answer of an operation on two small ranges, which begin at these values, with a walk.
+fn expect_walked(rt: &impl Abort, operation: Operation, a: i32, m: i32) {
+    let ends = walked(operation, i64::from(a), i64::from(m));
+    expect_same(rt, &told(rt, operation, a, m), &ends);
+}
+
+/// A number among so many values around 0.
+fn around_zero(number: i32, size: i32) -> i32 {
+    number.rem_euclid(size.max(1)).wrapping_sub(size / 2)
+}
+
+/// Around how many values the first ranges of a step begin: every third is small.
+fn size_of(step: i32) -> i32 {
+    if step.rem_euclid(3) == 0 {
+        200
+    } else {
+        262_000
+    }
+}
+
+/// Around how many values the second ranges of a step begin: every third is near 0.
+fn near_of(step: i32) -> i32 {
+    if step.rem_euclid(3) == 1 { 20 } else { 262_000 }
+}
+
 #[test]
 fn small_ranges_by_a_walk(rt: HostRuntime) {
-    for operation in [
-        Operation::Add,
-        Operation::Sub,
-        Operation::Com,
-        Operation::Abs,
-        Operation::Als(3),
-        Operation::Lls(2),
-        Operation::Lrs(5),
-        Operation::High,
-        Operation::Round,
-        Operation::Over,
-    ] {
+    for operation in &WALKED {
         for step in 0..120i32 {
-            // every third pair of ranges is small, and every third cell is near 0
-            let size = if step.rem_euclid(3) == 0 {
-                200
-            } else {
-                262_000
-            };
-            let near = if step.rem_euclid(3) == 1 { 20 } else { 262_000 };
-            let a = step.wrapping_mul(7919).rem_euclid(size) - size / 2;
-            let m = step.wrapping_mul(104_729).rem_euclid(near) - near / 2;
-            let ends = walked(operation, i64::from(a), i64::from(m));
-            assert_eq!(rt; told(&rt, operation, a, m), ends);
+            let a = around_zero(step.wrapping_mul(7919), size_of(step));
+            let m = around_zero(step.wrapping_mul(104_729), near_of(step));
+            expect_walked(&rt, *operation, a, m);
         }
     }
 }

@@ -1,5 +1,6 @@
 //! Rows that were worked out outside the crate.
 
+use crate::common::expect_same;
 use ags_domain::{Domain, Range, Value, WordSet};
 use ags_row::{At, Limits, Post, Row, RowParts, cell_of, covers};
 use ags_word::Word;
@@ -68,12 +69,18 @@ fn bad_parts(rt: &impl Abort, alloc: Global, place: u8) -> RowParts<Value> {
     bad
 }
 
+/// Expects the location, A and the number of cells of a row.
+fn expect_row(rt: &impl Abort, row: &Row<Value>, location: u16, a: Value, cells: usize) {
+    expect_same(
+        rt,
+        &(row.location(), row.a(), row.at().len()),
+        &(location, a, cells),
+    );
+}
+
 #[test]
 fn parts_that_make_a_row(rt: HostRuntime) {
-    let made = row(&rt, rt.alloc(), CELLS);
-    assert_eq!(rt; made.location(), 0o4000);
-    assert_eq!(rt; made.a(), Value::full());
-    assert_eq!(rt; made.at().len(), 3);
+    expect_row(&rt, &row(&rt, rt.alloc(), CELLS), 0o4000, Value::full(), 3);
 }
 
 #[test]
@@ -86,19 +93,38 @@ fn parts_that_make_no_row(rt: HostRuntime) {
     assert!(rt; row_of_many(&rt, alloc, 65).is_none());
 }
 
+/// Whether each limit of a domain holds a word, and no place is named.
+fn are_full<D: Domain>(limits: &Limits<D>, outside: Word) -> bool {
+    limits.cell(0o3777).holds(outside)
+        && limits.input(0o2001).holds(outside)
+        && limits.output(0o6001).holds(outside)
+        && !limits.may(0o4000)
+}
+
+/// Whether the limits that are set don't hold a word, and those beside them do.
+fn are_set<D: Domain>(limits: &Limits<D>, outside: Word) -> bool {
+    !limits.cell(0o20).holds(outside)
+        && limits.cell(0o21).holds(outside)
+        && !limits.input(0o2001).holds(outside)
+        && limits.input(0o2002).holds(outside)
+        && !limits.output(0o6001).holds(outside)
+        && limits.output(0o6002).holds(outside)
+}
+
 /// Each limit of a domain is full and is then set, and no place but one is named.
 fn limits_of<D: Domain>(rt: &impl Abort, alloc: Global, set: D, outside: Word) -> Limits<D> {
     let mut limits: Limits<D> = Limits::new(alloc).expect(rt, "memory for limits");
-    assert!(rt; limits.cell(0o3777).holds(outside) && limits.input(0o2001).holds(outside));
-    assert!(rt; limits.output(0o6001).holds(outside) && !limits.may(0o4000));
+    assert!(rt; are_full(&limits, outside));
     limits.set_cell(0o20, set);
     limits.set_input(0o2001, set);
     limits.set_output(0o6001, set);
     limits.name_place(0o4000);
-    assert!(rt; !limits.cell(0o20).holds(outside) && limits.cell(0o21).holds(outside));
-    assert!(rt; !limits.input(0o2001).holds(outside) && limits.input(0o2002).holds(outside));
-    assert!(rt; !limits.output(0o6001).holds(outside) && limits.output(0o6002).holds(outside));
-    assert!(rt; limits.may(0o4000) && !limits.may(0o4001));
+    assert!(rt; are_set(&limits, outside));
+    expect_same(
+        rt,
+        &(limits.may(0o4000), limits.may(0o4001)),
+        &(true, false),
+    );
     limits
 }
 
@@ -111,7 +137,16 @@ fn assert_cell(
     held: Value,
 ) {
     assert!(rt; address < 2048);
-    assert_eq!(rt; cell_of(base, limits, address), held);
+    expect_same(rt, &cell_of(base, limits, address), &held);
+}
+
+/// Asserts what the cells of a row may hold.
+fn assert_cells(rt: &impl Abort, base: &Row<Value>, limits: &Limits<Value>) {
+    assert_cell(rt, base, limits, 0, value(rt, 0, 3));
+    assert_cell(rt, base, limits, 0o17, value(rt, 1, 2));
+    assert_cell(rt, base, limits, 0o3777, value(rt, 4, 4));
+    assert_cell(rt, base, limits, 0o16, Value::full());
+    assert_cell(rt, base, limits, 0o20, value(rt, -5, 5));
 }
 
 #[test]
@@ -121,11 +156,7 @@ fn limits_and_cells(rt: HostRuntime) {
     let _ = limits_of(&rt, alloc, range(&rt, -5, 5), outside);
     let limits = limits_of(&rt, alloc, value(&rt, -5, 5), outside);
     let base = row(&rt, alloc, &[(0, 0, 3), (0o17, 1, 2), (0o3777, 4, 4)]);
-    assert_cell(&rt, &base, &limits, 0, value(&rt, 0, 3));
-    assert_cell(&rt, &base, &limits, 0o17, value(&rt, 1, 2));
-    assert_cell(&rt, &base, &limits, 0o3777, value(&rt, 4, 4));
-    assert_cell(&rt, &base, &limits, 0o16, Value::full());
-    assert_cell(&rt, &base, &limits, 0o20, value(&rt, -5, 5));
+    assert_cells(&rt, &base, &limits);
 }
 
 /// A word that an order may be.
@@ -153,6 +184,12 @@ fn post(rt: &impl Abort) -> Post<Value> {
     }
 }
 
+/// Whether a row covers a post of a row that names the cell 17 octal.
+fn is_covered_by(rt: &impl Abort, alloc: Global, target: &Row<Value>, post: &Post<Value>) -> bool {
+    let limits: Limits<Value> = Limits::new(alloc).expect(rt, "memory for limits");
+    covers(target, &row(rt, alloc, &[(0o17, 1, 2)]), post, &limits)
+}
+
 /// Whether a row that names these cells covers a post.
 fn is_covered(
     rt: &impl Abort,
@@ -160,10 +197,19 @@ fn is_covered(
     cells: &[(u16, i32, i32)],
     post: &Post<Value>,
 ) -> bool {
-    let limits: Limits<Value> = Limits::new(alloc).expect(rt, "memory for limits");
-    let base = row(rt, alloc, &[(0o17, 1, 2)]);
     let target = row(rt, alloc, cells);
-    covers(&target, &base, post, &limits)
+    is_covered_by(rt, alloc, &target, post)
+}
+
+/// Asserts whether a row that names these cells covers a post.
+fn assert_covered(
+    rt: &impl Abort,
+    alloc: Global,
+    covered: bool,
+    cells: &[(u16, i32, i32)],
+    post: &Post<Value>,
+) {
+    expect_same(rt, &is_covered(rt, alloc, cells, post), &covered);
 }
 
 // What was stored counts before the word that the order stands in.
@@ -171,15 +217,10 @@ fn is_covered(
 fn rows_hold_the_cells_of_posts(rt: HostRuntime) {
     let alloc = rt.alloc();
     let post = post(&rt);
-    assert!(rt; is_covered(&rt, alloc, &[(0o17, 1, 2), (0o20, 0, 3)], &post));
-    assert!(rt; !is_covered(&rt, alloc, &[(0o20, 0, 2)], &post));
-    assert!(rt; !is_covered(&rt, alloc, &[(0o17, 2, 2)], &post));
-    assert!(rt; !is_covered(&rt, alloc, &[(0o21, 0, 3)], &post));
-}
-
-/// Asserts whether a row that names no cell covers a post.
-fn assert_covered(rt: &impl Abort, alloc: Global, covered: bool, post: Post<Value>) {
-    assert_eq!(rt; is_covered(rt, alloc, &[], &post), covered);
+    assert_covered(&rt, alloc, true, &[(0o17, 1, 2), (0o20, 0, 3)], &post);
+    assert_covered(&rt, alloc, false, &[(0o20, 0, 2)], &post);
+    assert_covered(&rt, alloc, false, &[(0o17, 2, 2)], &post);
+    assert_covered(&rt, alloc, false, &[(0o21, 0, 3)], &post);
 }
 
 #[test]
@@ -187,18 +228,18 @@ fn rows_hold_the_registers_of_posts(rt: HostRuntime) {
     let alloc = rt.alloc();
     let post = post(&rt);
     let stored = None;
-    assert_covered(&rt, alloc, true, Post { stored, ..post });
+    assert_covered(&rt, alloc, true, &[], &Post { stored, ..post });
     let next = 0o4001;
-    assert_covered(&rt, alloc, false, Post { next, ..post });
-    assert_covered(&rt, alloc, false, Post { x: 1, ..post });
-    assert_covered(&rt, alloc, false, Post { x: 8, ..post });
-    assert_covered(&rt, alloc, false, Post { v1: true, ..post });
-    assert_covered(&rt, alloc, true, Post { v0: false, ..post });
+    assert_covered(&rt, alloc, false, &[], &Post { next, ..post });
+    assert_covered(&rt, alloc, false, &[], &Post { x: 1, ..post });
+    assert_covered(&rt, alloc, false, &[], &Post { x: 8, ..post });
+    assert_covered(&rt, alloc, false, &[], &Post { v1: true, ..post });
+    assert_covered(&rt, alloc, true, &[], &Post { v0: false, ..post });
 }
 
 #[test]
 fn value_of_a_word_is_its_set(rt: HostRuntime) {
     let word = order_word(&rt);
     let words = WordSet::of(&[word]).expect(&rt, "a word set");
-    assert_eq!(rt; Value::of_word(word), Value::Words(words));
+    expect_same(&rt, &Value::of_word(word), &Value::Words(words));
 }

@@ -1,7 +1,7 @@
 //! Cases that were worked out outside the crate: one machine, one image and one row for most of them.
 
-use crate::common::word;
-use ags_domain::{Domain, Operands, Range, Value};
+use crate::common::{expect_same, word};
+use ags_domain::{Domain, Operands, Range, Value, WordSet};
 use ags_image::Image;
 use ags_ports::Machine;
 use ags_posts::{PostPair, Stop};
@@ -16,6 +16,15 @@ fn value(rt: &impl Abort, least: i32, greatest: i32) -> Value {
     Value::Range(Range::of(least, greatest).expect(rt, "the ends of a range"))
 }
 
+/// The cells of a row that names one or none.
+fn cells_of(rt: &impl Abort, alloc: Global, cell: Option<At<Value>>) -> Vec<At<Value>> {
+    let mut cells = Vec::new(alloc);
+    if let Some(cell) = cell {
+        assert!(rt; cells.push(cell).is_ok());
+    }
+    cells
+}
+
 /// A row where A may hold some words and Q those of value 5 and 6, at any index and with any indicator, that names a cell.
 fn row(
     rt: &impl Abort,
@@ -24,17 +33,13 @@ fn row(
     a: Value,
     cell: Option<At<Value>>,
 ) -> Row<Value> {
-    let mut at = Vec::new(alloc);
-    if let Some(cell) = cell {
-        assert!(rt; at.push(cell).is_ok());
-    }
     let parts = RowParts {
         location,
         a,
         q: value(rt, 5, 6),
         x: [true; 8],
         v: [true; 2],
-        at,
+        at: cells_of(rt, alloc, cell),
     };
     Row::of(parts).expect(rt, "the parts of a row")
 }
@@ -46,15 +51,33 @@ fn image(rt: &impl Abort, alloc: Global) -> Image {
     image
 }
 
-/// Limits of some cells and registers; no place is named.
-fn limits(rt: &impl Abort, alloc: Global) -> Limits<Value> {
-    let mut limits: Limits<Value> = Limits::new(alloc).expect(rt, "memory for limits");
+/// Limits that hold each word.
+fn full_limits<D: Domain>(rt: &impl Abort, alloc: Global) -> Limits<D> {
+    Limits::new(alloc).expect(rt, "memory for limits")
+}
+
+/// Sets the limits of some cells.
+fn set_cells(rt: &impl Abort, limits: &mut Limits<Value>) {
     limits.set_cell(0o20, value(rt, 2, 4));
     limits.set_cell(0o22, value(rt, 0, 4));
     limits.set_cell(0o23, value(rt, 8, 8));
+}
+
+/// Sets the limits of some registers.
+fn set_registers(rt: &impl Abort, limits: &mut Limits<Value>) {
     limits.set_input(0o2001, value(rt, 7, 9));
     limits.set_output(0o2001, value(rt, 1, 2));
     limits.set_output(0o6002, value(rt, 0, 2));
+}
+
+/// Limits of some cells and registers; the place 4000 is named, or none.
+fn limits(rt: &impl Abort, alloc: Global, named: bool) -> Limits<Value> {
+    let mut limits = full_limits(rt, alloc);
+    set_cells(rt, &mut limits);
+    set_registers(rt, &mut limits);
+    if named {
+        limits.name_place(0o4000);
+    }
     limits
 }
 
@@ -146,7 +169,30 @@ fn assert_answer(
     told: Result<PostPair<Value>, Stop<Value>>,
     wanted: Result<PostPair<Value>, Stop<Value>>,
 ) {
-    assert_eq!(rt; told, wanted);
+    expect_same(rt, &told, &wanted);
+}
+
+/// The posts of a word in a row, under limits, at an index and an indicator.
+fn judged_in_row<D: Domain>(
+    rt: &impl Abort,
+    alloc: Global,
+    limits: &Limits<D>,
+    base: &Row<D>,
+    number: u32,
+    x: u8,
+    v: bool,
+) -> Result<PostPair<D>, Stop<D>> {
+    let word = word(rt, number);
+    assert!(rt; x < 8);
+    posts(
+        &Machine::standard(),
+        &image(rt, alloc),
+        limits,
+        base,
+        word,
+        x,
+        v,
+    )
 }
 
 /// The posts at 4000 of a word, at an index and an indicator, where A may hold the words between two values.
@@ -159,120 +205,95 @@ fn judged(
     x: u8,
     v: bool,
 ) -> Result<PostPair<Value>, Stop<Value>> {
-    let machine = Machine::standard();
-    let image = image(rt, alloc);
-    let mut limits = limits(rt, alloc);
-    if named {
-        limits.name_place(0o4000);
-    }
     let base = row(rt, alloc, 0o4000, value(rt, ends.0, ends.1), None);
-    assert!(rt; x < 8);
-    posts(&machine, &image, &limits, &base, word(rt, number), x, v)
+    judged_in_row(rt, alloc, &limits(rt, alloc, named), &base, number, x, v)
 }
 
 /// A word, the index and the indicator, and how its post differs from a row that stays.
 type OrderRow = (u32, u8, bool, Change, Change);
 
-/// Looks at the one post of each word, where A may hold the words of value 1 to 3.
-fn expect_posts(rt: &impl Abort, alloc: Global, rows: &[OrderRow]) {
-    for (number, x, v, first, second) in rows.iter().copied() {
-        let post = changed(rt, changed(rt, stays(rt, x, v), first), second);
-        let told = judged(rt, alloc, (1, 3), false, number, x, v);
-        assert_answer(rt, told, single(post));
+const ORDERS: [OrderRow; 31] = [
+    // orders that load and store
+    (0o200020, 2, false, Change::A(2, 4), Change::Nothing),
+    (0o210020, 2, false, Change::A(0, 4), Change::Nothing),
+    (0o204100, 2, false, Change::WordInA(7), Change::Nothing),
+    (0o140020, 2, false, Change::Q(2, 4), Change::Nothing),
+    (
+        0o100021,
+        2,
+        false,
+        Change::Stored(0o21, 1, 3),
+        Change::Nothing,
+    ),
+    (
+        0o120021,
+        2,
+        false,
+        Change::Stored(0o21, 5, 6),
+        Change::Nothing,
+    ),
+    (0o300021, 2, false, Change::AnyA, Change::Cleared(0o21)),
+    // orders that add and change signs
+    (0o220020, 2, false, Change::A(3, 7), Change::Nothing),
+    (0o240020, 2, false, Change::A(-3, 1), Change::Nothing),
+    (0o320022, 2, false, Change::A(1, 7), Change::Cleared(0o22)),
+    (0o340022, 2, false, Change::A(-3, 3), Change::Cleared(0o22)),
+    (0o600000, 2, false, Change::A(-3, -1), Change::Nothing),
+    (0o620000, 2, false, Change::A(1, 3), Change::Nothing),
+    // orders that multiply, divide and shift
+    (0o560002, 2, false, Change::A(4, 12), Change::Nothing),
+    (0o260020, 2, false, Change::A(0, 0), Change::AnyQ),
+    (0o160020, 2, false, Change::A(0, 0), Change::AnyQ),
+    (0o020023, 2, false, Change::A(16384, 65535), Change::Nothing),
+    (0o540001, 2, false, Change::A(0, 1), Change::AnyQ),
+    (0o520001, 2, false, Change::A(2, 7), Change::AnyQ),
+    // orders that jump
+    (0o400030, 2, false, Change::Next(0o30), Change::Nothing),
+    (0o410030, 2, false, Change::Next(0o32), Change::Nothing),
+    (0o420030, 2, false, Change::Next(0o30), Change::Index(1)),
+    (0o420030, 0, false, Change::Nothing, Change::Nothing),
+    (0o440030, 2, false, Change::Nothing, Change::Nothing),
+    (0o440030, 2, true, Change::Next(0o30), Change::IsClear),
+    (0o460030, 2, false, Change::Nothing, Change::Nothing),
+    (0o700030, 2, false, Change::Next(0o30), Change::Nothing),
+    (
+        0o720030,
+        2,
+        false,
+        Change::Next(0o30),
+        Change::WordInQ(0o404001),
+    ),
+    // orders of the index and of ports
+    (0o500013, 2, false, Change::Index(3), Change::Nothing),
+    (0o642001, 2, false, Change::A(7, 9), Change::Nothing),
+    (0o666001, 2, true, Change::Nothing, Change::Nothing),
+];
+
+/// Expects the one post of a word, where A may hold the words of value 1 to 3.
+fn expect_post(rt: &impl Abort, alloc: Global, row: &OrderRow) {
+    let (number, x, v, first, second) = *row;
+    let post = changed(rt, changed(rt, stays(rt, x, v), first), second);
+    assert_answer(
+        rt,
+        judged(rt, alloc, (1, 3), false, number, x, v),
+        single(post),
+    );
+}
+
+#[test]
+fn orders_have_their_posts(rt: HostRuntime) {
+    for row in &ORDERS {
+        expect_post(&rt, rt.alloc(), row);
     }
 }
 
 #[test]
-fn orders_that_load_and_store(rt: HostRuntime) {
-    let rows = [
-        (0o200020, 2, false, Change::A(2, 4), Change::Nothing),
-        (0o210020, 2, false, Change::A(0, 4), Change::Nothing),
-        (0o204100, 2, false, Change::WordInA(7), Change::Nothing),
-        (0o140020, 2, false, Change::Q(2, 4), Change::Nothing),
-        (
-            0o100021,
-            2,
-            false,
-            Change::Stored(0o21, 1, 3),
-            Change::Nothing,
-        ),
-        (
-            0o120021,
-            2,
-            false,
-            Change::Stored(0o21, 5, 6),
-            Change::Nothing,
-        ),
-        (0o300021, 2, false, Change::AnyA, Change::Cleared(0o21)),
-    ];
-    expect_posts(&rt, rt.alloc(), &rows);
-}
-
-#[test]
-fn orders_that_add_and_change_signs(rt: HostRuntime) {
-    let rows = [
-        (0o220020, 2, false, Change::A(3, 7), Change::Nothing),
-        (0o240020, 2, false, Change::A(-3, 1), Change::Nothing),
-        (0o320022, 2, false, Change::A(1, 7), Change::Cleared(0o22)),
-        (0o340022, 2, false, Change::A(-3, 3), Change::Cleared(0o22)),
-        (0o600000, 2, false, Change::A(-3, -1), Change::Nothing),
-        (0o620000, 2, false, Change::A(1, 3), Change::Nothing),
-    ];
-    expect_posts(&rt, rt.alloc(), &rows);
-}
-
-#[test]
-fn orders_that_multiply_divide_and_shift(rt: HostRuntime) {
-    let alloc = rt.alloc();
-    let rows = [
-        (0o560002, 2, false, Change::A(4, 12), Change::Nothing),
-        (0o260020, 2, false, Change::A(0, 0), Change::AnyQ),
-        (0o160020, 2, false, Change::A(0, 0), Change::AnyQ),
-        (0o020023, 2, false, Change::A(16384, 65535), Change::Nothing),
-        (0o540001, 2, false, Change::A(0, 1), Change::AnyQ),
-        (0o520001, 2, false, Change::A(2, 7), Change::AnyQ),
-    ];
-    expect_posts(&rt, alloc, &rows);
-    let freed = changed(
-        &rt,
-        changed(&rt, stays(&rt, 2, false), Change::A(0, 0)),
-        Change::AnyQ,
-    );
+fn order_that_multiplies_and_clears(rt: HostRuntime) {
+    let zero = changed(&rt, stays(&rt, 2, false), Change::A(0, 0));
+    let freed = changed(&rt, zero, Change::AnyQ);
     let cleared = changed(&rt, freed, Change::Cleared(0o22));
-    let told = judged(&rt, alloc, (1, 3), false, 0o360022, 2, false);
+    let told = judged(&rt, rt.alloc(), (1, 3), false, 0o360022, 2, false);
     assert_answer(&rt, told, single(cleared));
-}
-
-#[test]
-fn orders_that_jump(rt: HostRuntime) {
-    let rows = [
-        (0o400030, 2, false, Change::Next(0o30), Change::Nothing),
-        (0o410030, 2, false, Change::Next(0o32), Change::Nothing),
-        (0o420030, 2, false, Change::Next(0o30), Change::Index(1)),
-        (0o420030, 0, false, Change::Nothing, Change::Nothing),
-        (0o440030, 2, false, Change::Nothing, Change::Nothing),
-        (0o440030, 2, true, Change::Next(0o30), Change::IsClear),
-        (0o460030, 2, false, Change::Nothing, Change::Nothing),
-        (0o700030, 2, false, Change::Next(0o30), Change::Nothing),
-        (
-            0o720030,
-            2,
-            false,
-            Change::Next(0o30),
-            Change::WordInQ(0o404001),
-        ),
-    ];
-    expect_posts(&rt, rt.alloc(), &rows);
-}
-
-#[test]
-fn orders_of_the_index_and_of_ports(rt: HostRuntime) {
-    let rows = [
-        (0o500013, 2, false, Change::Index(3), Change::Nothing),
-        (0o642001, 2, false, Change::A(7, 9), Change::Nothing),
-        (0o666001, 2, true, Change::Nothing, Change::Nothing),
-    ];
-    expect_posts(&rt, rt.alloc(), &rows);
 }
 
 #[test]
@@ -312,44 +333,33 @@ fn assert_stop(rt: &impl Abort, alloc: Global, ends: (i32, i32), number: u32, st
     assert_answer(rt, told, stopped(stop));
 }
 
+/// The words of value 1 to 3.
+const FEW: (i32, i32) = (1, 3);
+
 #[test]
-fn stops_in_their_order(rt: HostRuntime) {
+fn stops_of_orders_and_of_places(rt: HostRuntime) {
     let alloc = rt.alloc();
-    let few = (1, 3);
-    assert_stop(&rt, alloc, few, 0o000000, Stop::NoOrder);
-    assert_stop(&rt, alloc, few, 0o640000, Stop::BadPort);
-    assert_stop(&rt, alloc, few, 0o662001, Stop::BadPort);
-    let fixed = 0o4100;
-    assert_stop(
-        &rt,
-        alloc,
-        few,
-        0o104100,
-        Stop::FixedWrite { address: fixed },
-    );
-    assert_stop(
-        &rt,
-        alloc,
-        ANY,
-        0o324100,
-        Stop::FixedWrite { address: fixed },
-    );
+    assert_stop(&rt, alloc, FEW, 0o000000, Stop::NoOrder);
+    assert_stop(&rt, alloc, FEW, 0o640000, Stop::BadPort);
+    assert_stop(&rt, alloc, FEW, 0o662001, Stop::BadPort);
+    let address = 0o4100;
+    assert_stop(&rt, alloc, FEW, 0o104100, Stop::FixedWrite { address });
+    assert_stop(&rt, alloc, ANY, 0o324100, Stop::FixedWrite { address });
+}
+
+#[test]
+fn stops_of_words(rt: HostRuntime) {
+    let alloc = rt.alloc();
     assert_stop(&rt, alloc, ANY, 0o600000, overflowing(&rt, 0o400000, 0, 0));
-    assert_stop(&rt, alloc, few, 0o020020, overflowing(&rt, 3, 0o377777, 2));
+    assert_stop(&rt, alloc, FEW, 0o020020, overflowing(&rt, 3, 0o377777, 2));
     assert_stop(&rt, alloc, ANY, 0o320020, overflowing(&rt, 0o377777, 0, 4));
-    assert_stop(
-        &rt,
-        alloc,
-        few,
-        0o100020,
-        out_of_cell(0o20, value(&rt, 1, 3)),
-    );
-    assert_stop(&rt, alloc, few, 0o320020, out_of_cell(0o20, alone(&rt, 0)));
+    assert_stop(&rt, alloc, FEW, 0o100020, out_of_cell(0o20, value(&rt, 1, 3)));
+    assert_stop(&rt, alloc, FEW, 0o320020, out_of_cell(0o20, alone(&rt, 0)));
     let given = Stop::OutputRange {
         address: 0o6002,
         value: value(&rt, 1, 3),
     };
-    assert_stop(&rt, alloc, few, 0o666002, given);
+    assert_stop(&rt, alloc, FEW, 0o666002, given);
 }
 
 /// The post at a named place where some operands overflow, with one change.
@@ -358,19 +368,28 @@ fn freed(rt: &impl Abort, change: Change) -> Post<Value> {
     changed(rt, changed(rt, any, Change::MaySet), change)
 }
 
+/// Asserts the answer of a word at the named place, where A may hold any word.
+fn assert_named(
+    rt: &impl Abort,
+    alloc: Global,
+    number: u32,
+    wanted: Result<PostPair<Value>, Stop<Value>>,
+) {
+    assert_answer(rt, judged(rt, alloc, ANY, true, number, 2, false), wanted);
+}
+
 #[test]
 fn named_place(rt: HostRuntime) {
     let alloc = rt.alloc();
-    for (number, change) in [
-        (0o600000, Change::Nothing),
-        (0o320022, Change::Cleared(0o22)),
-    ] {
-        let told = judged(&rt, alloc, ANY, true, number, 2, false);
-        assert_answer(&rt, told, single(freed(&rt, change)));
-    }
+    assert_named(&rt, alloc, 0o600000, single(freed(&rt, Change::Nothing)));
+    assert_named(
+        &rt,
+        alloc,
+        0o320022,
+        single(freed(&rt, Change::Cleared(0o22))),
+    );
     let outside = out_of_cell(0o20, alone(&rt, 0));
-    let told = judged(&rt, alloc, ANY, true, 0o320020, 2, false);
-    assert_answer(&rt, told, stopped(outside));
+    assert_named(&rt, alloc, 0o320020, stopped(outside));
 }
 
 /// The post at 0020 of a word in that cell, where A may hold the words of value 0 to 3.
@@ -383,97 +402,106 @@ fn run_from_cell(rt: &impl Abort, number: u32, change: Change) -> Post<Value> {
     changed(rt, changed(rt, begun, Change::Code(number)), change)
 }
 
-/// The posts of a word in a row, under limits, at an index with a clear indicator.
-fn judged_in_row(
-    rt: &impl Abort,
-    alloc: Global,
-    limits: &Limits<Value>,
-    base: &Row<Value>,
-    number: u32,
-    x: u8,
-) -> Result<PostPair<Value>, Stop<Value>> {
-    let machine = Machine::standard();
-    let image = image(rt, alloc);
-    assert!(rt; x < 8);
-    posts(&machine, &image, limits, base, word(rt, number), x, false)
+/// Expects the post of a word in the cell 0020 that is run from there.
+fn expect_run_from_cell(rt: &impl Abort, alloc: Global, number: u32, post: Post<Value>) {
+    let base = row(rt, alloc, 0o20, value(rt, 0, 3), None);
+    let told = judged_in_row(rt, alloc, &full_limits(rt, alloc), &base, number, 2, false);
+    assert_answer(rt, told, single(post));
 }
 
-/// Whether a row at 0021 that names a cell covers a post of another row.
-fn is_covered_after(
+/// Whether a row covers a post of a row at 0020.
+fn is_covered_by(rt: &impl Abort, alloc: Global, target: &Row<Value>, post: &Post<Value>) -> bool {
+    let base = row(rt, alloc, 0o20, value(rt, 0, 3), None);
+    covers(target, &base, post, &full_limits(rt, alloc))
+}
+
+/// Expects whether a row at 0021 that names a cell covers a post of a row at 0020.
+fn expect_covered(
     rt: &impl Abort,
     alloc: Global,
     cell: Option<At<Value>>,
-    base: &Row<Value>,
     post: &Post<Value>,
-    limits: &Limits<Value>,
-) -> bool {
+    covered: bool,
+) {
     let target = row(rt, alloc, 0o21, value(rt, 0, 3), cell);
-    covers(&target, base, post, limits)
+    expect_same(rt, &is_covered_by(rt, alloc, &target, post), &covered);
 }
 
 #[test]
 fn order_in_an_erasable_cell(rt: HostRuntime) {
     let alloc = rt.alloc();
-    let full: Limits<Value> = Limits::new(alloc).expect(&rt, "memory for limits");
-    let base = row(&rt, alloc, 0o20, value(&rt, 0, 3), None);
     // the words that a store to the cell that is run from leaves count before its own word
     let post = run_from_cell(&rt, 0o100020, Change::Stored(0o20, 0, 3));
-    let stores = judged_in_row(&rt, alloc, &full, &base, 0o100020, 2);
-    assert_answer(&rt, stores, single(post));
+    expect_run_from_cell(&rt, alloc, 0o100020, post);
     let held = at(0o20, value(&rt, 0, 3));
-    assert!(rt; is_covered_after(&rt, alloc, held, &base, &post, &full));
+    expect_covered(&rt, alloc, held, &post, true);
     let own = at(0o20, alone(&rt, 0o100020));
-    assert!(rt; !is_covered_after(&rt, alloc, own, &base, &post, &full));
-    let reads = judged_in_row(&rt, alloc, &full, &base, 0o200020, 2);
+    expect_covered(&rt, alloc, own, &post, false);
     let read = run_from_cell(&rt, 0o200020, Change::WordInA(0o200020));
-    assert_answer(&rt, reads, single(read));
+    expect_run_from_cell(&rt, alloc, 0o200020, read);
+}
+
+/// Limits that hold each word, but for the cell 0020, which holds those of value -5 to 5.
+fn further_limits(rt: &impl Abort, alloc: Global) -> Limits<Value> {
+    let mut limits = full_limits(rt, alloc);
+    limits.set_cell(0o20, value(rt, -5, 5));
+    limits
+}
+
+/// Expects the post of a word at 4000 at index 0, where A may hold some words and the cell 0020 those of value -5 to 5.
+fn expect_further(rt: &impl Abort, alloc: Global, a: Value, number: u32, post: Post<Value>) {
+    let base = row(rt, alloc, 0o4000, a, None);
+    let told = judged_in_row(
+        rt,
+        alloc,
+        &further_limits(rt, alloc),
+        &base,
+        number,
+        0,
+        false,
+    );
+    assert_answer(rt, told, single(post));
 }
 
 #[test]
 fn further_rows(rt: HostRuntime) {
     let alloc = rt.alloc();
-    let mut limits: Limits<Value> = Limits::new(alloc).expect(&rt, "memory for limits");
-    limits.set_cell(0o20, value(&rt, -5, 5));
-    let base = row(&rt, alloc, 0o4000, Value::full(), None);
-    let cleared = judged_in_row(&rt, alloc, &limits, &base, 0o300020, 0);
     let loaded = changed(&rt, stays(&rt, 0, false), Change::A(-5, 5));
-    let post = changed(&rt, loaded, Change::Cleared(0o20));
-    assert_answer(&rt, cleared, single(post));
-    let some = row(&rt, alloc, 0o4000, value(&rt, 0, 3), None);
-    let goes_on = judged_in_row(&rt, alloc, &limits, &some, 0o460010, 0);
-    let stays = changed(&rt, stays(&rt, 0, false), Change::A(0, 3));
-    assert_answer(&rt, goes_on, single(stays));
+    let cleared = changed(&rt, loaded, Change::Cleared(0o20));
+    expect_further(&rt, alloc, Value::full(), 0o300020, cleared);
+    let goes_on = changed(&rt, stays(&rt, 0, false), Change::A(0, 3));
+    expect_further(&rt, alloc, value(&rt, 0, 3), 0o460010, goes_on);
+}
+
+/// The words of a row, if they are few, where each cell may hold any word.
+fn code_of(rt: &impl Abort, alloc: Global, base: &Row<Value>) -> Option<WordSet> {
+    code(&image(rt, alloc), &full_limits(rt, alloc), base)
 }
 
 /// How many words the row at 0020 has, where its cell may hold the words from 0 to a greatest, if they are few.
 fn number_of_words(rt: &impl Abort, alloc: Global, greatest: i32) -> Option<usize> {
-    let image = image(rt, alloc);
-    let full: Limits<Value> = Limits::new(alloc).expect(rt, "memory for limits");
     let cell = at(0o20, value(rt, 0, greatest));
     let base = row(rt, alloc, 0o20, Value::full(), cell);
-    code(&image, &full, &base).map(|set| set.words().len())
+    code_of(rt, alloc, &base).map(|set| set.words().len())
 }
 
 #[test]
 fn words_of_a_code(rt: HostRuntime) {
     let alloc = rt.alloc();
-    assert_eq!(rt; number_of_words(&rt, alloc, 15), Some(16));
-    assert_eq!(rt; number_of_words(&rt, alloc, 16), None);
+    expect_same(&rt, &number_of_words(&rt, alloc, 15), &Some(16));
+    expect_same(&rt, &number_of_words(&rt, alloc, 16), &None);
 }
 
 #[test]
 fn code_of_a_fixed_cell_is_its_word(rt: HostRuntime) {
     let alloc = rt.alloc();
-    let image = image(&rt, alloc);
-    let full: Limits<Value> = Limits::new(alloc).expect(&rt, "memory for limits");
     let fixed = row(&rt, alloc, 0o4100, Value::full(), None);
-    let words = code(&image, &full, &fixed).expect(&rt, "one word");
-    assert_eq!(rt; words.words(), [word(&rt, 7)].as_slice());
+    let words = code_of(&rt, alloc, &fixed).expect(&rt, "one word");
+    expect_same(&rt, &words.words(), &[word(&rt, 7)].as_slice());
 }
 
-/// The first post of a case of a domain at index 0 with a clear indicator, where A and all else may be any word.
-fn first_of<D: Domain>(rt: &impl Abort, alloc: Global, number: u32) -> Post<D> {
-    let limits: Limits<D> = Limits::new(alloc).expect(rt, "memory for limits");
+/// A row at 4000 where all may stand.
+fn any_row<D: Domain>(rt: &impl Abort, alloc: Global) -> Row<D> {
     let parts = RowParts {
         location: 0o4000,
         a: D::full(),
@@ -482,35 +510,72 @@ fn first_of<D: Domain>(rt: &impl Abort, alloc: Global, number: u32) -> Post<D> {
         v: [true; 2],
         at: Vec::new(alloc),
     };
-    let base = Row::of(parts).expect(rt, "the parts of a row");
-    let image = image(rt, alloc);
-    let word = word(rt, number);
-    let outcome = posts(&Machine::standard(), &image, &limits, &base, word, 0, false).ok();
-    outcome.and_then(|pair| pair.first).expect(rt, "a post")
+    Row::of(parts).expect(rt, "the parts of a row")
+}
+
+/// The first post of an answer, if it has one.
+fn first_post<D: Domain>(told: Result<PostPair<D>, Stop<D>>) -> Option<Post<D>> {
+    match told {
+        Ok(pair) => pair.first,
+        Err(_) => None,
+    }
+}
+
+/// The first post of a case of a domain at index 0 with a clear indicator, where A and all else may be any word.
+fn first_of<D: Domain>(rt: &impl Abort, alloc: Global, number: u32) -> Post<D> {
+    let (limits, base) = (full_limits(rt, alloc), any_row(rt, alloc));
+    let told = judged_in_row(rt, alloc, &limits, &base, number, 0, false);
+    first_post(told).expect(rt, "a post")
 }
 
 #[test]
-fn posts_of_ranges(rt: HostRuntime) {
-    let alloc = rt.alloc();
-    let post: Post<Range> = first_of(&rt, alloc, 0o204100);
-    assert_eq!(rt; post.a, Range::of(7, 7).expect(&rt, "a range"));
-    let post: Post<Value> = first_of(&rt, alloc, 0o204100);
-    assert_eq!(rt; post.a, Value::of_word(word(&rt, 7)));
+fn post_of_ranges(rt: HostRuntime) {
+    let post: Post<Range> = first_of(&rt, rt.alloc(), 0o204100);
+    expect_same(&rt, &post.a, &Range::of(7, 7).expect(&rt, "a range"));
+}
+
+#[test]
+fn post_of_values(rt: HostRuntime) {
+    let post: Post<Value> = first_of(&rt, rt.alloc(), 0o204100);
+    expect_same(&rt, &post.a, &Value::of_word(word(&rt, 7)));
+}
+
+/// Whether the cases of ADD 0020 at 4000 go on, at each index and with each indicator.
+fn all_go_on(
+    machine: &Machine,
+    image: &Image,
+    limits: &Limits<Value>,
+    base: &Row<Value>,
+    add: Word,
+) -> bool {
+    for index in 0..8 {
+        let clear = posts(machine, image, limits, base, add, index, false);
+        let set = posts(machine, image, limits, base, add, index, true);
+        if clear.is_err() || set.is_err() {
+            return false;
+        }
+    }
+    true
+}
+
+/// Asks many times whether the cases of ADD 0020 go on.
+fn expect_many(
+    rt: &impl Abort,
+    machine: &Machine,
+    image: &Image,
+    limits: &Limits<Value>,
+    base: &Row<Value>,
+) {
+    let add = word(rt, 0o220020);
+    for _ in 0..20_000 {
+        assert!(rt; all_go_on(machine, image, limits, base, add));
+    }
 }
 
 #[test]
 fn many_cases(rt: HostRuntime) {
     let alloc = rt.alloc();
-    let (machine, image, limits) = (Machine::standard(), image(&rt, alloc), limits(&rt, alloc));
     let base = row(&rt, alloc, 0o4000, value(&rt, 1, 3), None);
-    let add = word(&rt, 0o220020);
-    let mut went_on = true;
-    for _ in 0..20_000 {
-        for index in 0..8 {
-            let clear = posts(&machine, &image, &limits, &base, add, index, false);
-            let set = posts(&machine, &image, &limits, &base, add, index, true);
-            went_on = went_on && clear.is_ok() && set.is_ok();
-        }
-    }
-    assert!(rt; went_on);
+    let (image, limits) = (image(&rt, alloc), limits(&rt, alloc, false));
+    expect_many(&rt, &Machine::standard(), &image, &limits, &base);
 }
