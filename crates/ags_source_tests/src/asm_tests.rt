@@ -1,7 +1,7 @@
 //! Worked sources of docs/SOURCE.md, and further ones worked out by hand from its rules: starts, ends and card numbers are counted
 //! by hand, and octal numbers are typed as octal.
 
-use crate::common::parts_of;
+use crate::common::{expect_same, parts_of};
 use ags_asm::{
     Assembled, Placed, assemble, each_card_has_its_definition, each_text_has_a_meaning,
     source_defines_each_place_once, source_defines_words_of_the_memory, source_means_one_thing,
@@ -18,16 +18,18 @@ fn assembled(rt: &impl Abort, alloc: Global, source: &[u8]) -> Assembled {
         .expect(rt, "a source without a fault")
 }
 
+/// Whether the first card of a source stands at the place 0 and has this word.
+fn has_first_word(made: &Assembled, word: u32) -> bool {
+    match made.cards.first() {
+        Some(card) => card.place == Some(0) && card.word.number() == word,
+        None => false,
+    }
+}
+
 /// Expects this word at the place 0, where the first card stands, and no word behind it.
 fn expect_word(rt: &impl Abort, made: &Assembled, word: u32) {
-    assert_eq!(rt; made.image.word_at(0).number(), word);
-    assert!(rt; made.image.get(1).is_none());
-    let first = made.cards.first();
-    assert!(rt; first.is_some());
-    if let Some(card) = first {
-        assert!(rt; card.place == Some(0));
-        assert_eq!(rt; card.word.number(), word);
-    }
+    assert!(rt; has_first_word(made, word));
+    assert!(rt; made.image.word_at(0).number() == word && made.image.get(1).is_none());
 }
 
 /// The rows of `words_are_made`.
@@ -49,16 +51,15 @@ const WORDS_ARE_MADE: [(&[u8], u32); 12] = [
 #[test]
 fn words_are_made(rt: HostRuntime) {
     for &(source, word) in &WORDS_ARE_MADE {
-        let made = assembled(&rt, rt.alloc(), source);
-        expect_word(&rt, &made, word);
+        expect_word(&rt, &assembled(&rt, rt.alloc(), source), word);
     }
 }
 
 /// Compares cards with the spans, the places and the words that are wanted.
 fn expect_cards(rt: &impl Abort, cards: &[Placed], wanted: &[(u32, u32, Option<u16>, u32)]) {
-    assert_eq!(rt; cards.len(), wanted.len());
+    expect_same(rt, &cards.len(), &wanted.len());
     for (card, parts) in cards.iter().zip(wanted) {
-        assert!(rt; parts_of(card) == *parts);
+        expect_same(rt, &parts_of(card), parts);
     }
 }
 
@@ -66,19 +67,22 @@ fn expect_cards(rt: &impl Abort, cards: &[Placed], wanted: &[(u32, u32, Option<u
 fn expect_spans(rt: &impl Abort, made: &Assembled) {
     let wanted = [(0, 7, None, 0), (8, 18, None, 0), (19, 26, Some(0o4000), 7)];
     expect_cards(rt, &made.cards, &wanted);
-    assert_eq!(rt; made.symbols.len(), 1);
-    assert_eq!(rt; made.image.word_at(0o4000).number(), 7);
+    expect_same(
+        rt,
+        &(made.symbols.len(), made.image.word_at(0o4000).number()),
+        &(1, 7),
+    );
 }
 
 #[test]
 fn cards_keep_their_spans(rt: HostRuntime) {
-    let made = assembled(&rt, rt.alloc(), b"* FIRST\n ORG /4000\nA OCT 7\r\n");
-    expect_spans(&rt, &made);
+    let source = b"* FIRST\n ORG /4000\nA OCT 7\r\n";
+    expect_spans(&rt, &assembled(&rt, rt.alloc(), source));
 }
 
 #[test]
 fn empty_source_has_no_cards(rt: HostRuntime) {
-    assert_eq!(rt; assembled(&rt, rt.alloc(), b"").cards.len(), 0);
+    expect_same(&rt, &assembled(&rt, rt.alloc(), b"").cards.len(), &0);
 }
 
 #[test]

@@ -1,5 +1,6 @@
 //! Lines worked out by hand from the rules of cards, and each law called once.
 
+use crate::common::expect_same;
 use ags_card::{
     Atom, Body, CardFault, Name, Term, cards_keep_to_their_form,
     each_line_is_a_card_or_has_a_fault, lines_spell_what_is_read, read_card,
@@ -9,15 +10,22 @@ use ags_isa::Order;
 use ags_word::Word;
 use std::process::Abort;
 
+/// A text, and whether it is a symbol.
+const NAMES: [(&[u8], bool); 7] = [
+    (b"A", true),
+    (b"1A2B3C", true),
+    (b"ORG", true),
+    (b"", false),
+    (b"123456", false),
+    (b"ABCDEFG", false),
+    (b"a", false),
+];
+
 #[test]
 fn symbols_are_names(rt: HostRuntime) {
-    assert!(rt; Name::of(b"A").is_some());
-    assert!(rt; Name::of(b"1A2B3C").is_some());
-    assert!(rt; Name::of(b"ORG").is_some());
-    assert!(rt; Name::of(b"").is_none());
-    assert!(rt; Name::of(b"123456").is_none());
-    assert!(rt; Name::of(b"ABCDEFG").is_none());
-    assert!(rt; Name::of(b"a").is_none());
+    for &(text, is_name) in &NAMES {
+        expect_same(&rt, &(text, Name::of(text).is_some()), &(text, is_name));
+    }
 }
 
 /// The order of a card with its index bit, and how many terms it has.
@@ -62,8 +70,12 @@ const ORDERS_HAVE_THEIR_OPERANDS: [(&[u8], Order, bool, usize); 10] = [
 
 #[test]
 fn orders_have_their_operands(rt: HostRuntime) {
-    for (row, (line, order, indexed, count)) in ORDERS_HAVE_THEIR_OPERANDS.into_iter().enumerate() {
-        assert!(rt; is_order(line, order, indexed, count), "row {row}");
+    for &(line, order, indexed, count) in &ORDERS_HAVE_THEIR_OPERANDS {
+        expect_same(
+            &rt,
+            &(line, is_order(line, order, indexed, count)),
+            &(line, true),
+        );
     }
 }
 
@@ -78,27 +90,28 @@ fn last_term(line: &[u8]) -> Option<Term> {
     }
 }
 
-/// Whether the last term of an order's card is this one.
-fn ends_in(line: &[u8], minus: bool, atom: Atom) -> bool {
-    last_term(line) == Some(Term { minus, atom })
+/// Expects the last term of an order's card.
+fn expect_last(rt: &impl Abort, line: &[u8], minus: bool, atom: Atom) {
+    assert!(rt; last_term(line) == Some(Term { minus, atom }));
+}
+
+/// The symbol of a text.
+fn symbol(rt: &impl Abort, text: &[u8]) -> Atom {
+    Atom::Symbol(Name::of(text).expect(rt, "a symbol"))
 }
 
 #[test]
 fn terms_have_their_signs(rt: HostRuntime) {
-    assert!(rt; ends_in(b" TRA /4001", false, Atom::Number(2049)));
-    assert!(rt; ends_in(b" ADD /200,1", false, Atom::Number(128)));
-    assert!(rt; ends_in(b" COM 5,1", false, Atom::Number(0)));
-    assert!(rt; ends_in(b" CLA 000010", false, Atom::Number(10)));
-    assert!(rt; ends_in(b" CLA -/10", true, Atom::Number(8)));
-    assert!(rt; ends_in(b" CLA *", false, Atom::Here));
-    assert!(rt; ends_in(b" CLA 1-*,1", true, Atom::Here));
-    assert!(rt; ends_in(b" CLA *-X+999999", false, Atom::Number(999999)));
-    let name = Name::of(b"1A");
-    assert!(rt; name.is_some());
-    if let Some(name) = name {
-        assert!(rt; ends_in(b" CLA +1A", false, Atom::Symbol(name)));
-        assert!(rt; ends_in(b" CLA 1-1A", true, Atom::Symbol(name)));
-    }
+    expect_last(&rt, b" TRA /4001", false, Atom::Number(2049));
+    expect_last(&rt, b" ADD /200,1", false, Atom::Number(128));
+    expect_last(&rt, b" COM 5,1", false, Atom::Number(0));
+    expect_last(&rt, b" CLA 000010", false, Atom::Number(10));
+    expect_last(&rt, b" CLA -/10", true, Atom::Number(8));
+    expect_last(&rt, b" CLA *", false, Atom::Here);
+    expect_last(&rt, b" CLA 1-*,1", true, Atom::Here);
+    expect_last(&rt, b" CLA *-X+999999", false, Atom::Number(999999));
+    expect_last(&rt, b" CLA +1A", false, symbol(&rt, b"1A"));
+    expect_last(&rt, b" CLA 1-1A", true, symbol(&rt, b"1A"));
 }
 
 /// The word of a card that is a constant.
@@ -137,8 +150,8 @@ const CONSTANTS_HAVE_THEIR_WORDS: [(&[u8], u32); 12] = [
 
 #[test]
 fn constants_have_their_words(rt: HostRuntime) {
-    for (row, (line, number)) in CONSTANTS_HAVE_THEIR_WORDS.into_iter().enumerate() {
-        assert!(rt; has_word(line, number), "row {row}");
+    for &(line, number) in &CONSTANTS_HAVE_THEIR_WORDS {
+        expect_same(&rt, &(line, has_word(line, number)), &(line, true));
     }
 }
 
@@ -150,102 +163,91 @@ fn fault_of(line: &[u8]) -> Option<CardFault> {
     }
 }
 
-/// Compares the least fault of each line, or that it has none, with what is wanted of all.
-fn expect_all(rt: &impl Abort, lines: &[&[u8]], wanted: Option<CardFault>) {
-    for (row, line) in lines.iter().enumerate() {
-        assert!(rt; fault_of(line) == wanted, "row {row}");
-    }
+/// Expects the least fault of a line, or that it has none.
+fn expect_fault(rt: &impl Abort, line: &[u8], wanted: Option<CardFault>) {
+    expect_same(rt, &(line, fault_of(line)), &(line, wanted));
 }
+
+/// Lines that keep to their form.
+const FAULTLESS: [&[u8]; 9] = [
+    b"",
+    b" \t",
+    b"*",
+    b"* ANY,\t/~",
+    b"END END",
+    b" END 1,2 8",
+    b"ORG ORG ORG",
+    b"A EQU -1+A",
+    b" BSS 0",
+];
 
 #[test]
 fn lines_that_keep_to_their_form_have_no_fault(rt: HostRuntime) {
-    let blanks = [b' '; 120];
-    let lines: [&[u8]; 10] = [
-        b"",
-        b" \t",
-        b"*",
-        b"* ANY,\t/~",
-        b"END END",
-        b" END 1,2 8",
-        b"ORG ORG ORG",
-        b"A EQU -1+A",
-        b" BSS 0",
-        &blanks,
-    ];
-    expect_all(&rt, &lines, None);
+    for line in &FAULTLESS {
+        expect_fault(&rt, line, None);
+    }
+    expect_fault(&rt, &[b' '; 120], None);
 }
 
 #[test]
-fn bad_bytes_and_long_lines_are_told(rt: HostRuntime) {
-    let blanks = [b' '; 121];
+fn long_lines_are_told(rt: HostRuntime) {
     let mut long = [b'*'; 121];
     long[120] = 0;
-    let bytes: [&[u8]; 5] = [b" CLA 1\0", b"*\x7f", b"\xff", b" CLA 1\r", &long];
-    expect_all(&rt, &bytes, Some(CardFault::BadByte));
-    expect_all(&rt, &[&blanks], Some(CardFault::LongCard));
+    expect_fault(&rt, &long, Some(CardFault::BadByte));
+    expect_fault(&rt, &[b' '; 121], Some(CardFault::LongCard));
 }
 
-#[test]
-fn bad_symbols_and_unknown_operations_are_told(rt: HostRuntime) {
-    let symbols: [&[u8]; 7] = [
-        b"ABCDEFG CLA 1",
-        b"123 CLA 1",
-        b"a XYZ",
-        b"A. CLA 1",
-        b" EQU 1",
-        b" EQU",
-        b" EQU 1,2",
-    ];
-    expect_all(&rt, &symbols, Some(CardFault::BadSymbol));
-    let operations: [&[u8]; 6] = [
-        b"CLA",
-        b"CLA 1",
-        b" CLAX 1",
-        b" cla 1",
-        b" * REMARK",
-        b" SYN 1",
-    ];
-    expect_all(&rt, &operations, Some(CardFault::UnknownOperation));
-}
+/// Lines, each with its least fault.
+const FAULTS: [(&[u8], CardFault); 42] = [
+    (b" CLA 1\0", CardFault::BadByte),
+    (b"*\x7f", CardFault::BadByte),
+    (b"\xff", CardFault::BadByte),
+    (b" CLA 1\r", CardFault::BadByte),
+    (b"ABCDEFG CLA 1", CardFault::BadSymbol),
+    (b"123 CLA 1", CardFault::BadSymbol),
+    (b"a XYZ", CardFault::BadSymbol),
+    (b"A. CLA 1", CardFault::BadSymbol),
+    (b" EQU 1", CardFault::BadSymbol),
+    (b" EQU", CardFault::BadSymbol),
+    (b" EQU 1,2", CardFault::BadSymbol),
+    (b"CLA", CardFault::UnknownOperation),
+    (b"CLA 1", CardFault::UnknownOperation),
+    (b" CLAX 1", CardFault::UnknownOperation),
+    (b" cla 1", CardFault::UnknownOperation),
+    (b" * REMARK", CardFault::UnknownOperation),
+    (b" SYN 1", CardFault::UnknownOperation),
+    (b" CLA", CardFault::MissingOperand),
+    (b"A EQU \t", CardFault::MissingOperand),
+    (b" OCT", CardFault::MissingOperand),
+    (b" ORG 1,1", CardFault::ExtraOperand),
+    (b" BSS ,", CardFault::ExtraOperand),
+    (b"A EQU 8A,", CardFault::ExtraOperand),
+    (b" DEC 1,2", CardFault::ExtraOperand),
+    (b" OCT ,9", CardFault::ExtraOperand),
+    (b" CLA 1,", CardFault::BadExpression),
+    (b" CLA 1,2", CardFault::BadExpression),
+    (b" CLA 1,1,1", CardFault::BadExpression),
+    (b" CLA ,1", CardFault::BadExpression),
+    (b" CLA 1+", CardFault::BadExpression),
+    (b" CLA --1", CardFault::BadExpression),
+    (b" CLA /8", CardFault::BadExpression),
+    (b" CLA /1234567", CardFault::BadExpression),
+    (b" CLA 1234567", CardFault::BadExpression),
+    (b" ORG **", CardFault::BadExpression),
+    (b" BSS A*", CardFault::BadExpression),
+    (b" DEC 1B61", CardFault::BadDecimal),
+    (b" DEC 12345678901", CardFault::BadDecimal),
+    (b" DEC /1", CardFault::BadDecimal),
+    (b" OCT 8", CardFault::BadOctal),
+    (b" OCT 1234567", CardFault::BadOctal),
+    (b" OCT -", CardFault::BadOctal),
+];
 
 #[test]
-fn missing_and_extra_operands_are_told(rt: HostRuntime) {
-    let missing: [&[u8]; 3] = [b" CLA", b"A EQU \t", b" OCT"];
-    expect_all(&rt, &missing, Some(CardFault::MissingOperand));
-    let extra: [&[u8]; 5] = [
-        b" ORG 1,1",
-        b" BSS ,",
-        b"A EQU 8A,",
-        b" DEC 1,2",
-        b" OCT ,9",
-    ];
-    expect_all(&rt, &extra, Some(CardFault::ExtraOperand));
-}
-
-#[test]
-fn bad_expressions_are_told(rt: HostRuntime) {
-    let lines: [&[u8]; 11] = [
-        b" CLA 1,",
-        b" CLA 1,2",
-        b" CLA 1,1,1",
-        b" CLA ,1",
-        b" CLA 1+",
-        b" CLA --1",
-        b" CLA /8",
-        b" CLA /1234567",
-        b" CLA 1234567",
-        b" ORG **",
-        b" BSS A*",
-    ];
-    expect_all(&rt, &lines, Some(CardFault::BadExpression));
-}
-
-#[test]
-fn bad_constants_are_told(rt: HostRuntime) {
-    let decimals: [&[u8]; 3] = [b" DEC 1B61", b" DEC 12345678901", b" DEC /1"];
-    expect_all(&rt, &decimals, Some(CardFault::BadDecimal));
-    let octals: [&[u8]; 3] = [b" OCT 8", b" OCT 1234567", b" OCT -"];
-    expect_all(&rt, &octals, Some(CardFault::BadOctal));
+fn least_faults_are_told(rt: HostRuntime) {
+    for &(line, fault) in &FAULTS {
+        expect_fault(&rt, line, Some(fault));
+    }
 }
 
 #[test]

@@ -1,6 +1,6 @@
 //! Sources whose cards are placed, and sources that are refused, worked out by hand from docs/SOURCE.md.
 
-use crate::common::parts_of;
+use crate::common::{expect_same, parts_of};
 use ags_places::{
     Placed, PlacedSource, SourceError, SourceKind, card_lines_follow, each_symbol_has_a_pair,
     one_list_of_pairs_fits, place_all, places_are_sums, words_stand_in_the_memory,
@@ -8,7 +8,6 @@ use ags_places::{
 use ags_symbol::Symbols;
 use std::alloc::Global;
 use std::process::Abort;
-use std::test::Fail;
 
 /// A source that is placed.
 fn placed(rt: &impl Abort, alloc: Global, source: &[u8]) -> PlacedSource {
@@ -20,9 +19,9 @@ fn placed(rt: &impl Abort, alloc: Global, source: &[u8]) -> PlacedSource {
 
 /// Compares cards, whose words aren't made yet, with the spans and the places that are wanted.
 fn expect_cards(rt: &impl Abort, cards: &[Placed], wanted: &[(u32, u32, Option<u16>)]) {
-    assert_eq!(rt; cards.len(), wanted.len());
+    expect_same(rt, &cards.len(), &wanted.len());
     for (card, (start, end, place)) in cards.iter().zip(wanted) {
-        assert!(rt; parts_of(card) == (*start, *end, *place, 0));
+        expect_same(rt, &parts_of(card), &(*start, *end, *place, 0));
     }
 }
 
@@ -35,37 +34,45 @@ fn is_pair(symbols: &Symbols, position: usize, name: &[u8], value: i32, card: u3
     held.bytes() == name && defined.value == value && defined.card == card
 }
 
-#[test]
-fn cards_are_placed(rt: HostRuntime) -> Result<(), Fail> {
-    let source = placed(
-        &rt,
-        rt.alloc(),
-        b" ORG /4000\nA OCT 1\r\n* NO CARD\nB BSS 3\nC ORG *+1\n\tTRA D\nD EQU C-*\n DEC 1B1 X\nE END\n ???",
-    );
-    let wanted = [
-        (0, 10, None),
-        (11, 18, Some(0o4000)),
-        (20, 29, None),
-        (30, 37, None),
-        (38, 47, None),
-        (48, 54, Some(0o4005)),
-        (55, 64, None),
-        (65, 75, Some(0o4006)),
-        (76, 81, None),
-    ];
-    expect_cards(&rt, &source.cards, &wanted);
-    let symbols = [
-        (b"A", 0o4000, 2),
-        (b"B", 0o4001, 4),
-        (b"C", 0o4005, 5),
-        (b"D", -1, 7),
-        (b"E", 0o4007, 9),
-    ];
-    assert_eq!(rt; source.symbols.len(), symbols.len());
-    for (position, (name, value, card)) in symbols.into_iter().enumerate() {
-        assert!(rt; is_pair(&source.symbols, position, name, value, card));
+/// Expects these pairs of symbols, in order.
+fn expect_symbols(rt: &impl Abort, symbols: &Symbols, wanted: &[(&[u8], i32, u32)]) {
+    expect_same(rt, &symbols.len(), &wanted.len());
+    for (position, (name, value, card)) in wanted.iter().enumerate() {
+        assert!(rt; is_pair(symbols, position, name, *value, *card));
     }
-    Ok(())
+}
+
+/// A source with a card of each kind.
+const SOURCE: &[u8] =
+    b" ORG /4000\nA OCT 1\r\n* NO CARD\nB BSS 3\nC ORG *+1\n\tTRA D\nD EQU C-*\n DEC 1B1 X\nE END\n ???";
+
+/// The spans and the places of its cards.
+const CARDS: [(u32, u32, Option<u16>); 9] = [
+    (0, 10, None),
+    (11, 18, Some(0o4000)),
+    (20, 29, None),
+    (30, 37, None),
+    (38, 47, None),
+    (48, 54, Some(0o4005)),
+    (55, 64, None),
+    (65, 75, Some(0o4006)),
+    (76, 81, None),
+];
+
+/// Its symbols, each with its value and its card.
+const SYMBOLS: [(&[u8], i32, u32); 5] = [
+    (b"A", 0o4000, 2),
+    (b"B", 0o4001, 4),
+    (b"C", 0o4005, 5),
+    (b"D", -1, 7),
+    (b"E", 0o4007, 9),
+];
+
+#[test]
+fn cards_are_placed(rt: HostRuntime) {
+    let source = placed(&rt, rt.alloc(), SOURCE);
+    expect_cards(&rt, &source.cards, &CARDS);
+    expect_symbols(&rt, &source.symbols, &SYMBOLS);
 }
 
 /// The rows of `faults_of_words_are_printed`.
@@ -88,17 +95,21 @@ const FAULTS_OF_WORDS_ARE_PRINTED: [(SourceKind, &str); 4] = [
     ),
 ];
 
+/// Expects the line of a fault at the card 12.
+fn expect_line(rt: &impl Abort, alloc: Global, kind: SourceKind, wanted: &str) {
+    let fault = SourceError { card: 12, kind };
+    let line = format!(in alloc; "{fault}").expect(rt, "memory for a line");
+    expect_same(rt, &line.as_str(), &wanted);
+}
+
 #[test]
-fn faults_of_words_are_printed(rt: HostRuntime) -> Result<(), Fail> {
-    let alloc = rt.alloc();
+fn faults_of_words_are_printed(rt: HostRuntime) {
     for &(kind, wanted) in &FAULTS_OF_WORDS_ARE_PRINTED {
-        let fault = SourceError { card: 12, kind };
-        assert!(rt; format!(in alloc; "{fault}")?.as_str() == wanted);
+        expect_line(&rt, rt.alloc(), kind, wanted);
     }
     card_lines_follow();
     each_symbol_has_a_pair();
     one_list_of_pairs_fits();
     places_are_sums();
     words_stand_in_the_memory();
-    Ok(())
 }

@@ -1,19 +1,25 @@
 //! Symbols that are defined and looked up, and sums that are worked out by hand.
 
+use crate::common::expect_same;
 use ags_card::{Body, Name, Terms, read_card};
 use ags_symbol::{DefineError, Defined, Symbols, pairs_are_found_by_name};
 use std::alloc::Global;
 use std::process::Abort;
-use std::test::Fail;
 
 /// The name of a text.
 fn name(rt: &impl Abort, text: &[u8]) -> Name {
     Name::of(text).expect(rt, "a symbol")
 }
 
-/// What the symbol of this name stands for.
-fn found(rt: &impl Abort, symbols: &Symbols, text: &[u8]) -> Option<Defined> {
-    symbols.get(&name(rt, text))
+/// Defines the symbol of a text for the first time.
+fn define(rt: &impl Abort, symbols: &mut Symbols, text: &[u8], value: i32, card: u32) {
+    assert!(rt; -262_143 <= value && value <= 262_143);
+    assert!(rt; symbols.define(name(rt, text), value, card).is_ok());
+}
+
+/// Expects what the symbol of a text stands for, or that it is not defined.
+fn expect_found(rt: &impl Abort, symbols: &Symbols, text: &[u8], wanted: Option<Defined>) {
+    assert!(rt; symbols.get(&name(rt, text)) == wanted);
 }
 
 /// Whether the symbol at this position is of this name, and stands for this.
@@ -28,19 +34,17 @@ fn is_nth(symbols: &Symbols, position: usize, text: &[u8], wanted: Defined) -> b
 /// The symbols AB, of card 1, and A, of card 3. AB is defined a second time in vain.
 fn two_symbols(rt: &impl Abort, alloc: Global) -> Symbols {
     let mut symbols = Symbols::new(alloc);
-    assert_eq!(rt; symbols.len(), 0);
-    assert!(rt; found(rt, &symbols, b"A").is_none());
-    assert!(rt; symbols.define(name(rt, b"AB"), -262_143, 1).is_ok());
-    assert!(rt; found(rt, &symbols, b"A").is_none());
-    assert!(rt; symbols.define(name(rt, b"A"), 262_143, 3).is_ok());
+    assert!(rt; symbols.len() == 0);
+    expect_found(rt, &symbols, b"A", None);
+    define(rt, &mut symbols, b"AB", -262_143, 1);
+    expect_found(rt, &symbols, b"A", None);
+    define(rt, &mut symbols, b"A", 262_143, 3);
     assert!(rt; symbols.define(name(rt, b"AB"), 5, 4) == Err(DefineError::Twice { first: 1 }));
     symbols
 }
 
-#[test]
-fn symbols_are_defined_once(rt: HostRuntime) -> Result<(), Fail> {
-    let symbols = two_symbols(&rt, rt.alloc());
-    assert_eq!(rt; symbols.len(), 2);
+/// Expects what `two_symbols` defines.
+fn expect_two(rt: &impl Abort, symbols: &Symbols) {
     let first = Defined {
         value: -262_143,
         card: 1,
@@ -49,11 +53,15 @@ fn symbols_are_defined_once(rt: HostRuntime) -> Result<(), Fail> {
         value: 262_143,
         card: 3,
     };
-    assert!(rt; is_nth(&symbols, 0, b"AB", first));
-    assert!(rt; is_nth(&symbols, 1, b"A", second));
-    assert!(rt; found(&rt, &symbols, b"A") == Some(second));
-    assert!(rt; found(&rt, &symbols, b"ABC").is_none());
-    Ok(())
+    assert!(rt; symbols.len() == 2);
+    assert!(rt; is_nth(symbols, 0, b"AB", first) && is_nth(symbols, 1, b"A", second));
+    expect_found(rt, symbols, b"A", Some(second));
+    expect_found(rt, symbols, b"ABC", None);
+}
+
+#[test]
+fn symbols_are_defined_once(rt: HostRuntime) {
+    expect_two(&rt, &two_symbols(&rt, rt.alloc()));
 }
 
 /// The terms of an order's operand.
@@ -76,14 +84,19 @@ const EXPRESSIONS_ARE_SUMS: [(&[u8], Option<i32>); 8] = [
     (b" CLA 999999+999999-1", Some(1_999_997)),
 ];
 
+/// Expects the value of an order's operand at 4096, if it has one.
+fn expect_value(rt: &impl Abort, symbols: &Symbols, line: &[u8], wanted: Option<i32>) {
+    let value = symbols.value_of(&terms(rt, line), 4096);
+    expect_same(rt, &(line, value), &(line, wanted));
+}
+
 #[test]
-fn expressions_are_sums(rt: HostRuntime) -> Result<(), Fail> {
+fn expressions_are_sums(rt: HostRuntime) {
     let mut symbols = Symbols::new(rt.alloc());
-    assert!(rt; symbols.define(name(&rt, b"A"), 100, 1).is_ok());
-    assert!(rt; symbols.define(name(&rt, b"B"), -7, 2).is_ok());
+    define(&rt, &mut symbols, b"A", 100, 1);
+    define(&rt, &mut symbols, b"B", -7, 2);
     for &(line, wanted) in &EXPRESSIONS_ARE_SUMS {
-        assert!(rt; symbols.value_of(&terms(&rt, line), 4096) == wanted);
+        expect_value(&rt, &symbols, line, wanted);
     }
     pairs_are_found_by_name();
-    Ok(())
 }

@@ -2,13 +2,13 @@
 
 ghost use Rattle.std.specs.Prelude.{None};
 
+use crate::common::expect_same;
 use ags_asm::assemble;
 use ags_isa::Codes;
 use ags_outside::{PutDone, Sink, SteadySink};
 use ags_xref::{XrefError, pairs_by_name_ascend, send_xref};
 use std::alloc::Global;
 use std::process::Abort;
-use std::test::Fail;
 
 /// A source with symbols in the operands of orders, ORG, EQU and BSS, twice on one card, and in remarks and a comment.
 const NAMED: &str = " ORG /4000
@@ -60,9 +60,9 @@ fn send_source<K: Sink>(
     out: &mut K,
 ) -> Result<(), XrefError> {
     assert!(rt; source.len() <= 4_194_304);
-    let Ok(made) = assemble(alloc, source, &Codes::standard()) else {
-        panic!(rt; "a source with a fault");
-    };
+    let made = assemble(alloc, source, &Codes::standard())
+        .ok()
+        .expect(rt, "a source without a fault");
     send_xref(alloc, source, &made, out)
 }
 
@@ -79,37 +79,36 @@ const REFERENCES_ARE_SENT: [(&str, &str); 6] = [
     ("", ""),
 ];
 
+/// Expects the cross reference of a source.
+fn expect_sent(rt: &impl Abort, alloc: Global, source: &str, text: &str) {
+    let mut out = SteadySink::new(alloc, 100);
+    assert!(rt; send_source(rt, alloc, source.as_bytes(), &mut out).is_ok());
+    expect_same(rt, &str::from_utf8(out.bytes()), &Ok(text));
+}
+
 #[test]
-fn references_are_sent(rt: HostRuntime) -> Result<(), Fail> {
-    let alloc = rt.alloc();
+fn references_are_sent(rt: HostRuntime) {
     for &(source, text) in &REFERENCES_ARE_SENT {
-        let mut out = SteadySink::new(alloc, 100);
-        assert!(rt; send_source(&rt, alloc, source.as_bytes(), &mut out).is_ok());
-        assert_eq!(rt; str::from_utf8(out.bytes())?, text);
+        expect_sent(&rt, rt.alloc(), source, text);
     }
     pairs_by_name_ascend();
-    Ok(())
+}
+
+/// Sends the cross reference of `NAMED` to a sink that fails at a put, and looks at the answer and at how many puts there were.
+fn expect_puts(rt: &impl Abort, alloc: Global, at: u64, wanted: Result<(), XrefError>, puts: u64) {
+    let mut out = FailingSink {
+        at,
+        puts: 0,
+        faults: 0,
+    };
+    let answer = send_source(rt, alloc, NAMED.as_bytes(), &mut out);
+    expect_same(rt, &(answer, out.puts), &(wanted, puts));
 }
 
 #[test]
 fn a_fault_is_told_at_each_line(rt: HostRuntime) {
     for at in 1..=4 {
-        let mut out = FailingSink {
-            at,
-            puts: 0,
-            faults: 0,
-        };
-        let Err(error) = send_source(&rt, rt.alloc(), NAMED.as_bytes(), &mut out) else {
-            panic!(rt; "a fault is not told");
-        };
-        assert_eq!(rt; error, XrefError::WriteFault);
-        assert_eq!(rt; out.puts, at);
+        expect_puts(&rt, rt.alloc(), at, Err(XrefError::WriteFault), at);
     }
-    let mut out = FailingSink {
-        at: 5,
-        puts: 0,
-        faults: 0,
-    };
-    assert!(rt; send_source(&rt, rt.alloc(), NAMED.as_bytes(), &mut out).is_ok());
-    assert_eq!(rt; out.puts, 4);
+    expect_puts(&rt, rt.alloc(), 5, Ok(()), 4);
 }
