@@ -1,15 +1,24 @@
 //! The program over files in memory. The expected lines are typed by hand from docs/SOURCE.md, docs/MACHINE.md and
 //! docs/SCRIPT.md.
 
-use crate::command_lines::arguments_of;
+use crate::command_lines::{arguments_of, expect_same};
 use ags_command::arguments_ask_for_one_command;
 use ags_outside::{SteadyShelf, SteadySink};
 use ags_top::{
     Status, ags_main, arguments_have_one_answer, certified_lines_begin_with_certified,
     each_command_has_an_answer,
 };
+use std::alloc::Global;
 use std::process::Abort;
-use std::test::Fail;
+
+/// A shelf with these files.
+fn shelf_of(rt: &impl Abort, alloc: Global, files: &[(&str, &[u8])]) -> SteadyShelf {
+    let mut shelf = SteadyShelf::new(alloc);
+    for &(name, bytes) in files {
+        assert!(rt; shelf.add(name, bytes).is_ok());
+    }
+    shelf
+}
 
 /// Runs a command line over these files, into a sink that takes so many bytes at once, and compares what comes.
 pub(crate) fn compare_over(
@@ -19,18 +28,28 @@ pub(crate) fn compare_over(
     most: usize,
     status: Status,
     text: &str,
-) -> Result<(), Fail> {
+) {
     let alloc = rt.alloc();
-    let mut shelf = SteadyShelf::new(alloc);
-    for (name, bytes) in files.iter().copied() {
-        shelf.add(name, bytes)?;
-    }
+    let mut shelf = shelf_of(rt, alloc, files);
     let mut out = SteadySink::new(alloc, most.max(1));
-    let arguments = arguments_of(alloc, line)?;
+    let arguments = arguments_of(rt, alloc, line);
     let ended = ags_main(alloc, &arguments, &mut shelf, &mut out);
-    assert!(rt; ended == status, "{line}");
-    assert_eq!(rt; str::from_utf8(out.bytes())?, text);
-    Ok(())
+    expect_same(rt, &(line, ended), &(line, status));
+    expect_same(rt, &str::from_utf8(out.bytes()), &Ok(text));
+}
+
+/// The same over a source `S` and a second file.
+pub(crate) fn compare_pair(
+    rt: &(impl AllocGlobal + Abort),
+    source: &str,
+    second: (&str, &str),
+    line: &str,
+    most: usize,
+    status: Status,
+    text: &str,
+) {
+    let files = [("S", source.as_bytes()), (second.0, second.1.as_bytes())];
+    compare_over(rt, &files, line, most, status, text);
 }
 
 /// The same over the source `S` alone.
@@ -41,53 +60,53 @@ pub(crate) fn compare(
     most: usize,
     status: Status,
     text: &str,
-) -> Result<(), Fail> {
-    compare_over(rt, &[("S", source)], line, most, status, text)
+) {
+    compare_over(rt, &[("S", source)], line, most, status, text);
 }
 
 #[test]
-fn lists_sources(rt: HostRuntime) -> Result<(), Fail> {
-    let first = b"* FIRST\n ORG /4000\nA OCT 7\n".as_slice();
+fn lists_sources(rt: HostRuntime) {
+    let first = b"* FIRST\n ORG /4000\nA OCT 7\n";
     let listing =
         "0000001             * FIRST\n0000002              ORG /4000\n0000003 4000 000007 A OCT 7\n";
-    for most in [1000, 1] {
-        compare(&rt, first, "assemble S", most, Status::Done, listing)?;
-    }
-    compare(&rt, b"", "assemble S", 9, Status::Done, "")
+    compare(&rt, first, "assemble S", 1000, Status::Done, listing);
+    compare(&rt, first, "assemble S", 1, Status::Done, listing);
+    compare(&rt, b"", "assemble S", 9, Status::Done, "");
 }
 
+/// A file with one byte more than a source may have.
+fn long_file(rt: &impl Abort, alloc: Global) -> Vec<u8> {
+    vec![in alloc; b'\n'; 4_194_305].expect(rt, "memory for a file")
+}
+
+/// Arguments that ask for no command.
+const BAD_WORDS: [&str; 15] = [
+    "",
+    "assemble",
+    "workload 0",
+    "workload 007",
+    "assemble S M N",
+    "assemble S M N O",
+    "run",
+    "run S",
+    "run S P M N",
+    "guard S P",
+    "guard S P C M N",
+    "RUN S P",
+    "run assemble",
+    "ASSEMBLE S",
+    "--help",
+];
+
 #[test]
-fn refuses_arguments_and_files(rt: HostRuntime) -> Result<(), Fail> {
-    let lines = [
-        "",
-        "assemble",
-        "workload 0",
-        "workload 007",
-        "assemble S M N",
-        "assemble S M N O",
-        "run",
-        "run S",
-        "run S P M N",
-        "guard S P",
-        "guard S P C M N",
-        "RUN S P",
-        "run assemble",
-        "ASSEMBLE S",
-        "--help",
-    ];
-    for line in lines {
-        compare(&rt, b"", line, 9, Status::BadWords, "WORDS\n")?;
+fn refuses_arguments_and_files(rt: HostRuntime) {
+    for line in &BAD_WORDS {
+        compare(&rt, b"", line, 9, Status::BadWords, "WORDS\n");
     }
-    compare(&rt, b"", "assemble Z", 9, Status::AbsentFile, "ABSENT Z\n")?;
-    let long = vec![in rt.alloc(); b'\n'; 4_194_305]?;
-    compare(
-        &rt,
-        &long,
-        "assemble S",
-        9,
-        Status::LongFile,
-        "LONG S 4194304\n",
-    )
+    compare(&rt, b"", "assemble Z", 9, Status::AbsentFile, "ABSENT Z\n");
+    let long = long_file(&rt, rt.alloc());
+    let text = "LONG S 4194304\n";
+    compare(&rt, &long, "assemble S", 9, Status::LongFile, text);
 }
 
 #[test]
@@ -98,24 +117,26 @@ fn laws_can_be_called() {
     certified_lines_begin_with_certified();
 }
 
+/// Each status with its number.
+const STATUSES: [(Status, u8); 12] = [
+    (Status::Done, 0),
+    (Status::No, 1),
+    (Status::BadSource, 2),
+    (Status::BadWords, 3),
+    (Status::AbsentFile, 4),
+    (Status::ReadFault, 5),
+    (Status::WriteFault, 6),
+    (Status::BadMachine, 7),
+    (Status::BadCert, 8),
+    (Status::BadText, 9),
+    (Status::LongFile, 10),
+    (Status::NoMemory, 11),
+];
+
 #[test]
 fn numbers_statuses(rt: HostRuntime) {
-    let cases = [
-        (Status::Done, 0),
-        (Status::No, 1),
-        (Status::BadSource, 2),
-        (Status::BadWords, 3),
-        (Status::AbsentFile, 4),
-        (Status::ReadFault, 5),
-        (Status::WriteFault, 6),
-        (Status::BadMachine, 7),
-        (Status::BadCert, 8),
-        (Status::BadText, 9),
-        (Status::LongFile, 10),
-        (Status::NoMemory, 11),
-    ];
-    for (status, number) in cases {
-        assert_eq!(rt; status.number(), number);
+    for &(status, number) in &STATUSES {
+        expect_same(&rt, &status.number(), &number);
     }
 }
 
@@ -164,23 +185,28 @@ const PLAYS_SCRIPTS: [Played; 7] = [
 ];
 
 #[test]
-fn plays_scripts(rt: HostRuntime) -> Result<(), Fail> {
+fn plays_scripts(rt: HostRuntime) {
     for &(source, script, text) in &PLAYS_SCRIPTS {
-        let files = [("S", source.as_bytes()), ("P", script.as_bytes())];
-        for most in [1000, 1] {
-            compare_over(&rt, &files, "run S P", most, Status::Done, text)?;
-        }
+        compare_pair(
+            &rt,
+            source,
+            ("P", script),
+            "run S P",
+            1000,
+            Status::Done,
+            text,
+        );
+        compare_pair(&rt, source, ("P", script), "run S P", 1, Status::Done, text);
     }
-    Ok(())
 }
 
 // The input register takes the word that is set, and the output register gives what was put into it.
 #[test]
-fn plays_inputs_and_outputs(rt: HostRuntime) -> Result<(), Fail> {
-    let source = b" ORG /4000\n OCT 642001\n OCT 666001\n".as_slice();
-    let script = b"# in and out\n\nSET 2001 001750\nSTEP 2\nSHOW OUT 6001\n".as_slice();
-    let files = [("S", source), ("P", script)];
-    compare_over(&rt, &files, "run S P", 9, Status::Done, "OUT 6001 001750\n")
+fn plays_inputs_and_outputs(rt: HostRuntime) {
+    let source = " ORG /4000\n OCT 642001\n OCT 666001\n";
+    let script = "# in and out\n\nSET 2001 001750\nSTEP 2\nSHOW OUT 6001\n";
+    let text = "OUT 6001 001750\n";
+    compare_pair(&rt, source, ("P", script), "run S P", 9, Status::Done, text);
 }
 
 /// The rows of `says_the_first_fault_of_a_script`.
@@ -195,39 +221,53 @@ const SAYS_THE_FIRST_FAULT_OF_A_SCRIPT: [(&str, &str); 4] = [
 ];
 
 #[test]
-fn says_the_first_fault_of_a_script(rt: HostRuntime) -> Result<(), Fail> {
-    let source = b"* FIRST\n ORG /4000\nA OCT 7\n".as_slice();
+fn says_the_first_fault_of_a_script(rt: HostRuntime) {
+    let source = "* FIRST\n ORG /4000\nA OCT 7\n";
     for &(script, line) in &SAYS_THE_FIRST_FAULT_OF_A_SCRIPT {
-        let files = [("S", source), ("P", script.as_bytes())];
-        compare_over(&rt, &files, "run S P", 9, Status::BadText, line)?;
+        compare_pair(
+            &rt,
+            source,
+            ("P", script),
+            "run S P",
+            9,
+            Status::BadText,
+            line,
+        );
     }
-    Ok(())
 }
 
 // A file that comes first decides: the script counts only where the source has no fault.
+/// Command lines over a good source `S`, a bad one `B` and a long file `L`, each with the status and what is printed.
+const FILES_IN_THEIR_ORDER: [(&str, Status, &str); 7] = [
+    ("run Z Y", Status::AbsentFile, "ABSENT Z\n"),
+    ("run S Y", Status::AbsentFile, "ABSENT Y\n"),
+    (
+        "run B Y",
+        Status::BadSource,
+        "SOURCE CARD 0000001 ERROR 4 UnknownOperation\n",
+    ),
+    (
+        "run B L",
+        Status::BadSource,
+        "SOURCE CARD 0000001 ERROR 4 UnknownOperation\n",
+    ),
+    ("run L Y", Status::LongFile, "LONG L 4194304\n"),
+    ("run S L", Status::LongFile, "LONG L 4194304\n"),
+    // a source is no script
+    (
+        "run S S",
+        Status::BadText,
+        "SCRIPT LINE 1 ERROR 1 BadLine\n",
+    ),
+];
+
 #[test]
-fn takes_files_in_their_order(rt: HostRuntime) -> Result<(), Fail> {
-    let long = vec![in rt.alloc(); b'\n'; 4_194_305]?;
+fn takes_files_in_their_order(rt: HostRuntime) {
+    let long = long_file(&rt, rt.alloc());
     let good = b" OCT 1\n".as_slice();
     let bad = b" HLT 1\n".as_slice();
-    let fault = "SOURCE CARD 0000001 ERROR 4 UnknownOperation\n";
     let files = [("S", good), ("B", bad), ("L", long.as_slice())];
-    let rows = [
-        ("run Z Y", Status::AbsentFile, "ABSENT Z\n"),
-        ("run S Y", Status::AbsentFile, "ABSENT Y\n"),
-        ("run B Y", Status::BadSource, fault),
-        ("run B L", Status::BadSource, fault),
-        ("run L Y", Status::LongFile, "LONG L 4194304\n"),
-        ("run S L", Status::LongFile, "LONG L 4194304\n"),
-        // a source is no script
-        (
-            "run S S",
-            Status::BadText,
-            "SCRIPT LINE 1 ERROR 1 BadLine\n",
-        ),
-    ];
-    for (line, status, text) in rows {
-        compare_over(&rt, &files, line, 9, status, text)?;
+    for &(line, status, text) in &FILES_IN_THEIR_ORDER {
+        compare_over(&rt, &files, line, 9, status, text);
     }
-    Ok(())
 }

@@ -1,9 +1,11 @@
 //! The command `certify`. The expected lines are typed by hand from docs/CERTIFICATE.md and docs/CHECKER.md.
 
-use crate::answer_tests::compare_over;
+use crate::answer_tests::{compare_over, compare_pair};
+use crate::command_lines::{add, joined};
 use crate::decks::{DECK, DECK_CERTIFICATE, DECK_LISTING};
 use ags_top::Status;
-use std::test::Fail;
+use std::alloc::Global;
+use std::process::Abort;
 
 /// A subroutine call whose return word is kept in the cell 17 octal.
 const RETURN: &str = " ORG /4000\n TSQ /4002\n TRA /4000\n STQ /17\n TRA /17\n";
@@ -21,24 +23,29 @@ const SUMS_LISTING: &str =
 
 /// Runs `certify S C` and compares the status, and the listing with the verdict behind it.
 fn compare_verdict(
-    rt: &(impl AllocGlobal + std::process::Abort),
+    rt: &(impl AllocGlobal + Abort),
     source: &str,
     listing: &str,
     certificate: &str,
     status: Status,
     verdict: &str,
-) -> Result<(), Fail> {
-    let mut text = String::from_str(rt.alloc(), listing)?;
-    text.push_str(verdict)?;
-    let files = [("S", source.as_bytes()), ("C", certificate.as_bytes())];
-    for most in [100_000, 1] {
-        compare_over(rt, &files, "certify S C", most, status, text.as_str())?;
-    }
-    Ok(())
+) {
+    let text = joined(rt, rt.alloc(), listing, verdict);
+    let second = ("C", certificate);
+    compare_pair(
+        rt,
+        source,
+        second,
+        "certify S C",
+        100_000,
+        status,
+        text.as_str(),
+    );
+    compare_pair(rt, source, second, "certify S C", 1, status, text.as_str());
 }
 
 #[test]
-fn certifies_the_deck(rt: HostRuntime) -> Result<(), Fail> {
+fn certifies_the_deck(rt: HostRuntime) {
     let verdict = "CERTIFIED ROWS 31 CASES 32\n";
     compare_verdict(
         &rt,
@@ -47,7 +54,7 @@ fn certifies_the_deck(rt: HostRuntime) -> Result<(), Fail> {
         DECK_CERTIFICATE,
         Status::Done,
         verdict,
-    )
+    );
 }
 
 /// The rows of `certifies_a_return_word`.
@@ -72,11 +79,10 @@ const CERTIFIES_A_RETURN_WORD: [(&str, Status, &str); 3] = [
 ];
 
 #[test]
-fn certifies_a_return_word(rt: HostRuntime) -> Result<(), Fail> {
+fn certifies_a_return_word(rt: HostRuntime) {
     for &(certificate, status, verdict) in &CERTIFIES_A_RETURN_WORD {
-        compare_verdict(&rt, RETURN, RETURN_LISTING, certificate, status, verdict)?;
+        compare_verdict(&rt, RETURN, RETURN_LISTING, certificate, status, verdict);
     }
-    Ok(())
 }
 
 /// The rows of `refuses_overflows_that_are_not_named`.
@@ -99,11 +105,10 @@ const REFUSES_OVERFLOWS_THAT_ARE_NOT_NAMED: [(&str, Status, &str); 3] = [
 ];
 
 #[test]
-fn refuses_overflows_that_are_not_named(rt: HostRuntime) -> Result<(), Fail> {
+fn refuses_overflows_that_are_not_named(rt: HostRuntime) {
     for &(certificate, status, verdict) in &REFUSES_OVERFLOWS_THAT_ARE_NOT_NAMED {
-        compare_verdict(&rt, SUMS, SUMS_LISTING, certificate, status, verdict)?;
+        compare_verdict(&rt, SUMS, SUMS_LISTING, certificate, status, verdict);
     }
-    Ok(())
 }
 
 /// A source of one order, the certificate behind its first line, its listing and the verdict that refuses it.
@@ -146,11 +151,10 @@ const REFUSES_WHAT_FAILS_FIRST: [Refused; 5] = [
 ];
 
 #[test]
-fn refuses_what_fails_first(rt: HostRuntime) -> Result<(), Fail> {
+fn refuses_what_fails_first(rt: HostRuntime) {
     for &(source, certificate, listing, verdict) in &REFUSES_WHAT_FAILS_FIRST {
-        compare_verdict(&rt, source, listing, certificate, Status::No, verdict)?;
+        compare_verdict(&rt, source, listing, certificate, Status::No, verdict);
     }
-    Ok(())
 }
 
 /// A jump behind an order that stores or gives A: the source, the certificate behind its first line, the listing and the verdict.
@@ -183,21 +187,23 @@ const OUT_OF_RANGE: [Refused; 4] = [
 ];
 
 #[test]
-fn refuses_what_is_out_of_range(rt: HostRuntime) -> Result<(), Fail> {
+fn refuses_what_is_out_of_range(rt: HostRuntime) {
     for &(source, certificate, listing, verdict) in &OUT_OF_RANGE {
-        compare_verdict(&rt, source, listing, certificate, Status::No, verdict)?;
+        compare_verdict(&rt, source, listing, certificate, Status::No, verdict);
     }
-    Ok(())
 }
 
 /// Compares the fault of a certificate.
-fn compare_fault(
-    rt: &(impl AllocGlobal + std::process::Abort),
-    certificate: &str,
-    line: &str,
-) -> Result<(), Fail> {
-    let files = [("S", RETURN.as_bytes()), ("C", certificate.as_bytes())];
-    compare_over(rt, &files, "certify S C", 9, Status::BadCert, line)
+fn compare_fault(rt: &(impl AllocGlobal + Abort), certificate: &str, line: &str) {
+    compare_pair(
+        rt,
+        RETURN,
+        ("C", certificate),
+        "certify S C",
+        9,
+        Status::BadCert,
+        line,
+    );
 }
 
 // A certificate with a fault is told by its line, without a listing.
@@ -229,34 +235,34 @@ const SAYS_THE_FIRST_FAULT_OF_A_CERTIFICATE: [(&str, &str); 8] = [
 ];
 
 #[test]
-fn says_the_first_fault_of_a_certificate(rt: HostRuntime) -> Result<(), Fail> {
+fn says_the_first_fault_of_a_certificate(rt: HostRuntime) {
     for &(certificate, line) in &SAYS_THE_FIRST_FAULT_OF_A_CERTIFICATE {
-        compare_fault(&rt, certificate, line)?;
+        compare_fault(&rt, certificate, line);
     }
-    Ok(())
 }
 
+/// Command lines over a bad source `S` and a good one `T`, each with the status and what is printed.
+const FILES_IN_THEIR_ORDER: [(&str, Status, &str); 4] = [
+    ("certify T Z", Status::AbsentFile, "ABSENT Z\n"),
+    (
+        "certify S Z",
+        Status::BadSource,
+        "SOURCE CARD 0000001 ERROR 4 UnknownOperation\n",
+    ),
+    (
+        "certify T T T",
+        Status::BadMachine,
+        "MACHINE ERROR 1 NotToml\n",
+    ),
+    ("certify T", Status::BadWords, "WORDS\n"),
+];
+
 #[test]
-fn reads_the_certificate_behind_machine_file_and_source(rt: HostRuntime) -> Result<(), Fail> {
+fn reads_the_certificate_behind_machine_file_and_source(rt: HostRuntime) {
     let files = [("S", b" _CLA 1\n".as_slice()), ("T", RETURN.as_bytes())];
-    let others = [
-        ("certify T Z", Status::AbsentFile, "ABSENT Z\n"),
-        (
-            "certify S Z",
-            Status::BadSource,
-            "SOURCE CARD 0000001 ERROR 4 UnknownOperation\n",
-        ),
-        (
-            "certify T T T",
-            Status::BadMachine,
-            "MACHINE ERROR 1 NotToml\n",
-        ),
-        ("certify T", Status::BadWords, "WORDS\n"),
-    ];
-    for (line, status, text) in others {
-        compare_over(&rt, &files, line, 9, status, text)?;
+    for &(line, status, text) in &FILES_IN_THEIR_ORDER {
+        compare_over(&rt, &files, line, 9, status, text);
     }
-    Ok(())
 }
 
 // A register that holds its word once must be allowed to hold 0, by the machine file that is named.
@@ -280,7 +286,7 @@ const TAKES_THE_REGISTERS_OF_A_MACHINE_FILE: [(&str, Status, &str); 3] = [
 ];
 
 #[test]
-fn takes_the_registers_of_a_machine_file(rt: HostRuntime) -> Result<(), Fail> {
+fn takes_the_registers_of_a_machine_file(rt: HostRuntime) {
     let files = [
         ("S", b" ORG /4000\n INP /17\n TRA /4000\n".as_slice()),
         (
@@ -294,75 +300,96 @@ fn takes_the_registers_of_a_machine_file(rt: HostRuntime) -> Result<(), Fail> {
         ),
     ];
     for &(line, status, text) in &TAKES_THE_REGISTERS_OF_A_MACHINE_FILE {
-        compare_over(&rt, &files, line, 9, status, text)?;
+        compare_over(&rt, &files, line, 9, status, text);
     }
-    Ok(())
 }
 
 /// Adds a row at one of the 64 locations from 4000 octal on.
-fn add_row(text: &mut String, number: u8) -> Result<(), Fail> {
+fn add_row(rt: &impl Abort, text: &mut String, number: u8) {
     let digits = [b'0' + number / 8 % 8, b'0' + number % 8];
-    text.push_str("ROW 40")?;
-    text.push_str(str::from_utf8(&digits)?)?;
-    text.push_str(" A ANY Q ANY X 0 V 0\n")?;
-    Ok(())
+    add(rt, text, "ROW 40");
+    add(rt, text, str::from_utf8(&digits).expect(rt, "two digits"));
+    add(rt, text, " A ANY Q ANY X 0 V 0\n");
+}
+
+/// A certificate with one row more than 20,000.
+fn many_rows(rt: &impl Abort, alloc: Global) -> String {
+    let mut rows = joined(rt, alloc, "AGSCERT 1\n", "START 4000\n");
+    for _ in 0..500 {
+        for number in 0..40 {
+            add_row(rt, &mut rows, number);
+        }
+    }
+    add_row(rt, &mut rows, 40);
+    add(rt, &mut rows, "END\n");
+    rows
 }
 
 // One row more than 20,000.
 #[test]
-fn counts_rows(rt: HostRuntime) -> Result<(), Fail> {
-    let mut rows = String::from_str(rt.alloc(), "AGSCERT 1\nSTART 4000\n")?;
-    for _ in 0..500 {
-        for number in 0..40 {
-            add_row(&mut rows, number)?;
-        }
-    }
-    add_row(&mut rows, 40)?;
-    rows.push_str("END\n")?;
+fn counts_rows(rt: HostRuntime) {
+    let rows = many_rows(&rt, rt.alloc());
     let line = "CERTIFICATE LINE 20003 ERROR 7 TooManyRows\n";
-    compare_fault(&rt, rows.as_str(), line)
+    compare_fault(&rt, rows.as_str(), line);
 }
 
 // One row more than 512.
 #[test]
-fn counts_rows_at_one_location(rt: HostRuntime) -> Result<(), Fail> {
-    let mut rows = String::from_str(rt.alloc(), "AGSCERT 1\n")?;
+fn counts_rows_at_one_location(rt: HostRuntime) {
+    let mut rows = joined(&rt, rt.alloc(), "AGSCERT 1\n", "");
     for _ in 0..513 {
-        add_row(&mut rows, 0)?;
+        add_row(&rt, &mut rows, 0);
     }
     let line = "CERTIFICATE LINE 514 ERROR 7 TooManyRows\n";
-    compare_fault(&rt, rows.as_str(), line)
+    compare_fault(&rt, rows.as_str(), line);
+}
+
+/// Adds the line of the cell whose address is three octal digits and a last one.
+fn add_cell(rt: &impl Abort, text: &mut String, high: &str, low: &str) {
+    add(rt, text, "AT ");
+    add(rt, text, high);
+    add(rt, text, low);
+    add(rt, text, " ANY\n");
+}
+
+/// The first three octal digits of cells, and the last one.
+const HIGH_DIGITS: [&str; 8] = ["000", "001", "002", "003", "004", "005", "006", "007"];
+
+const LOW_DIGITS: [&str; 8] = ["0", "1", "2", "3", "4", "5", "6", "7"];
+
+/// A certificate with a row of one cell more than 64.
+fn many_cells(rt: &impl Abort, alloc: Global) -> String {
+    let mut cells = joined(rt, alloc, "AGSCERT 1\n", "ROW 4000 A ANY Q ANY X 0 V 0\n");
+    for high in &HIGH_DIGITS {
+        for low in &LOW_DIGITS {
+            add_cell(rt, &mut cells, high, low);
+        }
+    }
+    add(rt, &mut cells, "AT 0100 ANY\n");
+    cells
 }
 
 // One cell more than 64.
 #[test]
-fn counts_cells_of_a_row(rt: HostRuntime) -> Result<(), Fail> {
-    let mut cells = String::from_str(rt.alloc(), "AGSCERT 1\nROW 4000 A ANY Q ANY X 0 V 0\n")?;
-    for high in ["000", "001", "002", "003", "004", "005", "006", "007"] {
-        for low in ["0", "1", "2", "3", "4", "5", "6", "7"] {
-            for part in ["AT ", high, low, " ANY\n"] {
-                cells.push_str(part)?;
-            }
-        }
-    }
-    cells.push_str("AT 0100 ANY\n")?;
+fn counts_cells_of_a_row(rt: HostRuntime) {
+    let cells = many_cells(&rt, rt.alloc());
     let line = "CERTIFICATE LINE 67 ERROR 8 TooManyAt\n";
-    compare_fault(&rt, cells.as_str(), line)
+    compare_fault(&rt, cells.as_str(), line);
+}
+
+/// Compares the fault of a certificate with a comment of so many bytes.
+fn compare_long(rt: &(impl AllocGlobal + Abort), bytes: u32, line: &str) {
+    let mut long = joined(rt, rt.alloc(), "AGSCERT 1\n", "");
+    for _ in 0..bytes {
+        add(rt, &mut long, "#");
+    }
+    add(rt, &mut long, "\nEND\n");
+    compare_fault(rt, long.as_str(), line);
 }
 
 // A line has 512 bytes at most; the comment that is longer is no line.
 #[test]
-fn counts_bytes_of_a_line(rt: HostRuntime) -> Result<(), Fail> {
-    for (bytes, line) in [
-        (512, "CERTIFICATE LINE 3 ERROR 9 NoRows\n"),
-        (513, "CERTIFICATE LINE 2 ERROR 1 BadLine\n"),
-    ] {
-        let mut long = String::from_str(rt.alloc(), "AGSCERT 1\n")?;
-        for _ in 0..bytes {
-            long.push_str("#")?;
-        }
-        long.push_str("\nEND\n")?;
-        compare_fault(&rt, long.as_str(), line)?;
-    }
-    Ok(())
+fn counts_bytes_of_a_line(rt: HostRuntime) {
+    compare_long(&rt, 512, "CERTIFICATE LINE 3 ERROR 9 NoRows\n");
+    compare_long(&rt, 513, "CERTIFICATE LINE 2 ERROR 1 BadLine\n");
 }

@@ -3,12 +3,11 @@
 ghost use Rattle.std.specs.Prelude.{None};
 ghost use Rattle.ags_outside.specs.ToldFile.{Untold};
 
-use crate::command_lines::arguments_of;
+use crate::command_lines::{arguments_of, expect_same};
 use ags_outside::{Pull, PutDone, Shelf, Sink, SteadyShelf, SteadySink};
 use ags_top::{Status, ags_main};
 use std::alloc::Global;
 use std::process::Abort;
-use std::test::Fail;
 
 /// A good source S, a source B with a fault, a script P, and a source T with its certificate C, on a shelf that tells nothing and
 /// whose file of one name can't be read.
@@ -35,20 +34,35 @@ impl Shelf for FailingShelf {
     }
 }
 
+/// Adds a file to a shelf.
+fn add_file(rt: &impl Abort, held: &mut SteadyShelf, name: &str, bytes: &[u8]) {
+    assert!(rt; held.add(name, bytes).is_ok());
+}
+
+/// The files.
+fn held_files(rt: &impl Abort, alloc: Global) -> SteadyShelf {
+    let mut held = SteadyShelf::new(alloc);
+    add_file(rt, &mut held, "S", b"* FIRST\n ORG /4000\nA OCT 7\n");
+    add_file(rt, &mut held, "B", b" HLT 1\n");
+    add_file(rt, &mut held, "P", b"SHOW REG\nSHOW CELL 4000\n");
+    add_file(rt, &mut held, "T", b" ORG /4000\n TRA /4000\n");
+    add_file(
+        rt,
+        &mut held,
+        "C",
+        b"AGSCERT 1\nROW 4000 A ANY Q ANY X 0 V 0\nEND\n",
+    );
+    held
+}
+
 impl FailingShelf {
     /// The files, with the name of the one that can't be read.
-    fn new(alloc: Global, failing: &'static str) -> Result<FailingShelf, Fail> {
-        let mut held = SteadyShelf::new(alloc);
-        held.add("S", b"* FIRST\n ORG /4000\nA OCT 7\n")?;
-        held.add("B", b" HLT 1\n")?;
-        held.add("P", b"SHOW REG\nSHOW CELL 4000\n")?;
-        held.add("T", b" ORG /4000\n TRA /4000\n")?;
-        held.add("C", b"AGSCERT 1\nROW 4000 A ANY Q ANY X 0 V 0\nEND\n")?;
-        Ok(FailingShelf {
-            held,
+    fn new(rt: &impl Abort, alloc: Global, failing: &'static str) -> FailingShelf {
+        FailingShelf {
+            held: held_files(rt, alloc),
             failing,
             faults: 0,
-        })
+        }
     }
 }
 
@@ -82,76 +96,78 @@ fn compare(
     line: &str,
     status: Status,
     text: &str,
-) -> Result<(), Fail> {
+) {
     let alloc = rt.alloc();
-    let mut shelf = FailingShelf::new(alloc, failing)?;
+    let mut shelf = FailingShelf::new(rt, alloc, failing);
     let mut out = SteadySink::new(alloc, 7);
-    let arguments = arguments_of(alloc, line)?;
+    let arguments = arguments_of(rt, alloc, line);
     let ended = ags_main(alloc, &arguments, &mut shelf, &mut out);
-    assert!(rt; ended == status, "{line}");
-    assert_eq!(rt; str::from_utf8(out.bytes())?, text);
-    Ok(())
+    expect_same(rt, &(line, ended), &(line, status));
+    expect_same(rt, &str::from_utf8(out.bytes()), &Ok(text));
 }
 
 // A file counts only where those before it are read: the script that can't be read isn't looked for behind a source that
 // is absent or has a fault.
+/// The file that can't be read, a command line, its status, and what is printed.
+const READ_FAULTS: [(&str, &str, Status, &str); 6] = [
+    ("S", "assemble S", Status::ReadFault, ""),
+    ("S", "run S P", Status::ReadFault, ""),
+    ("P", "run S P", Status::ReadFault, ""),
+    (
+        "P",
+        "run B P",
+        Status::BadSource,
+        "SOURCE CARD 0000001 ERROR 4 UnknownOperation\n",
+    ),
+    ("P", "run Z P", Status::AbsentFile, "ABSENT Z\n"),
+    ("S", "run S", Status::BadWords, "WORDS\n"),
+];
+
 #[test]
-fn read_faults_write_nothing(rt: HostRuntime) -> Result<(), Fail> {
-    let fault = "SOURCE CARD 0000001 ERROR 4 UnknownOperation\n";
-    let rows = [
-        ("S", "assemble S", Status::ReadFault, ""),
-        ("S", "run S P", Status::ReadFault, ""),
-        ("P", "run S P", Status::ReadFault, ""),
-        ("P", "run B P", Status::BadSource, fault),
-        ("P", "run Z P", Status::AbsentFile, "ABSENT Z\n"),
-        ("S", "run S", Status::BadWords, "WORDS\n"),
-    ];
-    for (failing, line, status, text) in rows {
-        compare(&rt, failing, line, status, text)?;
+fn read_faults_write_nothing(rt: HostRuntime) {
+    for &(failing, line, status, text) in &READ_FAULTS {
+        compare(&rt, failing, line, status, text);
     }
-    Ok(())
 }
 
 /// Runs a command line into a sink that fails at one put, and compares the status and how many puts were made.
-fn count_puts(
-    rt: &(impl AllocGlobal + Abort),
-    line: &str,
-    at: u64,
-    status: Status,
-    puts: u64,
-) -> Result<(), Fail> {
+fn count_puts(rt: &(impl AllocGlobal + Abort), line: &str, at: u64, status: Status, puts: u64) {
     let alloc = rt.alloc();
-    let mut shelf = FailingShelf::new(alloc, "none")?;
+    let mut shelf = FailingShelf::new(rt, alloc, "none");
     let mut out = FailingSink {
         at,
         puts: 0,
         faults: 0,
     };
-    let arguments = arguments_of(alloc, line)?;
+    let arguments = arguments_of(rt, alloc, line);
     let ended = ags_main(alloc, &arguments, &mut shelf, &mut out);
-    assert!(rt; ended == status, "{line}, put {at}");
-    assert!(rt; out.puts == puts, "{line}, put {at}");
-    Ok(())
+    expect_same(rt, &(line, at, ended, out.puts), &(line, at, status, puts));
 }
 
 // Each line is put as one piece, and none is put behind one that failed.
-#[test]
-fn write_faults_end_the_run(rt: HostRuntime) -> Result<(), Fail> {
-    for at in 1..4 {
-        count_puts(&rt, "assemble S", at, Status::WriteFault, at)?;
-    }
-    count_puts(&rt, "assemble S", 4, Status::Done, 3)?;
-    for at in 1..3 {
-        count_puts(&rt, "run S P", at, Status::WriteFault, at)?;
-    }
-    count_puts(&rt, "run S P", 3, Status::Done, 2)?;
+/// A command line, the put that fails, the status, and how many puts were made.
+const WRITE_FAULTS: [(&str, u64, Status, u64); 15] = [
+    ("assemble S", 1, Status::WriteFault, 1),
+    ("assemble S", 2, Status::WriteFault, 2),
+    ("assemble S", 3, Status::WriteFault, 3),
+    ("assemble S", 4, Status::Done, 3),
+    ("run S P", 1, Status::WriteFault, 1),
+    ("run S P", 2, Status::WriteFault, 2),
+    ("run S P", 3, Status::Done, 2),
     // the verdict, and the two lines of the script
-    for at in 1..4 {
-        count_puts(&rt, "guard T P C", at, Status::WriteFault, at)?;
+    ("guard T P C", 1, Status::WriteFault, 1),
+    ("guard T P C", 2, Status::WriteFault, 2),
+    ("guard T P C", 3, Status::WriteFault, 3),
+    ("guard T P C", 4, Status::Done, 3),
+    ("run S", 1, Status::WriteFault, 1),
+    ("assemble Z", 1, Status::WriteFault, 1),
+    ("assemble B", 1, Status::WriteFault, 1),
+    ("run S S", 1, Status::WriteFault, 1),
+];
+
+#[test]
+fn write_faults_end_the_run(rt: HostRuntime) {
+    for &(line, at, status, puts) in &WRITE_FAULTS {
+        count_puts(&rt, line, at, status, puts);
     }
-    count_puts(&rt, "guard T P C", 4, Status::Done, 3)?;
-    for line in ["run S", "assemble Z", "assemble B", "run S S"] {
-        count_puts(&rt, line, 1, Status::WriteFault, 1)?;
-    }
-    Ok(())
 }

@@ -1,9 +1,9 @@
 //! Keys of the panel, against the rules of docs/PANEL.md over whole lists of keys.
 
+use crate::command_lines::expect_same;
 use ags_deda::{Key, Panel};
 use std::alloc::Global;
 use std::process::Abort;
-use std::test::Fail;
 
 /// The panel's keys, but for the digits 1 to 6, and a digit that has none.
 const KEYS: [Key; 11] = [
@@ -121,45 +121,56 @@ fn compare_display(rt: &impl Abort, keys: &[Key]) {
     for key in keys {
         panel.press(*key);
     }
-    assert!(rt; panel.text() == display(since_clear(keys)), "{keys:?}");
+    expect_same(
+        rt,
+        &(keys, panel.text()),
+        &(keys, display(since_clear(keys))),
+    );
 }
 
 /// The keys whose places among `KEYS` a number has as its four digits of base 11.
-fn keys_of(alloc: Global, number: usize) -> Result<Vec<Key>, Fail> {
-    let mut keys = Vec::new(alloc);
-    keys.push(KEYS[number / 1331 % 11])?;
-    keys.push(KEYS[number / 121 % 11])?;
-    keys.push(KEYS[number / 11 % 11])?;
-    keys.push(KEYS[number % 11])?;
-    Ok(keys)
+fn keys_of(number: usize) -> [Key; 4] {
+    [
+        KEYS[number / 1331 % 11],
+        KEYS[number / 121 % 11],
+        KEYS[number / 11 % 11],
+        KEYS[number % 11],
+    ]
+}
+
+/// Presses the first keys of a list, of each number from none to all.
+fn compare_displays(rt: &impl Abort, keys: &[Key; 4]) {
+    for count in 0..5 {
+        compare_display(rt, &keys[..count]);
+    }
 }
 
 // Every list of up to four keys: a display behind each key of every list of four.
 #[test]
-fn shows_each_list_of_four_keys(rt: HostRuntime) -> Result<(), Fail> {
+fn shows_each_list_of_four_keys(rt: HostRuntime) {
     for number in 0..14641 {
-        let keys = keys_of(rt.alloc(), number)?;
-        for count in 0..5 {
-            compare_display(&rt, &keys[..count.min(keys.len())]);
-        }
+        compare_displays(&rt, &keys_of(number));
     }
-    Ok(())
+}
+
+/// These keys, and one behind them.
+fn with_last(rt: &impl Abort, alloc: Global, form: &[Key], last: Key) -> Vec<Key> {
+    let mut keys = Vec::from_slice(alloc, form).expect(rt, "memory for keys");
+    assert!(rt; keys.push(last).is_ok());
+    keys
 }
 
 /// Presses each key behind the first so many of a form.
-fn compare_behind(rt: &(impl AllocGlobal + Abort), form: &[Key]) -> Result<(), Fail> {
+fn compare_behind(rt: &(impl AllocGlobal + Abort), form: &[Key]) {
     for count in 0..form.len() + 1 {
-        for &key in &KEYS {
-            let mut keys = Vec::from_slice(rt.alloc(), &form[..count])?;
-            keys.push(key)?;
-            compare_display(rt, &keys);
+        for key in &KEYS {
+            compare_display(rt, &with_last(rt, rt.alloc(), &form[..count], *key));
         }
     }
-    Ok(())
 }
 
 #[test]
-fn shows_each_key_at_each_place(rt: HostRuntime) -> Result<(), Fail> {
-    compare_behind(&rt, &ENTRY)?;
-    compare_behind(&rt, &READOUT)
+fn shows_each_key_at_each_place(rt: HostRuntime) {
+    compare_behind(&rt, &ENTRY);
+    compare_behind(&rt, &READOUT);
 }

@@ -1,8 +1,8 @@
 //! Command lines with a machine file. The expected lines are typed by hand from docs/MACHINE.md and the README.
 
-use crate::answer_tests::compare_over;
+use crate::answer_tests::{compare_over, compare_pair};
 use ags_top::Status;
-use std::test::Fail;
+use std::process::Abort;
 
 /// The standard codes, but that CLA and STO have each other's.
 const EXCHANGED: &str =
@@ -34,15 +34,26 @@ const SAYS_THE_FIRST_FAULT_OF_A_MACHINE_FILE: [(&str, &str); 5] = [
     ),
 ];
 
+/// Compares the fault of a machine file, which a command line names.
+fn compare_refused(rt: &(impl AllocGlobal + Abort), machine: &str, asked: &str, line: &str) {
+    compare_pair(
+        rt,
+        FIRST,
+        ("M", machine),
+        asked,
+        9,
+        Status::BadMachine,
+        line,
+    );
+}
+
 #[test]
-fn says_the_first_fault_of_a_machine_file(rt: HostRuntime) -> Result<(), Fail> {
+fn says_the_first_fault_of_a_machine_file(rt: HostRuntime) {
     for &(machine, line) in &SAYS_THE_FIRST_FAULT_OF_A_MACHINE_FILE {
-        let files = [("S", FIRST.as_bytes()), ("M", machine.as_bytes())];
-        for asked in ["assemble S M", "run S S M", "assemble Z M"] {
-            compare_over(&rt, &files, asked, 9, Status::BadMachine, line)?;
-        }
+        compare_refused(&rt, machine, "assemble S M", line);
+        compare_refused(&rt, machine, "run S S M", line);
+        compare_refused(&rt, machine, "assemble Z M", line);
     }
-    Ok(())
 }
 
 // The machine file comes first: it counts although the source is absent or has a fault.
@@ -63,59 +74,82 @@ const TAKES_THE_MACHINE_FILE_FIRST: [(&str, Status, &str); 7] = [
 ];
 
 #[test]
-fn takes_the_machine_file_first(rt: HostRuntime) -> Result<(), Fail> {
-    let long = vec![in rt.alloc(); b'\n'; 65_537]?;
+fn takes_the_machine_file_first(rt: HostRuntime) {
+    let long = vec![in rt.alloc(); b'\n'; 65_537].expect(&rt, "memory for a file");
     let files = [
         ("S", FIRST.as_bytes()),
         ("M", b"".as_slice()),
         ("L", long.as_slice()),
     ];
     for &(line, status, text) in &TAKES_THE_MACHINE_FILE_FIRST {
-        compare_over(&rt, &files, line, 9, status, text)?;
+        compare_over(&rt, &files, line, 9, status, text);
     }
-    Ok(())
 }
 
 // The words of a listing are those of the machine's codes.
 #[test]
-fn lists_words_of_other_machines(rt: HostRuntime) -> Result<(), Fail> {
-    let files = [("S", b" CLA /20\n".as_slice()), ("M", EXCHANGED.as_bytes())];
+fn lists_words_of_other_machines(rt: HostRuntime) {
     let listing = "0000001 0000 100020  CLA /20\n";
-    compare_over(&rt, &files, "assemble S M", 9, Status::Done, listing)
+    let machine = ("M", EXCHANGED);
+    compare_pair(
+        &rt,
+        " CLA /20\n",
+        machine,
+        "assemble S M",
+        9,
+        Status::Done,
+        listing,
+    );
 }
 
+/// A source that runs the word 104010.
+const LOADS: &str = " ORG /4000\n OCT 104010\n ORG /4010\n OCT 1234\n";
+
+/// A source that takes the word of one register twice.
+const TAKES_TWICE: &str = " ORG /4000\n OCT 640017\n OCT 640017\n";
+
 // Other codes, and an input register that holds its word once.
-#[test]
-fn plays_on_other_machines(rt: HostRuntime) -> Result<(), Fail> {
-    let loads = " ORG /4000\n OCT 104010\n ORG /4010\n OCT 1234\n";
-    let takes_twice = " ORG /4000\n OCT 640017\n OCT 640017\n";
-    let rows = [
-        (
-            loads,
-            "STEP 1\nSHOW REG\n",
-            EXCHANGED,
-            "A 001234 Q 000000 X 0 V 0 P 4001 R\n",
-        ),
-        (
-            loads,
-            "STEP 1\nSHOW REG\n",
-            "",
-            "A 000000 Q 000000 X 0 V 0 P 4001 R\n",
-        ),
-        (
-            takes_twice,
-            "SET 0017 000005\nSTEP 1\nSHOW REG\nSTEP 1\nSHOW REG\n",
-            "input = [{ address = 0o17, once = true }]\n",
-            "A 000005 Q 000000 X 0 V 0 P 4001 R\nA 000000 Q 000000 X 0 V 0 P 4002 R\n",
-        ),
+/// A source, a script, a machine file, and what is shown.
+const PLAYS_ON_OTHER_MACHINES: [(&str, &str, &str, &str); 3] = [
+    (
+        LOADS,
+        "STEP 1\nSHOW REG\n",
+        EXCHANGED,
+        "A 001234 Q 000000 X 0 V 0 P 4001 R\n",
+    ),
+    (
+        LOADS,
+        "STEP 1\nSHOW REG\n",
+        "",
+        "A 000000 Q 000000 X 0 V 0 P 4001 R\n",
+    ),
+    (
+        TAKES_TWICE,
+        "SET 0017 000005\nSTEP 1\nSHOW REG\nSTEP 1\nSHOW REG\n",
+        "input = [{ address = 0o17, once = true }]\n",
+        "A 000005 Q 000000 X 0 V 0 P 4001 R\nA 000000 Q 000000 X 0 V 0 P 4002 R\n",
+    ),
+];
+
+/// Plays a script over a source on the machine of a file, and compares what is shown.
+fn compare_played(
+    rt: &(impl AllocGlobal + Abort),
+    source: &str,
+    script: &str,
+    machine: &str,
+    text: &str,
+) {
+    let files = [
+        ("S", source.as_bytes()),
+        ("P", script.as_bytes()),
+        ("M", machine.as_bytes()),
     ];
-    for (source, script, machine, text) in rows {
-        let files = [
-            ("S", source.as_bytes()),
-            ("P", script.as_bytes()),
-            ("M", machine.as_bytes()),
-        ];
-        compare_over(&rt, &files, "run S P M", 9, Status::Done, text)?;
+    compare_over(rt, &files, "run S P M", 9, Status::Done, text);
+}
+
+#[test]
+fn plays_on_other_machines(rt: HostRuntime) {
+    for &(source, script, machine, text) in &PLAYS_ON_OTHER_MACHINES {
+        compare_played(&rt, source, script, machine, text);
     }
-    Ok(())
 }

@@ -1,21 +1,18 @@
 //! The worked orders and runs of docs/MACHINE.md, as sources and scripts on the standard machine.
 
-use crate::answer_tests::compare_over;
+use crate::answer_tests::compare_pair;
 use ags_top::Status;
 use std::alloc::AllocGlobal;
 use std::process::Abort;
-use std::test::Fail;
 
 /// A source, a script over it, and what that prints.
 type Run = (&'static str, &'static str, &'static str);
 
 /// Plays each script over its source.
-fn compare_runs(rt: &(impl AllocGlobal + Abort), runs: &[Run]) -> Result<(), Fail> {
-    for (source, script, text) in runs.iter().copied() {
-        let files = [("S", source.as_bytes()), ("P", script.as_bytes())];
-        compare_over(rt, &files, "run S P", 99, Status::Done, text)?;
+fn compare_runs(rt: &(impl AllocGlobal + Abort), runs: &[Run]) {
+    for &(source, script, text) in runs {
+        compare_pair(rt, source, ("P", script), "run S P", 99, Status::Done, text);
     }
-    Ok(())
 }
 
 /// The worked orders: AXT 5, LDQ and CLA come before each, so that the index register is 5, and A and Q are the row's.
@@ -83,8 +80,8 @@ const WORKED: [Run; 12] = [
 ];
 
 #[test]
-fn works_orders(rt: HostRuntime) -> Result<(), Fail> {
-    compare_runs(&rt, &WORKED)
+fn works_orders(rt: HostRuntime) {
+    compare_runs(&rt, &WORKED);
 }
 
 /// Orders that look at the index register, or keep a location.
@@ -110,8 +107,8 @@ const INDEXED: [Run; 3] = [
 ];
 
 #[test]
-fn indexes_and_transfers(rt: HostRuntime) -> Result<(), Fail> {
-    compare_runs(&rt, &INDEXED)
+fn indexes_and_transfers(rt: HostRuntime) {
+    compare_runs(&rt, &INDEXED);
 }
 
 /// Orders that take from registers and give to them.
@@ -131,8 +128,8 @@ const REGISTERS: [Run; 2] = [
 ];
 
 #[test]
-fn takes_and_gives(rt: HostRuntime) -> Result<(), Fail> {
-    compare_runs(&rt, &REGISTERS)
+fn takes_and_gives(rt: HostRuntime) {
+    compare_runs(&rt, &REGISTERS);
 }
 
 /// The two runs.
@@ -158,6 +155,6 @@ const RUNS: [Run; 3] = [
 ];
 
 #[test]
-fn runs_and_waits(rt: HostRuntime) -> Result<(), Fail> {
-    compare_runs(&rt, &RUNS)
+fn runs_and_waits(rt: HostRuntime) {
+    compare_runs(&rt, &RUNS);
 }

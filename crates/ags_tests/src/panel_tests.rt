@@ -1,11 +1,11 @@
 //! Scripts with the panel, and guarded plays. The expected lines are typed by hand from docs/SCRIPT.md, docs/PANEL.md and
 //! docs/CHECKER.md.
 
-use crate::answer_tests::compare_over;
+use crate::answer_tests::{compare_over, compare_pair};
+use crate::command_lines::{add, joined};
 use crate::decks::{DECK, DECK_CERTIFICATE};
 use ags_top::Status;
 use std::process::Abort;
-use std::test::Fail;
 
 /// A source of one order, which waits for a pulse.
 const WAITING: &str = " ORG /4000\n DLY /4000\n";
@@ -21,17 +21,17 @@ const DECK_SCRIPT: &str =
     "PORT 2001 001750\nCYCLE 100\nSHOW CELL 0020\nSHOW REG\nKEY CLR 0 4 7 RO\nCYCLE 9\nSHOW DEDA\n";
 
 /// Runs `run S P` and compares what is shown.
-fn compare_shown(
-    rt: &(impl AllocGlobal + Abort),
-    source: &str,
-    script: &str,
-    text: &str,
-) -> Result<(), Fail> {
-    let files = [("S", source.as_bytes()), ("P", script.as_bytes())];
-    for most in [100_000, 1] {
-        compare_over(rt, &files, "run S P", most, Status::Done, text)?;
-    }
-    Ok(())
+fn compare_shown(rt: &(impl AllocGlobal + Abort), source: &str, script: &str, text: &str) {
+    compare_pair(
+        rt,
+        source,
+        ("P", script),
+        "run S P",
+        100_000,
+        Status::Done,
+        text,
+    );
+    compare_pair(rt, source, ("P", script), "run S P", 1, Status::Done, text);
 }
 
 /// Runs `guard S P C` and compares the status and what is printed.
@@ -40,17 +40,15 @@ fn compare_guarded(
     files: (&str, &str, &str),
     status: Status,
     text: &str,
-) -> Result<(), Fail> {
+) {
     let (source, script, certificate) = files;
     let files = [
         ("S", source.as_bytes()),
         ("P", script.as_bytes()),
         ("C", certificate.as_bytes()),
     ];
-    for most in [100_000, 1] {
-        compare_over(rt, &files, "guard S P C", most, status, text)?;
-    }
-    Ok(())
+    compare_over(rt, &files, "guard S P C", 100_000, status, text);
+    compare_over(rt, &files, "guard S P C", 1, status, text);
 }
 
 // A whole entry and a wrong key, as the display has them.
@@ -68,45 +66,50 @@ const SHOWS_KEYS: [(&str, &str); 3] = [
 ];
 
 #[test]
-fn shows_keys(rt: HostRuntime) -> Result<(), Fail> {
+fn shows_keys(rt: HostRuntime) {
     for &(script, text) in &SHOWS_KEYS {
-        compare_shown(&rt, WAITING, script, text)?;
+        compare_shown(&rt, WAITING, script, text);
     }
-    Ok(())
 }
 
 // The nine digits of an entry come to the program one by one, and then none.
 #[test]
-fn feeds_an_entry(rt: HostRuntime) -> Result<(), Fail> {
-    let mut script = String::from_str(rt.alloc(), "KEY CLR 0 4 7 + 0 1 2 3 4 ENTR\n")?;
+fn feeds_an_entry(rt: HostRuntime) {
+    let mut script = joined(&rt, rt.alloc(), "KEY CLR 0 4 7 + 0 1 2 3 4 ENTR\n", "");
     for _ in 0..10 {
-        script.push_str("FEED\nSTEP 3\nSHOW OUT 6001\n")?;
+        add(&rt, &mut script, "FEED\nSTEP 3\nSHOW OUT 6001\n");
     }
     let text =
         "OUT 6001 000020\nOUT 6001 000024\nOUT 6001 000027\nOUT 6001 000020\nOUT 6001 000020\nOUT 6001 000021\nOUT 6001 000022\nOUT 6001 000023\nOUT 6001 000024\nOUT 6001 000000\n";
-    compare_shown(&rt, ECHO, script.as_str(), text)
+    compare_shown(&rt, ECHO, script.as_str(), text);
 }
 
 // A register that holds its word once begins with a word too, and is 0 once it was read.
 #[test]
-fn begins_with_a_word_held_once(rt: HostRuntime) -> Result<(), Fail> {
+fn begins_with_a_word_held_once(rt: HostRuntime) {
     let script = "PORT 2200 000021\nSTEP 2\nSHOW OUT 6001\nSTEP 3\nSHOW OUT 6001\n";
-    compare_shown(&rt, ECHO, script, "OUT 6001 000021\nOUT 6001 000000\n")
+    compare_shown(&rt, ECHO, script, "OUT 6001 000021\nOUT 6001 000000\n");
 }
 
 // The last order of a cycle may pass its end, and the next cycle is shorter by that. Here a cycle passes its end by 3, 6, 9 and
 // then 2 microseconds, and the fourth ends behind another order. A STEP changes nothing of it.
 #[test]
-fn carries_what_a_cycle_runs_over(rt: HostRuntime) -> Result<(), Fail> {
+fn carries_what_a_cycle_runs_over(rt: HostRuntime) {
     let source = " ORG /4000\n DVP /20\n TRA /4000\n";
-    for script in [
-        "CELL 0020 000001\nCYCLE 4\nSHOW REG\n",
+    let text = "A 000000 Q 000000 X 0 V 0 P 4001 R\n";
+    compare_shown(&rt, source, "CELL 0020 000001\nCYCLE 4\nSHOW REG\n", text);
+    compare_shown(
+        &rt,
+        source,
         "CELL 0020 000001\nCYCLE 3\nSTEP 2\nCYCLE 1\nSHOW REG\n",
+        text,
+    );
+    compare_shown(
+        &rt,
+        source,
         "CELL 0020 000001\nCYCLE 2\nCYCLE 0\nCYCLE 2\nSHOW REG\n",
-    ] {
-        compare_shown(&rt, source, script, "A 000000 Q 000000 X 0 V 0 P 4001 R\n")?;
-    }
-    Ok(())
+        text,
+    );
 }
 
 // A machine file connects the panel: to a register that keeps its word, which a cycle then finds filled; and to none.
@@ -130,7 +133,7 @@ const CONNECTS_THE_PANEL_BY_A_MACHINE_FILE: [(&str, Status, &str); 3] = [
 ];
 
 #[test]
-fn connects_the_panel_by_a_machine_file(rt: HostRuntime) -> Result<(), Fail> {
+fn connects_the_panel_by_a_machine_file(rt: HostRuntime) {
     let files = [
         (
             "S",
@@ -145,37 +148,31 @@ fn connects_the_panel_by_a_machine_file(rt: HostRuntime) -> Result<(), Fail> {
         ("N", b"deda_in = 0o2005\ndeda_out = 0o6005\n".as_slice()),
     ];
     for &(line, status, text) in &CONNECTS_THE_PANEL_BY_A_MACHINE_FILE {
-        compare_over(&rt, &files, line, 9, status, text)?;
+        compare_over(&rt, &files, line, 9, status, text);
     }
-    Ok(())
 }
 
 #[test]
-fn plays_and_guards_the_deck(rt: HostRuntime) -> Result<(), Fail> {
+fn plays_and_guards_the_deck(rt: HostRuntime) {
     compare_shown(
         &rt,
         DECK,
         DECK_SCRIPT,
         "CELL 0020 001750\nA 777777 Q 404012 X 0 V 0 P 4000 W\nDEDA |047?????? |\n",
-    )?;
+    );
     compare_guarded(
         &rt,
         (DECK, DECK_SCRIPT, DECK_CERTIFICATE),
         Status::Done,
         "CERTIFIED ROWS 31 CASES 32\nCELL 0020 001750\nA 777777 Q 404012 X 0 V 0 P 4000 W\nDEDA |047?????? |\n",
-    )
+    );
 }
 
 /// Guards the deck with a script, and compares what stands behind the verdict.
-fn compare_outside(rt: &(impl AllocGlobal + Abort), script: &str, shown: &str) -> Result<(), Fail> {
-    let mut text = String::from_str(rt.alloc(), "CERTIFIED ROWS 31 CASES 32\n")?;
-    text.push_str(shown)?;
-    compare_guarded(
-        rt,
-        (DECK, script, DECK_CERTIFICATE),
-        Status::No,
-        text.as_str(),
-    )
+fn compare_outside(rt: &(impl AllocGlobal + Abort), script: &str, shown: &str) {
+    let text = joined(rt, rt.alloc(), "CERTIFIED ROWS 31 CASES 32\n", shown);
+    let files = (DECK, script, DECK_CERTIFICATE);
+    compare_guarded(rt, files, Status::No, text.as_str());
 }
 
 // A word that isn't declared isn't put, and nothing is played behind it.
@@ -192,11 +189,10 @@ const STOPS_BEFORE_A_WORD_OUTSIDE: [(&str, &str); 2] = [
 ];
 
 #[test]
-fn stops_before_a_word_outside(rt: HostRuntime) -> Result<(), Fail> {
+fn stops_before_a_word_outside(rt: HostRuntime) {
     for &(script, shown) in &STOPS_BEFORE_A_WORD_OUTSIDE {
-        compare_outside(&rt, script, shown)?;
+        compare_outside(&rt, script, shown);
     }
-    Ok(())
 }
 
 // The location comes first, then cells, then registers; and a cell may begin with 0 alone, also where its range has the word.
@@ -219,9 +215,9 @@ const STOPS_BEFORE_A_START_OUTSIDE: [(&str, &str); 5] = [
 ];
 
 #[test]
-fn stops_before_a_start_outside(rt: HostRuntime) -> Result<(), Fail> {
+fn stops_before_a_start_outside(rt: HostRuntime) {
     for &(script, shown) in &STOPS_BEFORE_A_START_OUTSIDE {
-        compare_outside(&rt, script, shown)?;
+        compare_outside(&rt, script, shown);
     }
     // what is set later counts
     compare_guarded(
@@ -233,7 +229,7 @@ fn stops_before_a_start_outside(rt: HostRuntime) -> Result<(), Fail> {
         ),
         Status::Done,
         "CERTIFIED ROWS 31 CASES 32\nCELL 0020 000000\n",
-    )
+    );
 }
 
 /// A source with a word in the cell 0020, which waits for a pulse at 4010.
@@ -252,19 +248,27 @@ const RESTATED: &str =
 /// A script, with the status and what stands behind the verdict.
 type Begun = (&'static str, Status, &'static str);
 
+/// Guards three files with a certificate of one row, and compares what stands behind the verdict.
+fn compare_start(
+    rt: &(impl AllocGlobal + Abort),
+    files: (&str, &str, &str),
+    status: Status,
+    shown: &str,
+) {
+    let text = joined(rt, rt.alloc(), "CERTIFIED ROWS 1 CASES 1\n", shown);
+    compare_guarded(rt, files, status, text.as_str());
+}
+
 /// Compares how each script begins on a source, under a certificate.
 fn compare_starts(
     rt: &(impl AllocGlobal + Abort),
     source: &str,
     certificate: &str,
     rows: &[Begun],
-) -> Result<(), Fail> {
-    for (script, status, shown) in rows.iter().copied() {
-        let mut text = String::from_str(rt.alloc(), "CERTIFIED ROWS 1 CASES 1\n")?;
-        text.push_str(shown)?;
-        compare_guarded(rt, (source, script, certificate), status, text.as_str())?;
+) {
+    for &(script, status, shown) in rows {
+        compare_start(rt, (source, script, certificate), status, shown);
     }
-    Ok(())
 }
 
 // A cell that no line of the script names begins with 0, or with its assembled word.
@@ -279,8 +283,8 @@ const TESTS_EACH_CELL_OF_THE_START: [(&str, Status, &str); 2] = [
 ];
 
 #[test]
-fn tests_each_cell_of_the_start(rt: HostRuntime) -> Result<(), Fail> {
-    compare_starts(&rt, WAITING, STATED, &TESTS_EACH_CELL_OF_THE_START)
+fn tests_each_cell_of_the_start(rt: HostRuntime) {
+    compare_starts(&rt, WAITING, STATED, &TESTS_EACH_CELL_OF_THE_START);
 }
 
 // A register that no line of the script names begins with 0.
@@ -291,8 +295,8 @@ const TESTS_EACH_REGISTER_OF_THE_START: [(&str, Status, &str); 2] = [
 ];
 
 #[test]
-fn tests_each_register_of_the_start(rt: HostRuntime) -> Result<(), Fail> {
-    compare_starts(&rt, WAITING, NARROW, &TESTS_EACH_REGISTER_OF_THE_START)
+fn tests_each_register_of_the_start(rt: HostRuntime) {
+    compare_starts(&rt, WAITING, NARROW, &TESTS_EACH_REGISTER_OF_THE_START);
 }
 
 // An assembled cell begins with its word alone.
@@ -312,13 +316,13 @@ const TESTS_ASSEMBLED_CELLS_OF_THE_START: [(&str, Status, &str); 3] = [
 ];
 
 #[test]
-fn tests_assembled_cells_of_the_start(rt: HostRuntime) -> Result<(), Fail> {
+fn tests_assembled_cells_of_the_start(rt: HostRuntime) {
     compare_starts(
         &rt,
         ASSEMBLED,
         RESTATED,
         &TESTS_ASSEMBLED_CELLS_OF_THE_START,
-    )
+    );
 }
 
 // The digit of a FEED, and that of a cycle, are tested as the word of a SET is.
@@ -335,20 +339,14 @@ const TESTS_WHAT_THE_PANEL_SENDS: [(&str, &str); 2] = [
 ];
 
 #[test]
-fn tests_what_the_panel_sends(rt: HostRuntime) -> Result<(), Fail> {
+fn tests_what_the_panel_sends(rt: HostRuntime) {
     for &(script, text) in &TESTS_WHAT_THE_PANEL_SENDS {
-        compare_guarded(&rt, (WAITING, script, SMALL_DIGITS), Status::No, text)?;
+        compare_guarded(&rt, (WAITING, script, SMALL_DIGITS), Status::No, text);
     }
     // without a digit, and while the register holds a word, a cycle feeds nothing
-    for script in ["CYCLE 3\n", "SET 2200 000001\nKEY 0 4 7 RO\nCYCLE 2\n"] {
-        compare_guarded(
-            &rt,
-            (WAITING, script, SMALL_DIGITS),
-            Status::Done,
-            "CERTIFIED ROWS 1 CASES 1\n",
-        )?;
-    }
-    Ok(())
+    compare_start(&rt, (WAITING, "CYCLE 3\n", SMALL_DIGITS), Status::Done, "");
+    let script = "SET 2200 000001\nKEY 0 4 7 RO\nCYCLE 2\n";
+    compare_start(&rt, (WAITING, script, SMALL_DIGITS), Status::Done, "");
 }
 
 /// A certificate that is refused for `STORING`.
@@ -358,13 +356,13 @@ const REFUSED: &str = "AGSCERT 1\nROW 4000 A ANY Q ANY X 0 V 0\nEND\n";
 const STORING: &str = " ORG /4000\n CLZ /4000\n";
 
 #[test]
-fn plays_nothing_under_a_refused_certificate(rt: HostRuntime) -> Result<(), Fail> {
+fn plays_nothing_under_a_refused_certificate(rt: HostRuntime) {
     compare_guarded(
         &rt,
         (STORING, "SHOW REG\n", REFUSED),
         Status::No,
         "REFUSED 6 FixedWrite ROW 1 WORD 304000 AT 4000\n",
-    )
+    );
 }
 
 // The machine file is read first, then the source, the certificate and the script.
@@ -400,7 +398,7 @@ const READS_THE_FILES_OF_A_GUARDED_RUN_IN_ORDER: [(&str, Status, &str); 7] = [
 ];
 
 #[test]
-fn reads_the_files_of_a_guarded_run_in_order(rt: HostRuntime) -> Result<(), Fail> {
+fn reads_the_files_of_a_guarded_run_in_order(rt: HostRuntime) {
     let files = [
         ("S", WAITING.as_bytes()),
         ("C", SMALL_DIGITS.as_bytes()),
@@ -410,9 +408,8 @@ fn reads_the_files_of_a_guarded_run_in_order(rt: HostRuntime) -> Result<(), Fail
         ("P", b"STEP\n".as_slice()),
     ];
     for &(line, status, text) in &READS_THE_FILES_OF_A_GUARDED_RUN_IN_ORDER {
-        compare_over(&rt, &files, line, 9, status, text)?;
+        compare_over(&rt, &files, line, 9, status, text);
     }
-    Ok(())
 }
 
 /// The rows of `refuses_scripts`.
@@ -431,10 +428,16 @@ const REFUSES_SCRIPTS: [(&str, &str); 8] = [
 ];
 
 #[test]
-fn refuses_scripts(rt: HostRuntime) -> Result<(), Fail> {
+fn refuses_scripts(rt: HostRuntime) {
     for &(script, line) in &REFUSES_SCRIPTS {
-        let files = [("S", WAITING.as_bytes()), ("P", script.as_bytes())];
-        compare_over(&rt, &files, "run S P", 9, Status::BadText, line)?;
+        compare_pair(
+            &rt,
+            WAITING,
+            ("P", script),
+            "run S P",
+            9,
+            Status::BadText,
+            line,
+        );
     }
-    Ok(())
 }

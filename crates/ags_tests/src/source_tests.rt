@@ -3,35 +3,33 @@
 use crate::answer_tests::compare;
 use ags_top::Status;
 use std::process::Abort;
-use std::test::Fail;
 
 /// A source, and the line of its first fault.
 type Faulty<'a> = (&'a [u8], &'static str);
 
 /// Compares what each source is refused with.
-fn compare_faults(rt: &(impl AllocGlobal + Abort), rows: &[Faulty<'_>]) -> Result<(), Fail> {
-    for (source, line) in rows.iter().copied() {
-        compare(rt, source, "assemble S", 90, Status::BadSource, line)?;
+fn compare_faults(rt: &(impl AllocGlobal + Abort), rows: &[Faulty<'_>]) {
+    for &(source, line) in rows {
+        compare(rt, source, "assemble S", 90, Status::BadSource, line);
     }
-    Ok(())
+}
+
+/// The rows of `says_which_line_is_no_text`.
+const SAYS_WHICH_LINE_IS_NO_TEXT: [Faulty; 3] = [
+    (b"\0", "SOURCE CARD 0000001 ERROR 1 BadByte\n"),
+    (b"* \xff\n", "SOURCE CARD 0000001 ERROR 1 BadByte\n"),
+    (b" OCT 1\r\r\n", "SOURCE CARD 0000001 ERROR 1 BadByte\n"),
+];
+
+#[test]
+fn says_which_line_is_no_text(rt: HostRuntime) {
+    compare_faults(&rt, &SAYS_WHICH_LINE_IS_NO_TEXT);
 }
 
 #[test]
-fn says_which_line_is_no_text(rt: HostRuntime) -> Result<(), Fail> {
-    let long = vec![in rt.alloc(); b'*'; 121]?;
-    let rows: [Faulty; 4] = [
-        (b"\0".as_slice(), "SOURCE CARD 0000001 ERROR 1 BadByte\n"),
-        (
-            b"* \xff\n".as_slice(),
-            "SOURCE CARD 0000001 ERROR 1 BadByte\n",
-        ),
-        (
-            b" OCT 1\r\r\n".as_slice(),
-            "SOURCE CARD 0000001 ERROR 1 BadByte\n",
-        ),
-        (long.as_slice(), "SOURCE CARD 0000001 ERROR 2 LongCard\n"),
-    ];
-    compare_faults(&rt, &rows)
+fn says_which_line_is_too_long(rt: HostRuntime) {
+    let line = "SOURCE CARD 0000001 ERROR 2 LongCard\n";
+    compare(&rt, &[b'*'; 121], "assemble S", 90, Status::BadSource, line);
 }
 
 /// The rows of `says_which_field_is_no_symbol_and_no_operation`.
@@ -48,8 +46,8 @@ const SAYS_WHICH_FIELD_IS_NO_SYMBOL_AND_NO_OPERATION: [Faulty; 6] = [
 ];
 
 #[test]
-fn says_which_field_is_no_symbol_and_no_operation(rt: HostRuntime) -> Result<(), Fail> {
-    compare_faults(&rt, &SAYS_WHICH_FIELD_IS_NO_SYMBOL_AND_NO_OPERATION)
+fn says_which_field_is_no_symbol_and_no_operation(rt: HostRuntime) {
+    compare_faults(&rt, &SAYS_WHICH_FIELD_IS_NO_SYMBOL_AND_NO_OPERATION);
 }
 
 /// The rows of `says_which_operand_is_wrong`.
@@ -70,8 +68,8 @@ const SAYS_WHICH_OPERAND_IS_WRONG: [Faulty; 7] = [
 ];
 
 #[test]
-fn says_which_operand_is_wrong(rt: HostRuntime) -> Result<(), Fail> {
-    compare_faults(&rt, &SAYS_WHICH_OPERAND_IS_WRONG)
+fn says_which_operand_is_wrong(rt: HostRuntime) {
+    compare_faults(&rt, &SAYS_WHICH_OPERAND_IS_WRONG);
 }
 
 /// The rows of `says_which_number_is_wrong`.
@@ -86,8 +84,8 @@ const SAYS_WHICH_NUMBER_IS_WRONG: [Faulty; 4] = [
 ];
 
 #[test]
-fn says_which_number_is_wrong(rt: HostRuntime) -> Result<(), Fail> {
-    compare_faults(&rt, &SAYS_WHICH_NUMBER_IS_WRONG)
+fn says_which_number_is_wrong(rt: HostRuntime) {
+    compare_faults(&rt, &SAYS_WHICH_NUMBER_IS_WRONG);
 }
 
 /// The rows of `says_the_first_card_that_is_faulty`.
@@ -103,8 +101,8 @@ const SAYS_THE_FIRST_CARD_THAT_IS_FAULTY: [Faulty; 2] = [
 ];
 
 #[test]
-fn says_the_first_card_that_is_faulty(rt: HostRuntime) -> Result<(), Fail> {
-    compare_faults(&rt, &SAYS_THE_FIRST_CARD_THAT_IS_FAULTY)
+fn says_the_first_card_that_is_faulty(rt: HostRuntime) {
+    compare_faults(&rt, &SAYS_THE_FIRST_CARD_THAT_IS_FAULTY);
 }
 
 /// The rows of `says_which_symbol_has_no_one_value`.
@@ -125,8 +123,8 @@ const SAYS_WHICH_SYMBOL_HAS_NO_ONE_VALUE: [Faulty; 4] = [
 ];
 
 #[test]
-fn says_which_symbol_has_no_one_value(rt: HostRuntime) -> Result<(), Fail> {
-    compare_faults(&rt, &SAYS_WHICH_SYMBOL_HAS_NO_ONE_VALUE)
+fn says_which_symbol_has_no_one_value(rt: HostRuntime) {
+    compare_faults(&rt, &SAYS_WHICH_SYMBOL_HAS_NO_ONE_VALUE);
 }
 
 /// The rows of `says_which_place_is_wrong`.
@@ -152,8 +150,8 @@ const SAYS_WHICH_PLACE_IS_WRONG: [Faulty; 6] = [
 ];
 
 #[test]
-fn says_which_place_is_wrong(rt: HostRuntime) -> Result<(), Fail> {
-    compare_faults(&rt, &SAYS_WHICH_PLACE_IS_WRONG)
+fn says_which_place_is_wrong(rt: HostRuntime) {
+    compare_faults(&rt, &SAYS_WHICH_PLACE_IS_WRONG);
 }
 
 /// The rows of `says_which_value_has_no_room`.
@@ -170,8 +168,8 @@ const SAYS_WHICH_VALUE_HAS_NO_ROOM: [Faulty; 3] = [
 ];
 
 #[test]
-fn says_which_value_has_no_room(rt: HostRuntime) -> Result<(), Fail> {
-    compare_faults(&rt, &SAYS_WHICH_VALUE_HAS_NO_ROOM)
+fn says_which_value_has_no_room(rt: HostRuntime) {
+    compare_faults(&rt, &SAYS_WHICH_VALUE_HAS_NO_ROOM);
 }
 
 /// The rows of `says_the_fault_of_the_first_phase`.
@@ -197,8 +195,8 @@ const SAYS_THE_FAULT_OF_THE_FIRST_PHASE: [Faulty; 4] = [
 ];
 
 #[test]
-fn says_the_fault_of_the_first_phase(rt: HostRuntime) -> Result<(), Fail> {
-    compare_faults(&rt, &SAYS_THE_FAULT_OF_THE_FIRST_PHASE)
+fn says_the_fault_of_the_first_phase(rt: HostRuntime) {
+    compare_faults(&rt, &SAYS_THE_FAULT_OF_THE_FIRST_PHASE);
 }
 
 /// A source, and its listing.
@@ -245,21 +243,20 @@ const LISTS_WORDS: [Listed; 10] = [
 ];
 
 #[test]
-fn lists_words(rt: HostRuntime) -> Result<(), Fail> {
+fn lists_words(rt: HostRuntime) {
     for &(source, listing) in &LISTS_WORDS {
-        compare(&rt, source, "assemble S", 90, Status::Done, listing)?;
+        compare(&rt, source, "assemble S", 90, Status::Done, listing);
     }
-    Ok(())
 }
 
 // A card of 120 bytes, and an expression that fills it.
 #[test]
-fn takes_the_longest_card(rt: HostRuntime) -> Result<(), Fail> {
+fn takes_the_longest_card(rt: HostRuntime) {
     let source =
         b" CLA 1+1+1+1+1+1+1+1+1+1+1+1+1+1+1+1+1+1+1+1+1+1+1+1+1+1+1+1+1+1+1+1+1+1+1+1+1+1+1+1+1+1+1+1+1+1+1+1+1+1+1+1+1+1+1+1+1+1\n".as_slice();
     let listing =
         "0000001 0000 200072  CLA 1+1+1+1+1+1+1+1+1+1+1+1+1+1+1+1+1+1+1+1+1+1+1+1+1+1+1+1+1+1+1+1+1+1+1+1+1+1+1+1+1+1+1+1+1+1+1+1+1+1+1+1+1+1+1+1+1+1\n";
-    compare(&rt, source, "assemble S", 200, Status::Done, listing)
+    compare(&rt, source, "assemble S", 200, Status::Done, listing);
 }
 
 /// Faults of the phases of cards and of places.
@@ -304,8 +301,8 @@ const FAULTS_OF_PLACES: [Faulty; 15] = [
 ];
 
 #[test]
-fn says_the_first_fault_of_places(rt: HostRuntime) -> Result<(), Fail> {
-    compare_faults(&rt, &FAULTS_OF_PLACES)
+fn says_the_first_fault_of_places(rt: HostRuntime) {
+    compare_faults(&rt, &FAULTS_OF_PLACES);
 }
 
 /// Faults of the phase of words, and of phases before it.
@@ -343,6 +340,6 @@ const FAULTS_OF_WORDS: [Faulty; 9] = [
 ];
 
 #[test]
-fn says_the_first_fault_of_words(rt: HostRuntime) -> Result<(), Fail> {
-    compare_faults(&rt, &FAULTS_OF_WORDS)
+fn says_the_first_fault_of_words(rt: HostRuntime) {
+    compare_faults(&rt, &FAULTS_OF_WORDS);
 }
