@@ -1,6 +1,6 @@
 //! Verdicts of programs that were worked out outside the crate.
 
-use crate::common::{expect_same, word};
+use crate::common::word;
 use ags_cert::{Cert, CertParts};
 use ags_check::{Refusal, Verdict, check};
 use ags_domain::{Domain, Operands, Range, Value};
@@ -10,6 +10,11 @@ use ags_row::{Limits, Row, RowParts};
 use ags_word::Word;
 use std::alloc::Global;
 use std::process::Abort;
+
+/// Asserts that a verdict is the one that is wanted.
+fn expect_verdict(rt: &impl Abort, told: &Verdict<Value>, wanted: &Verdict<Value>) {
+    assert!(rt; *told == *wanted, "{told}");
+}
 
 /// A row where A and Q may hold any word, with index 0, where the indicator is clear or, where told, may be set.
 fn row(rt: &impl Abort, alloc: Global, location: u16, may_be_set: bool) -> Row<Value> {
@@ -94,7 +99,7 @@ fn assert_sum_verdict(
     if named {
         limits.name_place(0o4001);
     }
-    expect_same(
+    expect_verdict(
         rt,
         &verdict(rt, alloc, &SUM, &SUM_ROWS, limits, may_be_set),
         &wanted,
@@ -141,7 +146,7 @@ fn assert_refused(rt: &impl Abort, alloc: Global, greatest: i32, refusal: Refusa
     let mut limits: Limits<Value> = Limits::new(alloc).expect(rt, "memory for limits");
     let range = Range::of(0, greatest).expect(rt, "the ends of a range");
     limits.set_cell(0o17, Value::Range(range));
-    expect_same(
+    expect_verdict(
         rt,
         &verdict(rt, alloc, &[0o400017], &[0o4000, 0o17], limits, false),
         &Verdict::Refused(refusal),
