@@ -1,13 +1,20 @@
-//! What several tests begin with.
+//! What several tests begin with, and what they assert.
 
 use ags_outside::SteadyShelf;
-use std::alloc::{AllocError, Global};
+use std::alloc::Global;
+use std::fmt::Debug;
+use std::process::Abort;
 
 /// A shelf to which these files were added, one after the other.
-pub(crate) fn shelf_of(alloc: Global, files: &[(&str, &[u8])]) -> Result<SteadyShelf, AllocError> {
+pub(crate) fn shelf_of(rt: &impl Abort, alloc: Global, files: &[(&str, &[u8])]) -> SteadyShelf {
     let mut shelf = SteadyShelf::new(alloc);
     for file in files {
-        shelf.add(file.0, file.1)?;
+        assert!(rt; shelf.add(file.0, file.1).is_ok());
     }
-    Ok(shelf)
+    shelf
+}
+
+/// Asserts that what is told is what is wanted.
+pub(crate) fn expect_same<T: PartialEq + Debug>(rt: &impl Abort, told: &T, wanted: &T) {
+    assert_eq!(rt; *told, *wanted);
 }

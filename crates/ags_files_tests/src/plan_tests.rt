@@ -7,11 +7,11 @@ ghost use Rattle.ags_outside.specs.Count.{HasCause};
 ghost use Rattle.ags_plan.specs.Loading.{Loads, LoadsFile, end_of, is_absence, is_read_fault};
 ghost use Rattle.ags_files_tests.specs.Tiny as small;
 
-use crate::common::shelf_of;
+use crate::common::{expect_same, shelf_of};
 use ags_outside::{SendError, Shelf, Sink, SteadyShelf, SteadySink, send};
 use ags_plan::{Program, Stop, Unloaded, fetch_file, run};
 use std::alloc::{AllocError, Global};
-use std::test::Fail;
+use std::process::Abort;
 
 /// The tiny program. Its statuses are numbers: 0 done, 1 absent, 2 read fault, 3 write fault, 4 too long, 5 memory, 6 no key.
 struct Tiny;
@@ -144,34 +144,36 @@ const ROWS: [(&str, u8, &str); 8] = [
 ];
 
 /// The arguments of a command line.
-fn arguments_of(alloc: Global, line: &str) -> Result<Vec<String>, AllocError> {
+fn arguments_of(rt: &impl Abort, alloc: Global, line: &str) -> Vec<String> {
     let mut arguments = Vec::new(alloc);
     for argument in line.split_whitespace() {
-        arguments.push(String::from_str(alloc, argument)?)?;
+        let own = String::from_str(alloc, argument).expect(rt, "memory for an argument");
+        assert!(rt; arguments.push(own).is_ok());
     }
-    Ok(arguments)
+    arguments
 }
 
-/// The status of the run of a command line, and what it sent.
-fn run_of(
+/// Runs a command line, and compares the status and what is sent.
+fn expect_run(
+    rt: &impl Abort,
     alloc: Global,
     shelf: &mut SteadyShelf,
     line: &str,
-) -> Result<(u8, SteadySink), AllocError> {
-    let arguments = arguments_of(alloc, line)?;
+    status: u8,
+    text: &str,
+) {
+    let arguments = arguments_of(rt, alloc, line);
     let mut out = SteadySink::new(alloc, 3);
     let ended = run::<Tiny, SteadyShelf, SteadySink>(alloc, &arguments, shelf, &mut out);
-    Ok((ended, out))
+    expect_same(rt, &(line, ended), &(line, status));
+    expect_same(rt, &out.bytes(), &text.as_bytes());
 }
 
 #[test]
-fn tiny_program_walks_its_files(rt: HostRuntime) -> Result<(), Fail> {
+fn tiny_program_walks_its_files(rt: HostRuntime) {
     let alloc = rt.alloc();
-    let mut shelf = shelf_of(alloc, &FILES)?;
-    for (line, status, text) in &ROWS {
-        let (ended, out) = run_of(alloc, &mut shelf, line)?;
-        assert!(rt; ended == *status, "the status of {line}");
-        assert!(rt; out.bytes() == text.as_bytes(), "the text of {line}");
+    let mut shelf = shelf_of(&rt, alloc, &FILES);
+    for &(line, status, text) in &ROWS {
+        expect_run(&rt, alloc, &mut shelf, line, status, text);
     }
-    Ok(())
 }
