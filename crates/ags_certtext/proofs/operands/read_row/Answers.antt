@@ -1,4 +1,4 @@
-use Rattle.std.proofs.Common.{arith}
+use Rattle.std.proofs.Common.{arith, rules}
 use Rattle.ags_certtext.proofs.FrontLemmas.{no_word_name}
 use Rattle.ags_certtext.proofs.StatementLemmas.{row_same}
 use Rattle.ags_certtext.proofs.operands.read_row.Goals as goal
@@ -25,3 +25,6 @@ returns-clause-only c = λ row is.
     let flags = c.in-Some-read_flags.ensures.only row.x row.v (rw q.1 is.flags_are) in
     row_same row c.in-Some.location c.in-Some-read_named_value.a c.in-Some-read_named_value-2.q c.in-Some-read_flags.flags.0 c.in-Some-read_flags.flags.1
     (c.in-Some.ensures.only row.location (rw c.split_field.ensures.field is.location_is)) a.0 q.0 flags.0 flags.1
+
+pub returns-clause-found : goal.returns-clause-found
+returns-clause-found c = search rules

@@ -1,5 +1,6 @@
 use Rattle.std.proofs.Common.{refl}
-use Rattle.ags_play.specs.Played.{OutsideStart, OutsidePut}
+use Rattle.std.proofs.lemmas.List.{append-nil}
+use Rattle.ags_play.specs.Played.{Nothing, OutsideStart, OutsidePut}
 use Rattle.ags_top.proofs.GuardLemmas.{met_guards, shown_in_part}
 use Rattle.ags_top.proofs.guard_command.play_guarded.Goals as goal
 
@@ -24,3 +25,15 @@ returns-in-InputRange-clause-guards g c =
     met_guards c.args.machine.now c.args.image.now c.args.cert.now c.args.script.now (g.K.Sink.told c.args.out.now) (g.K.Sink.told c.play.new.out) (g.K.Sink.told c.say_met-in-InputRange.new.out)
     (OutsidePut (record { address = c.in-InputRange.address; word = c.in-InputRange.word })) c.say_met-in-InputRange.result refl (rw c.in-InputRange.is at c.in-Err.ensures.unplayed)
     c.say_met-in-InputRange.ensures.ended (rw c.in-InputRange.is at c.say_met-in-InputRange.ensures.sent) (rw c.in-InputRange.is at c.say_met-in-InputRange.ensures.front)
+
+pub returns-in-Ok-clause-guards : goal.returns-in-Ok-clause-guards
+returns-in-Ok-clause-guards g c =
+    let played = c.in-Ok.ensures.played in
+    record {
+      events = played.events;
+      shown = played.text;
+      met = Nothing;
+      plays = played.plays;
+      sent = rw (append-nil played.text) played.sent;
+      status_is = refl;
+    }
