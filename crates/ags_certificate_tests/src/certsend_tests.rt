@@ -2,7 +2,7 @@
 
 ghost use Rattle.std.specs.Prelude.{None};
 
-use crate::common::range;
+use crate::common::{expect_same, range};
 use ags_cert::{Cert, CertParts};
 use ags_certsend::{send_cert, sent_certificate_reads_back, sent_lines_are_read};
 use ags_domain::{Domain, Range, Value, WordSet};
@@ -102,16 +102,19 @@ fn made(
         .expect(rt, "the parts of a certificate")
 }
 
+/// The rows of `return_word`: the location, whether Q holds the word alone, and whether the cell does.
+const ROWS: [(u16, bool, bool); 5] = [
+    (0o4000, false, false),
+    (0o4001, false, false),
+    (0o4002, true, false),
+    (0o4003, false, true),
+    (0o17, false, true),
+];
+
 /// The certificate of a program that puts 404001 into Q and comes back over a cell.
 fn return_word(rt: &impl Abort, alloc: Global) -> Cert {
     let mut rows = Vec::new(alloc);
-    for (location, in_q, in_cell) in [
-        (0o4000u16, false, false),
-        (0o4001, false, false),
-        (0o4002, true, false),
-        (0o4003, false, true),
-        (0o17, false, true),
-    ] {
+    for &(location, in_q, in_cell) in &ROWS {
         assert!(rt; rows.push(row(rt, alloc, location, in_q, in_cell)).is_ok());
     }
     let limits: Limits<Value> = Limits::new(alloc).expect(rt, "memory for limits");
@@ -132,44 +135,58 @@ fn some_limits(rt: &impl Abort, alloc: Global) -> Limits<Value> {
     limits
 }
 
-/// A certificate with a line of each kind.
-fn one_of_each(rt: &impl Abort, alloc: Global) -> Cert {
+/// The first row of `one_of_each`.
+fn first_row(rt: &impl Abort, alloc: Global) -> Row<Value> {
     let mut at = Vec::new(alloc);
-    for (address, value) in [(0o17u16, Value::full()), (0o20, range(rt, -1, 0))] {
-        assert!(rt; at.push(At { address, value }).is_ok());
-    }
-    let first = Row::of(RowParts {
+    let (address, value) = (0o17, Value::full());
+    assert!(rt; at.push(At { address, value }).is_ok());
+    let (address, value) = (0o20, range(rt, -1, 0));
+    assert!(rt; at.push(At { address, value }).is_ok());
+    Row::of(RowParts {
         location: 0o4001,
         a: range(rt, 1, 2),
         q: words(rt, alloc, &[1]),
         x: [true, true, true, false, false, false, false, true],
         v: [true, true],
         at,
-    });
-    let second = Row::of(RowParts {
+    })
+    .expect(rt, "the parts of a row")
+}
+
+/// The second row of `one_of_each`.
+fn second_row(rt: &impl Abort, alloc: Global) -> Row<Value> {
+    Row::of(RowParts {
         location: 0o4000,
         a: Value::full(),
         q: Value::full(),
         x: [false, false, false, false, false, true, false, false],
         v: [false, true],
         at: Vec::new(alloc),
-    });
+    })
+    .expect(rt, "the parts of a row")
+}
+
+/// A certificate with a line of each kind.
+fn one_of_each(rt: &impl Abort, alloc: Global) -> Cert {
     let mut rows = Vec::new(alloc);
-    assert!(rt; rows.push(first.expect(rt, "the parts of a row")).is_ok());
-    assert!(rt; rows.push(second.expect(rt, "the parts of a row")).is_ok());
+    assert!(rt; rows.push(first_row(rt, alloc)).is_ok());
+    assert!(rt; rows.push(second_row(rt, alloc)).is_ok());
     let firsts = [Some(Value::full()), Some(words(rt, alloc, &[0o777777]))];
     made(rt, alloc, 0o4001, some_limits(rt, alloc), firsts, rows)
+}
+
+/// Expects the text of a certificate, which a sink takes in pieces of so many bytes at most.
+fn expect_sent(rt: &impl Abort, alloc: Global, cert: &Cert, most: usize, text: &[u8]) {
+    let mut out = SteadySink::new(alloc, most.max(1));
+    assert!(rt; send_cert(cert, &mut out).is_ok());
+    assert!(rt; out.bytes() == text);
 }
 
 #[test]
 fn certificates_are_sent(rt: HostRuntime) {
     let alloc = rt.alloc();
-    let mut out = SteadySink::new(alloc, 10_000);
-    assert!(rt; send_cert(&return_word(&rt, alloc), &mut out).is_ok());
-    assert!(rt; out.bytes() == RETURN_WORD);
-    let mut out = SteadySink::new(alloc, 1);
-    assert!(rt; send_cert(&one_of_each(&rt, alloc), &mut out).is_ok());
-    assert!(rt; out.bytes() == ONE_OF_EACH);
+    expect_sent(&rt, alloc, &return_word(&rt, alloc), 10_000, RETURN_WORD);
+    expect_sent(&rt, alloc, &one_of_each(&rt, alloc), 1, ONE_OF_EACH);
 }
 
 /// A sink that tells nothing, takes each piece whole, and fails at one of its puts.
@@ -195,27 +212,24 @@ impl Sink for FailingSink {
     }
 }
 
-#[test]
-fn each_line_is_one_put_that_may_fail(rt: HostRuntime) {
-    let alloc = rt.alloc();
-    let cert = one_of_each(&rt, alloc);
-    for at in 1..=16u64 {
-        let mut out = FailingSink {
-            at,
-            puts: 0,
-            faults: 0,
-        };
-        let answer = send_cert(&cert, &mut out);
-        assert!(rt; answer == Err(SendError::WriteFault), "put {at}");
-        assert!(rt; out.puts == at, "put {at}");
-    }
+/// Sends a certificate to a sink that fails at a put, and looks at the answer and at how many puts there were.
+fn expect_puts(rt: &impl Abort, cert: &Cert, at: u64, wanted: Result<(), SendError>, puts: u64) {
     let mut out = FailingSink {
-        at: 17,
+        at,
         puts: 0,
         faults: 0,
     };
-    assert!(rt; send_cert(&cert, &mut out).is_ok());
-    assert!(rt; out.puts == 16);
+    let answer = send_cert(cert, &mut out);
+    expect_same(rt, &(answer, out.puts), &(wanted, puts));
+}
+
+#[test]
+fn each_line_is_one_put_that_may_fail(rt: HostRuntime) {
+    let cert = one_of_each(&rt, rt.alloc());
+    for at in 1..=16u64 {
+        expect_puts(&rt, &cert, at, Err(SendError::WriteFault), at);
+    }
+    expect_puts(&rt, &cert, 17, Ok(()), 16);
     sent_lines_are_read();
     sent_certificate_reads_back();
 }

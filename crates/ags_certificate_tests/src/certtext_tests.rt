@@ -71,237 +71,214 @@ fn row(location: u16, a: Option<Value>, q: Option<Value>, x: [bool; 8], v: [bool
     })
 }
 
-/// Compares the statement of each line with the one that is wanted.
-fn expect_statements(rt: &impl Abort, rows: &[(&[u8], Statement)]) {
-    for (row, (line, wanted)) in rows.iter().enumerate() {
-        assert!(rt;
-            read_line(line) == FurtherLine::Stated(*wanted),
-            "row {row}"
-        );
-    }
+/// Expects what a line is.
+fn expect_line(rt: &impl Abort, line: &[u8], wanted: FurtherLine) {
+    assert!(rt; read_line(line) == wanted);
 }
 
-/// Compares what each of the lines is with what is wanted of all.
-fn expect_all(rt: &impl Abort, lines: &[&[u8]], wanted: FurtherLine) {
-    for (row, line) in lines.iter().enumerate() {
-        assert!(rt; read_line(line) == wanted, "row {row}");
-    }
+/// Expects the statement of a line.
+fn expect_statement(rt: &impl Abort, line: &[u8], wanted: Statement) {
+    expect_line(rt, line, FurtherLine::Stated(wanted));
 }
-
-/// The rows of `locations_and_the_end_are_read`.
-const LOCATIONS_AND_THE_END_ARE_READ: [(&[u8], Statement); 5] = [
-    (b"START 4000", Statement::Start(0o4000)),
-    (b" \tSTART\t 0000 \t", Statement::Start(0)),
-    (b"MAY 7777", Statement::May(0o7777)),
-    (b"END", Statement::End),
-    (b"\tEND ", Statement::End),
-];
 
 #[test]
 fn locations_and_the_end_are_read(rt: HostRuntime) {
-    expect_statements(&rt, &LOCATIONS_AND_THE_END_ARE_READ);
+    expect_statement(&rt, b"START 4000", Statement::Start(0o4000));
+    expect_statement(&rt, b" \tSTART\t 0000 \t", Statement::Start(0));
+    expect_statement(&rt, b"MAY 7777", Statement::May(0o7777));
+    expect_statement(&rt, b"END", Statement::End);
+    expect_statement(&rt, b"\tEND ", Statement::End);
 }
 
 #[test]
 fn entries_of_every_word_and_of_ranges_are_read(rt: HostRuntime) {
-    let rows: [(&[u8], Statement); 6] = [
-        (b"CELL 0017 ANY", Statement::Cell(entry(0o17, any()))),
-        (
-            b"INIT 3777 RANGE 4 6",
-            Statement::Init(entry(0o3777, range(4, 6))),
-        ),
-        (
-            b"IN 2200 RANGE -131072 131071",
-            Statement::In(entry(0o2200, range(-131_072, 131_071))),
-        ),
-        (
-            b"OUT 6200 RANGE -0 000031",
-            Statement::Out(entry(0o6200, range(0, 31))),
-        ),
-        (
-            b"CELL 0017 RANGE -000005 -5",
-            Statement::Cell(entry(0o17, range(-5, -5))),
-        ),
-        (b"CELL 4000 ANY", Statement::Cell(entry(0o4000, any()))),
-    ];
-    expect_statements(&rt, &rows);
-}
-
-#[test]
-fn empty_ranges_are_read_as_no_value(rt: HostRuntime) {
-    let rows: [(&[u8], Statement); 3] = [
-        (b"CELL 0017 RANGE 9 5", Statement::Cell(entry(0o17, None))),
-        (b"AT 0017 RANGE 5 4", Statement::At(entry(0o17, None))),
-        (b"AT 0017 RANGE 0 -1", Statement::At(entry(0o17, None))),
-    ];
-    expect_statements(&rt, &rows);
+    expect_statement(&rt, b"CELL 0017 ANY", Statement::Cell(entry(0o17, any())));
+    expect_statement(
+        &rt,
+        b"INIT 3777 RANGE 4 6",
+        Statement::Init(entry(0o3777, range(4, 6))),
+    );
+    expect_statement(
+        &rt,
+        b"IN 2200 RANGE -131072 131071",
+        Statement::In(entry(0o2200, range(-131_072, 131_071))),
+    );
+    expect_statement(
+        &rt,
+        b"OUT 6200 RANGE -0 000031",
+        Statement::Out(entry(0o6200, range(0, 31))),
+    );
+    expect_statement(
+        &rt,
+        b"CELL 0017 RANGE -000005 -5",
+        Statement::Cell(entry(0o17, range(-5, -5))),
+    );
+    expect_statement(&rt, b"CELL 4000 ANY", Statement::Cell(entry(0o4000, any())));
+    // empty ranges are read as no value
+    expect_statement(
+        &rt,
+        b"CELL 0017 RANGE 9 5",
+        Statement::Cell(entry(0o17, None)),
+    );
+    expect_statement(&rt, b"AT 0017 RANGE 5 4", Statement::At(entry(0o17, None)));
+    expect_statement(&rt, b"AT 0017 RANGE 0 -1", Statement::At(entry(0o17, None)));
 }
 
 #[test]
 fn word_sets_are_read(rt: HostRuntime) {
-    let rows: [(&[u8], Statement); 3] = [
-        (
-            b"AT 0017 WORDS 404001",
-            Statement::At(entry(0o17, alone(0o404001))),
-        ),
-        (
-            b"AT 0017 WORDS 000001 777777",
-            Statement::At(entry(0o17, pair(1, 0o777777))),
-        ),
-        (
-            b"AT 0017 WORDS 000000 000001 000002 000003 000004 000005 000006 000007 000010 000011 000012 000013 000014 000015 000016 000017",
-            Statement::At(entry(0o17, sixteen())),
-        ),
-    ];
-    expect_statements(&rt, &rows);
+    expect_statement(
+        &rt,
+        b"AT 0017 WORDS 404001",
+        Statement::At(entry(0o17, alone(0o404001))),
+    );
+    expect_statement(
+        &rt,
+        b"AT 0017 WORDS 000001 777777",
+        Statement::At(entry(0o17, pair(1, 0o777777))),
+    );
+    expect_statement(
+        &rt,
+        b"AT 0017 WORDS 000000 000001 000002 000003 000004 000005 000006 000007 000010 000011 000012 000013 000014 000015 000016 000017",
+        Statement::At(entry(0o17, sixteen())),
+    );
 }
 
 #[test]
 fn rows_are_read(rt: HostRuntime) {
     let some = [true, true, true, false, false, false, false, true];
-    let rows: [(&[u8], Statement); 5] = [
-        (
-            b"ROW 4000 A ANY Q ANY X 0 V 0",
-            row(0o4000, any(), any(), ZERO, CLEAR),
-        ),
-        (
-            b"ROW 4002 A ANY Q WORDS 404001 X 0 V 01",
-            row(0o4002, any(), alone(0o404001), ZERO, EITHER),
-        ),
-        (
-            b"ROW 0017 A WORDS 000001 777777 Q RANGE -3 7 X 0127 V 1",
-            row(0o17, pair(1, 0o777777), range(-3, 7), some, SET),
-        ),
-        (
-            b"ROW 0017 A RANGE 2 1 Q ANY X 01234567 V 0",
-            row(0o17, None, any(), [true; 8], CLEAR),
-        ),
-        (
-            b"ROW 0017 A RANGE 1 2 Q RANGE 2 1 X 0 V 0",
-            row(0o17, range(1, 2), None, ZERO, CLEAR),
-        ),
-    ];
-    expect_statements(&rt, &rows);
+    expect_statement(
+        &rt,
+        b"ROW 4000 A ANY Q ANY X 0 V 0",
+        row(0o4000, any(), any(), ZERO, CLEAR),
+    );
+    expect_statement(
+        &rt,
+        b"ROW 4002 A ANY Q WORDS 404001 X 0 V 01",
+        row(0o4002, any(), alone(0o404001), ZERO, EITHER),
+    );
+    expect_statement(
+        &rt,
+        b"ROW 0017 A WORDS 000001 777777 Q RANGE -3 7 X 0127 V 1",
+        row(0o17, pair(1, 0o777777), range(-3, 7), some, SET),
+    );
+    expect_statement(
+        &rt,
+        b"ROW 0017 A RANGE 2 1 Q ANY X 01234567 V 0",
+        row(0o17, None, any(), [true; 8], CLEAR),
+    );
+    expect_statement(
+        &rt,
+        b"ROW 0017 A RANGE 1 2 Q RANGE 2 1 X 0 V 0",
+        row(0o17, range(1, 2), None, ZERO, CLEAR),
+    );
 }
 
-#[test]
-fn lines_of_another_keyword_or_location_are_malformed(rt: HostRuntime) {
-    let lines: [&[u8]; 15] = [
-        b" # blanks before the sign",
-        b"AGSCERT 1",
-        b"STOP 4000",
-        b"start 4000",
-        b"START",
-        b"START 400",
-        b"START 04000",
-        b"START 4008",
-        b"START 4000 0000",
-        b"STARTS 4000",
-        b"START4000",
-        b"MAY",
-        b"MAY 4000 ANY",
-        b"END 0",
-        b"END END",
-    ];
-    expect_all(&rt, &lines, FurtherLine::Malformed);
-}
+/// Lines that are malformed.
+const MALFORMED: [&[u8]; 64] = [
+    // lines of another keyword or location
+    b" # blanks before the sign",
+    b"AGSCERT 1",
+    b"STOP 4000",
+    b"start 4000",
+    b"START",
+    b"START 400",
+    b"START 04000",
+    b"START 4008",
+    b"START 4000 0000",
+    b"STARTS 4000",
+    b"START4000",
+    b"MAY",
+    b"MAY 4000 ANY",
+    b"END 0",
+    b"END END",
+    // entries of another address or form
+    b"CELL",
+    b"CELL 0017",
+    b"CELL ANY",
+    b"CELL 017 ANY",
+    b"CELL 00017 ANY",
+    b"CELL 0018 ANY",
+    b"CELL 0017 any",
+    b"CELL 0017 ANY ANY",
+    b"CELL 0017 ALL",
+    b"CELL 0017 ANYX",
+    // ranges of other ends
+    b"CELL 0017 RANGE",
+    b"CELL 0017 RANGE 1",
+    b"CELL 0017 RANGE 1 2 3",
+    b"CELL 0017 RANGE 0 131072",
+    b"CELL 0017 RANGE 131072 1",
+    b"CELL 0017 RANGE -131073 0",
+    b"CELL 0017 RANGE +1 2",
+    b"CELL 0017 RANGE - 2",
+    b"CELL 0017 RANGE --1 2",
+    b"CELL 0017 RANGE 0000001 2",
+    b"CELL 0017 RANGE 1 2A",
+    b"CELL 0017 RANGE 1,2",
+    // word sets of other words
+    b"CELL 0017 WORDS",
+    b"CELL 0017 WORDS 00001",
+    b"CELL 0017 WORDS 0000001",
+    b"CELL 0017 WORDS 000008",
+    b"CELL 0017 WORDS 000001 000001",
+    b"CELL 0017 WORDS 000002 000001",
+    b"CELL 0017 WORDS 777777 000001",
+    b"CELL 0017 WORDS 000001 ANY",
+    b"AT 0017 WORDS 000000 000001 000002 000003 000004 000005 000006 000007 000010 000011 000012 000013 000014 000015 000016 000017 000020",
+    // rows of other fields
+    b"ROW 4000",
+    b"ROW 4000 A ANY Q ANY X 0",
+    b"ROW 4000 A ANY Q ANY X 0 V",
+    b"ROW 4000 A ANY Q ANY V 0 X 0",
+    b"ROW 4000 Q ANY A ANY X 0 V 0",
+    b"ROW 4000 A ANY X 0 V 0",
+    b"ROW 4000 ANY Q ANY X 0 V 0",
+    b"ROW 4000 A Q ANY X 0 V 0",
+    b"ROW 4000 A ANY Q ANY X 0 V 0 0",
+    b"ROW 4000 A ANY Q ANY X 10 V 0",
+    b"ROW 4000 A ANY Q ANY X 00 V 0",
+    b"ROW 4000 A ANY Q ANY X 8 V 0",
+    b"ROW 4000 A ANY Q ANY X V 0",
+    b"ROW 4000 A ANY Q ANY X 0 V 10",
+    b"ROW 4000 A ANY Q ANY X 0 V 2",
+    b"ROW 4000 A ANY Q ANY X 0 V 00",
+    b"ROW 4000 A WORDS 000001 000001 Q ANY X 0 V 0",
+    b"ROW 4000 A RANGE 131072 1 Q ANY X 0 V 0",
+];
 
 #[test]
-fn entries_of_another_address_or_form_are_malformed(rt: HostRuntime) {
-    let lines: [&[u8]; 10] = [
-        b"CELL",
-        b"CELL 0017",
-        b"CELL ANY",
-        b"CELL 017 ANY",
-        b"CELL 00017 ANY",
-        b"CELL 0018 ANY",
-        b"CELL 0017 any",
-        b"CELL 0017 ANY ANY",
-        b"CELL 0017 ALL",
-        b"CELL 0017 ANYX",
-    ];
-    expect_all(&rt, &lines, FurtherLine::Malformed);
+fn other_lines_are_malformed(rt: HostRuntime) {
+    for line in &MALFORMED {
+        expect_line(&rt, line, FurtherLine::Malformed);
+    }
 }
 
-#[test]
-fn ranges_of_other_ends_are_malformed(rt: HostRuntime) {
-    let lines: [&[u8]; 12] = [
-        b"CELL 0017 RANGE",
-        b"CELL 0017 RANGE 1",
-        b"CELL 0017 RANGE 1 2 3",
-        b"CELL 0017 RANGE 0 131072",
-        b"CELL 0017 RANGE 131072 1",
-        b"CELL 0017 RANGE -131073 0",
-        b"CELL 0017 RANGE +1 2",
-        b"CELL 0017 RANGE - 2",
-        b"CELL 0017 RANGE --1 2",
-        b"CELL 0017 RANGE 0000001 2",
-        b"CELL 0017 RANGE 1 2A",
-        b"CELL 0017 RANGE 1,2",
-    ];
-    expect_all(&rt, &lines, FurtherLine::Malformed);
-}
-
-#[test]
-fn word_sets_of_other_words_are_malformed(rt: HostRuntime) {
-    let lines: [&[u8]; 9] = [
-        b"CELL 0017 WORDS",
-        b"CELL 0017 WORDS 00001",
-        b"CELL 0017 WORDS 0000001",
-        b"CELL 0017 WORDS 000008",
-        b"CELL 0017 WORDS 000001 000001",
-        b"CELL 0017 WORDS 000002 000001",
-        b"CELL 0017 WORDS 777777 000001",
-        b"CELL 0017 WORDS 000001 ANY",
-        b"AT 0017 WORDS 000000 000001 000002 000003 000004 000005 000006 000007 000010 000011 000012 000013 000014 000015 000016 000017 000020",
-    ];
-    expect_all(&rt, &lines, FurtherLine::Malformed);
-}
-
-#[test]
-fn rows_of_other_fields_are_malformed(rt: HostRuntime) {
-    let lines: [&[u8]; 18] = [
-        b"ROW 4000",
-        b"ROW 4000 A ANY Q ANY X 0",
-        b"ROW 4000 A ANY Q ANY X 0 V",
-        b"ROW 4000 A ANY Q ANY V 0 X 0",
-        b"ROW 4000 Q ANY A ANY X 0 V 0",
-        b"ROW 4000 A ANY X 0 V 0",
-        b"ROW 4000 ANY Q ANY X 0 V 0",
-        b"ROW 4000 A Q ANY X 0 V 0",
-        b"ROW 4000 A ANY Q ANY X 0 V 0 0",
-        b"ROW 4000 A ANY Q ANY X 10 V 0",
-        b"ROW 4000 A ANY Q ANY X 00 V 0",
-        b"ROW 4000 A ANY Q ANY X 8 V 0",
-        b"ROW 4000 A ANY Q ANY X V 0",
-        b"ROW 4000 A ANY Q ANY X 0 V 10",
-        b"ROW 4000 A ANY Q ANY X 0 V 2",
-        b"ROW 4000 A ANY Q ANY X 0 V 00",
-        b"ROW 4000 A WORDS 000001 000001 Q ANY X 0 V 0",
-        b"ROW 4000 A RANGE 131072 1 Q ANY X 0 V 0",
-    ];
-    expect_all(&rt, &lines, FurtherLine::Malformed);
-}
+/// Lines that do nothing.
+const SKIPPED: [&[u8]; 6] = [b"", b" ", b"\t", b" \t \t", b"#", b"# END \x00\xff\r"];
 
 #[test]
 fn lines_that_do_nothing_are_skipped(rt: HostRuntime) {
-    let lines: [&[u8]; 6] = [b"", b" ", b"\t", b" \t \t", b"#", b"# END \x00\xff\r"];
-    expect_all(&rt, &lines, FurtherLine::Skipped);
+    for line in &SKIPPED {
+        expect_line(&rt, line, FurtherLine::Skipped);
+    }
+}
+
+/// Expects what the first 512 bytes of a line are, which is malformed as a whole.
+fn expect_long(rt: &impl Abort, line: &[u8; 513], wanted: FurtherLine) {
+    expect_line(rt, &line[..512], wanted);
+    expect_line(rt, line, FurtherLine::Malformed);
 }
 
 #[test]
 fn long_lines_are_malformed(rt: HostRuntime) {
     let mut bytes = [b' '; 513];
-    assert!(rt; read_line(&bytes[..512]) == FurtherLine::Skipped);
-    assert!(rt; read_line(&bytes) == FurtherLine::Malformed);
+    expect_long(&rt, &bytes, FurtherLine::Skipped);
     bytes[0] = b'#';
-    assert!(rt; read_line(&bytes[..512]) == FurtherLine::Skipped);
-    assert!(rt; read_line(&bytes) == FurtherLine::Malformed);
+    expect_long(&rt, &bytes, FurtherLine::Skipped);
     bytes[0] = b'E';
     bytes[1] = b'N';
     bytes[2] = b'D';
-    assert!(rt; read_line(&bytes[..512]) == FurtherLine::Stated(Statement::End));
-    assert!(rt; read_line(&bytes) == FurtherLine::Malformed);
+    expect_long(&rt, &bytes, FurtherLine::Stated(Statement::End));
 }
 
 /// The rows of `first_lines_are_read`.
@@ -329,10 +306,15 @@ const FIRST_LINES_ARE_READ: [(&[u8], FirstLine); 21] = [
     (b"", FirstLine::Malformed),
 ];
 
+/// Expects what a first line is.
+fn expect_first_line(rt: &impl Abort, line: &[u8], wanted: FirstLine) {
+    assert!(rt; read_first_line(line) == wanted);
+}
+
 #[test]
 fn first_lines_are_read(rt: HostRuntime) {
-    for (row, (line, wanted)) in FIRST_LINES_ARE_READ.iter().enumerate() {
-        assert!(rt; read_first_line(line) == *wanted, "row {row}");
+    for &(line, wanted) in &FIRST_LINES_ARE_READ {
+        expect_first_line(&rt, line, wanted);
     }
 }
 
@@ -347,8 +329,8 @@ fn long_first_lines_are_malformed(rt: HostRuntime) {
     bytes[5] = b'R';
     bytes[6] = b'T';
     bytes[8] = b'1';
-    assert!(rt; read_first_line(&bytes[..512]) == FirstLine::Opening);
-    assert!(rt; read_first_line(&bytes) == FirstLine::Malformed);
+    expect_first_line(&rt, &bytes[..512], FirstLine::Opening);
+    expect_first_line(&rt, &bytes, FirstLine::Malformed);
 }
 
 #[test]
