@@ -353,7 +353,13 @@ fn stops_of_words(rt: HostRuntime) {
     assert_stop(&rt, alloc, ANY, 0o600000, overflowing(&rt, 0o400000, 0, 0));
     assert_stop(&rt, alloc, FEW, 0o020020, overflowing(&rt, 3, 0o377777, 2));
     assert_stop(&rt, alloc, ANY, 0o320020, overflowing(&rt, 0o377777, 0, 4));
-    assert_stop(&rt, alloc, FEW, 0o100020, out_of_cell(0o20, value(&rt, 1, 3)));
+    assert_stop(
+        &rt,
+        alloc,
+        FEW,
+        0o100020,
+        out_of_cell(0o20, value(&rt, 1, 3)),
+    );
     assert_stop(&rt, alloc, FEW, 0o320020, out_of_cell(0o20, alone(&rt, 0)));
     let given = Stop::OutputRange {
         address: 0o6002,
