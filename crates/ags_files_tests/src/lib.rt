@@ -1,7 +1,9 @@
-//! Tests of shelves, sinks and the walk along the files of a command, over what their crates make public. They stand in a crate of their own, so that the proofs of those
-//! crates aren't done a second time for them.
+//! Tests of shelves, sinks, the adapters and the walk along the files of a command, over what their crates make public.
+//! They stand in a crate of their own, so that the proofs of those crates aren't done a second time for them.
 #![tactic(auto)]
 
+#[cfg(test)]
+mod adapters_tests;
 #[cfg(test)]
 mod common;
 #[cfg(test)]

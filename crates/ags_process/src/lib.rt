@@ -1,13 +1,10 @@
-//! The program as a process: `ags_main` over real files and standard output, and the number that it ends with. Its two
-//! adapters are the trusted edge: they tell nothing of what a file holds or of what was written, and meet the traits of
-//! `ags_outside`. It stands on `ags_outside`, `ags_plan` and `ags_top`; the programs above are one line each.
+//! The program as a process: `ags_main` over real files and standard output, and the number that it ends with. It stands
+//! on `ags_outside`, `ags_adapters`, `ags_plan` and `ags_top`; the programs above are one line each.
 #![tactic(auto)]
 
-mod file_shelf;
 mod messages;
-mod out_sink;
-#[cfg(test)]
-mod tests;
+
+pub use messages::Message;
 
 ghost use Rattle.std.specs.Prelude.{◌≡◌, ◌≢◌, true, false, IfOk, IfErr, drop, map};
 ghost use Rattle.std.specs.IoError.{error_kind};
@@ -16,10 +13,9 @@ ghost use Rattle.std.specs.Vec.Iter.{into_iter_items};
 ghost use Rattle.ags_process.specs.Ended.{EndsFor, ExitsFor};
 ghost use Rattle.ags_top.specs.Status.{number_of};
 
+use ags_adapters::{FileShelf, OutSink};
 use ags_top::{Status, ags_main};
-use file_shelf::FileShelf;
-use messages::{Message, tell, tell_unrun};
-use out_sink::OutSink;
+use messages::{tell, tell_unrun};
 use std::alloc::{AllocError, Global};
 use std::env::Args;
 use std::fs::Files;

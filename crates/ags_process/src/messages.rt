@@ -10,11 +10,11 @@ use std::io::{self, ErrorKind};
 
 /// What is said of a run that ended with a status.
 #[derive(Clone, Copy)]
-pub(crate) struct Message<'a> {
+pub struct Message<'a> {
     /// The status.
-    pub(crate) status: Status,
+    pub status: Status,
     /// The name of a file that couldn't be read, where one is known.
-    pub(crate) unread: Option<&'a str>,
+    pub unread: Option<&'a str>,
 }
 
 /// Prints the message, without a line feed, and nothing for a status that has its own line of output.

@@ -1,5 +1,5 @@
 use Rattle.std.proofs.Common.{rules}
-use Rattle.ags_process.proofs.file_shelf.go_to.Goals as goal
+use Rattle.ags_adapters.proofs.file_shelf.go_to.Goals as goal
 
 pub returns-clause-there : goal.returns-clause-there
 returns-clause-there g c = search rules

@@ -1,5 +1,5 @@
 use Rattle.std.proofs.Common.{rules}
-use Rattle.ags_process.proofs.out_sink.OutSinkSink.put.Goals as goal
+use Rattle.ags_adapters.proofs.out_sink.OutSinkSink.put.Goals as goal
 
 pub returns-then-eq-clause-faults : goal.returns-then-eq-clause-faults
 returns-then-eq-clause-faults c = search rules

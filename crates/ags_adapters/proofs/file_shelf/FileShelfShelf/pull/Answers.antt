@@ -1,4 +1,4 @@
-use Rattle.ags_process.proofs.file_shelf.FileShelfShelf.pull.Goals as goal
+use Rattle.ags_adapters.proofs.file_shelf.FileShelfShelf.pull.Goals as goal
 
 pub returns-clause-open : goal.returns-clause-open
 returns-clause-open g c = rw (c.keep_unread.ensures.held, c.count.ensures.held, c.answer_to-answer.ensures.count) c.read_on.ensures.open

@@ -1,11 +1,7 @@
 //! The adapters over real files, for what no clause says: that they succeed, and which error of the system is which answer.
 
-use crate::file_shelf::FileShelf;
-use crate::messages::Message;
-use crate::out_sink::OutSink;
+use ags_adapters::{FileShelf, OutSink};
 use ags_outside::{Pull, PutDone, Shelf, Sink};
-use ags_top::Status;
-use std::alloc::Global;
 use std::fs;
 use std::io::Write;
 use std::process::Abort;
@@ -88,34 +84,4 @@ fn file_that_is_not_read_is_named(rt: HostRuntime) {
     expect_unread(&rt, &shelf, None);
     expect_pull(&rt, &mut shelf, ".", Pull::Failed);
     expect_unread(&rt, &shelf, Some("."));
-}
-
-/// A status, the name of a file that couldn't be read, and the message.
-const MESSAGES: [(Status, Option<&str>, &str); 6] = [
-    (Status::ReadFault, Some("S"), "S can't be read"),
-    (Status::ReadFault, None, "a file can't be read"),
-    (Status::WriteFault, None, "the output can't be written"),
-    (Status::NoMemory, None, "memory ran out"),
-    (Status::Done, None, ""),
-    (Status::BadSource, Some("S"), ""),
-];
-
-/// Expects the text of a message.
-fn expect_message(
-    rt: &impl Abort,
-    alloc: Global,
-    status: Status,
-    unread: Option<&str>,
-    text: &str,
-) {
-    let message = Message { status, unread };
-    let told = format!(in alloc; "{message}").expect(rt, "memory for a message");
-    assert!(rt; told.as_str() == text, "{text}");
-}
-
-#[test]
-fn messages_are_told(rt: HostRuntime) {
-    for &(status, unread, text) in &MESSAGES {
-        expect_message(&rt, rt.alloc(), status, unread, text);
-    }
 }

@@ -4,7 +4,7 @@ ghost use Rattle.std.specs.Prelude.{◌≡◌, ◌≢◌, ◌<◌, ◌≤◌, []
 ghost use Rattle.std.specs.Io.Buffered.{writer_buffer, writer_contents, writer_inner};
 ghost use Rattle.std.specs.Io.KnownBytes.{Keeps};
 ghost use Rattle.std.specs.IoError.{error_kind};
-ghost use Rattle.ags_process.specs.Answers.{PutAppends};
+ghost use Rattle.ags_adapters.specs.Answers.{PutAppends};
 ghost use Rattle.ags_outside.specs.Count.{HasCause, Rose};
 ghost use Rattle.ags_outside.specs.Sink.{TookWithin, is_failed_put};
 
@@ -17,7 +17,7 @@ const ROOM: usize = 65536;
 
 /// A writer, behind room for what is not yet written.
 #[derive(Drop)]
-pub(crate) struct OutSink<W: Write + Drop> {
+pub struct OutSink<W: Write + Drop> {
     out: BufWriter<W>,
     faults: u64,
 }
@@ -39,7 +39,7 @@ fn answer_to(write: io::Result<usize>) -> PutDone
 
 impl<W: Write + Drop> OutSink<W> {
     /// A sink that writes to this.
-    pub(crate) fn new(alloc: Global, writer: W) -> io::Result<OutSink<W>>
+    pub fn new(alloc: Global, writer: W) -> io::Result<OutSink<W>>
         ensures writer { IfOk result (λ sink. writer_inner sink.out ≡ writer) }
         ensures empty { IfOk result (λ sink. writer_buffer sink.out ≡ []) }
         ensures faults { IfOk result (λ sink. sink.faults ≡ 0) }
@@ -50,7 +50,7 @@ impl<W: Write + Drop> OutSink<W> {
     }
 
     /// Writes what is not yet written, and tells whether that was done: where it wasn't, the sink failed once more.
-    pub(crate) fn finish(&mut self) -> bool
+    pub fn finish(&mut self) -> bool
         ensures bytes { Keeps (writer_contents W.contents self.old.out) (writer_contents W.contents self.new.out) }
         ensures written { result ≡ true → writer_buffer self.new.out ≡ [] }
         ensures faults_stay { self.old.faults ≤ self.new.faults }

@@ -2,9 +2,9 @@ use Rattle.std.proofs.Common.{◌≡◌, ℕ, List, take, Option, Some, None, Re
 use Rattle.std.specs.Prelude.{IfSome}
 use Rattle.std.specs.Io.KnownBytes.{Consumes}
 use Rattle.std.specs.String.{string_bytes}
-use Rattle.ags_process.specs.declared.file_shelf.OpenFile.{OpenFile}
-use Rattle.ags_process.specs.Held.{ReadsOn}
-use Rattle.ags_process.proofs.file_shelf.FileShelf.read_on.Goals as goal
+use Rattle.ags_adapters.specs.declared.file_shelf.OpenFile.{OpenFile}
+use Rattle.ags_adapters.specs.Held.{ReadsOn}
+use Rattle.ags_adapters.proofs.file_shelf.FileShelf.read_on.Goals as goal
 
 -- what is read of the file that was open is what it had left
 reads_on : {F E : Type 0} (remaining : F → Option (List ℕ)) (before : Option (OpenFile F)) (found : Result (OpenFile F) E) (file new : OpenFile F) (name : List ℕ) (from : ℕ) (into : List ℕ) (count : ℕ)

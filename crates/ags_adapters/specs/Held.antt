@@ -3,7 +3,7 @@
 use Rattle.std.specs.Prelude.{◌≡◌, ◌⊎◌, ℕ, ◌+◌, ◌-◌, ◌^◌, List, take, min, Option, Some, IfSome, IsSomeAnd}
 use Rattle.std.specs.Io.KnownBytes.{Consumes, IsAtEnd, Keeps}
 use Rattle.std.specs.String.{string_bytes}
-use Rattle.ags_process.specs.declared.file_shelf.OpenFile.{OpenFile}
+use Rattle.ags_adapters.specs.declared.file_shelf.OpenFile.{OpenFile}
 
 -- the file of that name stays open, at the place behind the bytes, which begin at `from`
 abbrev pub StaysOpen : {F : Type 0} → (held : Option (OpenFile F)) (name : List ℕ) (from : ℕ) (count : Option ℕ) → Type 0

@@ -6,8 +6,8 @@ ghost use Rattle.std.specs.IoError.{error_kind};
 ghost use Rattle.std.specs.Option.{option_map};
 ghost use Rattle.std.specs.Result.{result_ok};
 ghost use Rattle.std.specs.String.{string_bytes};
-ghost use Rattle.ags_process.specs.Answers.{count_of, faults_after};
-ghost use Rattle.ags_process.specs.Held.{IsAtItsEnd, IsBroughtTo, ReadsOn, ReadsWhatStood, StaysOpen, StoodAt};
+ghost use Rattle.ags_adapters.specs.Answers.{count_of, faults_after};
+ghost use Rattle.ags_adapters.specs.Held.{IsAtItsEnd, IsBroughtTo, ReadsOn, ReadsWhatStood, StaysOpen, StoodAt};
 ghost use Rattle.ags_outside.specs.Count.{HasCause, Rose};
 ghost use Rattle.ags_outside.specs.Shelf.{GotWithin, absences_after, is_absent_pull, is_failed_pull};
 ghost use Rattle.ags_outside.specs.ToldFile.{Untold};
@@ -28,7 +28,7 @@ struct OpenFile<F> {
 
 /// Real files. A file stays open while it is read on, so that it is opened once.
 #[derive(Drop)]
-pub(crate) struct FileShelf<'a, R: Files> {
+pub struct FileShelf<'a, R: Files> {
     rt: &'a R,
     alloc: Global,
     held: Option<OpenFile<R::File>>,
@@ -122,7 +122,7 @@ fn answer_to(read: io::Result<usize>) -> Pull
 
 impl<'a, R: Files> FileShelf<'a, R> {
     /// The files that the runtime reaches.
-    pub(crate) fn new(rt: &'a R, alloc: Global) -> FileShelf<'a, R>
+    pub fn new(rt: &'a R, alloc: Global) -> FileShelf<'a, R>
         ensures held { result.held ≡ None }
         ensures faults { result.faults ≡ 0 }
         ensures absences { result.absences ≡ 0 }
@@ -138,7 +138,7 @@ impl<'a, R: Files> FileShelf<'a, R> {
     }
 
     /// The name of the file that couldn't be read, if there was one and memory to keep it.
-    pub(crate) fn unread(&self) -> Option<&str>
+    pub fn unread(&self) -> Option<&str>
         ensures { option_map (λ name. name.now) result ≡ option_map string_bytes self.now.unread }
     {
         match &self.unread {
