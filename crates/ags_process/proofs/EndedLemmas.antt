@@ -4,10 +4,10 @@ use Rattle.std.specs.Prelude.{IfOk, IfErr}
 use Rattle.ags_outside.specs.ToldFile.{Untold}
 use Rattle.ags_plan.specs.Answer.{IsAnswer}
 use Rattle.ags_plan.specs.Outcome.{Ends}
-use Rattle.ags_top.specs.declared.status.Status.{Status}
-use Rattle.ags_top.specs.declared.status.Status.TheVariants.{ReadFault, WriteFault, NoMemory}
-use Rattle.ags_top.specs.Program.{plan_of, program}
-use Rattle.ags_top.specs.Status.{number_of}
+use Rattle.ags_load.specs.declared.status.Status.{Status}
+use Rattle.ags_load.specs.declared.status.Status.TheVariants.{ReadFault, WriteFault, NoMemory}
+use Rattle.ags_load.specs.Program.{plan_of, program}
+use Rattle.ags_load.specs.Status.{number_of}
 use Rattle.ags_process.specs.Ended.{EndsFor, ExitsFor}
 
 -- a run's end over files of which nothing is told

@@ -3,9 +3,9 @@ use Rattle.std.specs.Prelude.{◌≡◌, ◌⊎◌, ℕ, List}
 use Rattle.ags_outside.specs.ToldFile.{Untold}
 use Rattle.ags_plan.specs.Answer.{IsAnswer}
 use Rattle.ags_plan.specs.Outcome.{Stops}
-use Rattle.ags_top.specs.declared.status.Status.{Status}
-use Rattle.ags_top.specs.Program.{plan_of, program}
-use Rattle.ags_top.specs.Status.{number_of}
+use Rattle.ags_load.specs.declared.status.Status.{Status}
+use Rattle.ags_load.specs.Program.{plan_of, program}
+use Rattle.ags_load.specs.Status.{number_of}
 
 -- The status answers the arguments, for some files, since nothing is told of them; or it is one that stops.
 abbrev pub EndsFor : (arguments : List (List ℕ)) → Status → Type 0

@@ -4,17 +4,16 @@
 
 mod messages;
 
-pub use messages::Message;
-
 ghost use Rattle.std.specs.Prelude.{◌≡◌, ◌≢◌, true, false, IfOk, IfErr, drop, map};
 ghost use Rattle.std.specs.IoError.{error_kind};
 ghost use Rattle.std.specs.String.{string_bytes};
 ghost use Rattle.std.specs.Vec.Iter.{into_iter_items};
 ghost use Rattle.ags_process.specs.Ended.{EndsFor, ExitsFor};
-ghost use Rattle.ags_top.specs.Status.{number_of};
+ghost use Rattle.ags_load.specs.Status.{number_of};
 
 use ags_adapters::{FileShelf, OutSink};
 use ags_top::{Status, ags_main};
+pub use messages::Message;
 use messages::{tell, tell_unrun};
 use std::alloc::{AllocError, Global};
 use std::env::Args;

@@ -25,11 +25,11 @@ use Rattle.ags_verdict.specs.Verdict.{IsVerdict}
 use Rattle.ags_verdict.specs.declared.verdicts.Verdict.{Verdict}
 use Rattle.ags_verdict.specs.declared.verdicts.Verdict.TheVariants.{Certified, Refused}
 use Rattle.ags_verdict.proofs.VerdictLemmas.{accepted_of, counted_of}
-use Rattle.ags_top.specs.declared.status.Status.{Status}
+use Rattle.ags_load.specs.declared.status.Status.{Status}
 use Rattle.ags_top.specs.Outcome.{IsGuardedOn, IsRefusedFor, IsDeclaredPlay, IsDeclaredOn}
-use Rattle.ags_top.specs.Program.{program, command_plan}
-use Rattle.ags_top.specs.Text.{met_line, verdict_line}
-use Rattle.ags_top.specs.Work.{Work, IsGuardedPlay, IsPlayedBy, Makes}
+use Rattle.ags_load.specs.Program.{program, command_plan}
+use Rattle.ags_load.specs.Text.{met_line, verdict_line}
+use Rattle.ags_load.specs.Work.{Work, IsGuardedPlay, IsPlayedBy, Makes}
 
 -- the play of a told script on a told source under a told certificate
 pub guarded_told : (told : Told) (machine : Machine) (source script certificate source_bytes script_bytes certificate_bytes text : List ℕ) (status : Status) (work : Work)

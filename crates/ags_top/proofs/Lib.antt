@@ -2,7 +2,6 @@ pub mod CertifiedLineLemmas
 pub mod CertifyLemmas
 pub mod CompareLemmas
 pub mod DeclaredLemmas
-pub mod FilesLemmas
 pub mod GuardLemmas
 pub mod ListedLemmas
 pub mod MainLemmas

@@ -42,14 +42,14 @@ use Rattle.ags_script.specs.declared.script_errors.ScriptError.TheVariants.{At}
 use Rattle.ags_script.specs.Script.{IsScript}
 use Rattle.ags_play.specs.Played.{Met, Nothing}
 use Rattle.ags_top.proofs.DeclaredLemmas.{guarded_told, declared_of}
-use Rattle.ags_top.specs.declared.status.Status.{Status}
-use Rattle.ags_top.specs.declared.status.Status.TheVariants.{Done, No, BadMachine, BadSource, BadWords, BadCert, BadText}
-use Rattle.ags_top.specs.Files.{Kind, MachineFile, Source, Listing, Certificate, Script, limit_of, Refuses, refused_status}
+use Rattle.ags_load.specs.declared.status.Status.{Status}
+use Rattle.ags_load.specs.declared.status.Status.TheVariants.{Done, No, BadMachine, BadSource, BadWords, BadCert, BadText}
+use Rattle.ags_load.specs.Files.{Kind, MachineFile, Source, Listing, Certificate, Script, limit_of, Refuses, refused_status}
 use Rattle.ags_top.specs.Outcome.{EndsWith, IsMachineOf, WritesWhatIsDefined, IsComparedOn, ComparesWhatIsDefined, IsJudgedOn, JudgesWhatIsDefined, IsCertifiedOn, CertifiesWhatIsSafe, TellsMachine, TellsAccepted, CertifiesAccepted, BadCertExactly, IsOneImage, EqualsWhatIsDefined, IsShownOn, PlaysWhatIsDefined, IsGuardedOn, GuardsWhatIsDefined, IsDeclaredOn, PlaysWhatIsDeclared, DoneAlways, NoExactly, BadWordsExactly, FindsFault, BadMachineExactly, BadSourceExactly, BadTextExactly}
-use Rattle.ags_top.specs.Program.{program, command_plan, plan_on, asked_plan, plan_of}
+use Rattle.ags_load.specs.Program.{program, command_plan, plan_on, asked_plan, plan_of}
 use Rattle.ags_top.specs.ProgramLaws.{IsWorkStatus, comes_to_no_form, lawful_program, not_refused_work}
-use Rattle.ags_top.specs.Text.{words_line, certificate_fault_line, fault_line, listing_fault_line, machine_fault_line, script_fault_line, verdict_line}
-use Rattle.ags_top.specs.Work.{Work, NoForm, WriteText, CompareImages, JudgeCertificate, PlayScript, GuardScript, IsTextOf, IsJudgementOf, IsPlayedBy, compared_status, met_status, verdict_status, Makes}
+use Rattle.ags_load.specs.Text.{words_line, certificate_fault_line, fault_line, listing_fault_line, machine_fault_line, script_fault_line, verdict_line}
+use Rattle.ags_load.specs.Work.{Work, NoForm, WriteText, CompareImages, JudgeCertificate, PlayScript, GuardScript, IsTextOf, IsJudgementOf, IsPlayedBy, compared_status, met_status, verdict_status, Makes}
 
 -- ---- a run that ends with the status of a work came to a work
 

@@ -9,11 +9,11 @@ use Rattle.ags_asm.specs.Source.{defined}
 use Rattle.ags_listing.specs.Listing.{listing}
 use Rattle.ags_tape.specs.Tape.{tape_text}
 use Rattle.ags_xref.specs.Xref.{xref_text}
-use Rattle.ags_top.specs.declared.files.SourceFile.{SourceFile}
-use Rattle.ags_top.specs.declared.status.Status.TheVariants.{Done}
-use Rattle.ags_top.specs.Program.{program}
-use Rattle.ags_top.specs.Views.{IsReadSource, assembly_of}
-use Rattle.ags_top.specs.Work.{WriteText, IsTextOf}
+use Rattle.ags_load.specs.declared.files.SourceFile.{SourceFile}
+use Rattle.ags_load.specs.declared.status.Status.TheVariants.{Done}
+use Rattle.ags_load.specs.Program.{program}
+use Rattle.ags_load.specs.Views.{IsReadSource, assembly_of}
+use Rattle.ags_load.specs.Work.{WriteText, IsTextOf}
 
 module _ (what : SourceText) (source : SourceFile) (text : List ℕ) (old new : Option (List ℕ)) (is : IsTextOf what (assembly_of source) text) where
   -- all of it was sent

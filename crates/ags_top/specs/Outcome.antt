@@ -40,12 +40,12 @@ use Rattle.ags_play.specs.Begun.{IsRunOf}
 use Rattle.ags_play.specs.Bench.{begun_state}
 use Rattle.ags_play.specs.Guard.{Outside}
 use Rattle.ags_play.specs.Played.{Met, OutsideStart, IsPlayOf}
-use Rattle.ags_top.specs.declared.status.Status.{Status}
-use Rattle.ags_top.specs.declared.status.Status.TheVariants.{Done, No, BadMachine, BadSource, BadWords, BadCert, BadText}
-use Rattle.ags_top.specs.Files.{Kind, MachineFile, Source, Listing, Certificate, Script, limit_of, Refuses}
-use Rattle.ags_top.specs.Program.{program, plan_of}
-use Rattle.ags_top.specs.Text.{certified_word, met_line, verdict_line, words_line}
-use Rattle.ags_top.specs.Work.{Work, IsTextOf, IsComparisonOf, IsJudgementOf, IsShownBy, IsGuardedBy, met_status, Makes}
+use Rattle.ags_load.specs.declared.status.Status.{Status}
+use Rattle.ags_load.specs.declared.status.Status.TheVariants.{Done, No, BadMachine, BadSource, BadWords, BadCert, BadText}
+use Rattle.ags_load.specs.Files.{Kind, MachineFile, Source, Listing, Certificate, Script, limit_of, Refuses}
+use Rattle.ags_load.specs.Program.{program, plan_of}
+use Rattle.ags_load.specs.Text.{certified_word, met_line, verdict_line, words_line}
+use Rattle.ags_load.specs.Work.{Work, IsTextOf, IsComparisonOf, IsJudgementOf, IsShownBy, IsGuardedBy, met_status, Makes}
 use Rattle.ags_listing.specs.Listing.{listing}
 
 -- the run ends with that status, unless it stops

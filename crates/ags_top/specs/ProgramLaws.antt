@@ -53,14 +53,14 @@ use Rattle.ags_script.specs.declared.script_errors.ScriptKind.{ScriptKind}
 use Rattle.ags_script.specs.declared.script_errors.ScriptError.TheVariants.{At}
 use Rattle.ags_script.proofs.ScriptLemmas as script
 use Rattle.ags_play.specs.Played.{Met, Nothing}
-use Rattle.ags_top.specs.declared.status.Status.{Status}
-use Rattle.ags_top.specs.declared.status.Status.TheVariants.{Done, No, BadWords, LongFile}
-use Rattle.ags_top.specs.Files.{Kind, MachineFile, Source, Listing, Certificate, Script, Assembly, Value, HoldsSource, Holds, Refuses, refused_status}
+use Rattle.ags_load.specs.declared.status.Status.{Status}
+use Rattle.ags_load.specs.declared.status.Status.TheVariants.{Done, No, BadWords, LongFile}
+use Rattle.ags_load.specs.Files.{Kind, MachineFile, Source, Listing, Certificate, Script, Assembly, Value, HoldsSource, Holds, Refuses, refused_status}
 use Rattle.ags_top.specs.PlayLaws.{some_shown, one_shown, some_guarded, one_guarded}
-use Rattle.ags_top.specs.Program.{program, command_plan, plan_on, asked_plan, plan_of}
-use Rattle.ags_top.specs.Status.{cause_of}
-use Rattle.ags_top.specs.Text.{words_line, certificate_fault_line, fault_line, listing_fault_line, machine_fault_line, script_fault_line, compared_line, verdict_line}
-use Rattle.ags_top.specs.Work.{Work, NoForm, WriteText, CompareImages, JudgeCertificate, PlayScript, GuardScript, IsTextOf, IsComparisonOf, IsJudgementOf, IsPlayedBy, compared_status, met_status, verdict_status, Makes}
+use Rattle.ags_load.specs.Program.{program, command_plan, plan_on, asked_plan, plan_of}
+use Rattle.ags_load.specs.Status.{cause_of}
+use Rattle.ags_load.specs.Text.{words_line, certificate_fault_line, fault_line, listing_fault_line, machine_fault_line, script_fault_line, compared_line, verdict_line}
+use Rattle.ags_load.specs.Work.{Work, NoForm, WriteText, CompareImages, JudgeCertificate, PlayScript, GuardScript, IsTextOf, IsComparisonOf, IsJudgementOf, IsPlayedBy, compared_status, met_status, verdict_status, Makes}
 
 -- ---- files
 

@@ -3,12 +3,12 @@
 ghost use Rattle.std.specs.Prelude.{◌≡◌, ◌++◌, ℕ, List};
 ghost use Rattle.ags_plan.specs.Answer.{IsAnswer, TellsFiles};
 ghost use Rattle.ags_plan.specs.Walk.{Told};
-ghost use Rattle.ags_top.specs.Program.{plan_of, program};
-ghost use Rattle.ags_top.specs.Text.{certified_word, verdict_line};
+ghost use Rattle.ags_load.specs.Program.{plan_of, program};
+ghost use Rattle.ags_load.specs.Text.{certified_word, verdict_line};
 ghost use Rattle.ags_verdict.specs.declared.verdicts.Verdict.TheVariants.{Certified};
 
 use crate::program::Ags;
-use crate::status::Status;
+use ags_load::Status;
 use ags_plan::{command_lines_have_one_answer, each_command_line_has_an_answer};
 
 /// A command line has an answer, whatever a shelf tells of files.

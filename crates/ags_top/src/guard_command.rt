@@ -2,84 +2,32 @@
 //! for them.
 
 ghost use Rattle.std.specs.Prelude.{◌≡◌, ◌++◌, IfOk, OnOk, OnErr, codes, map};
-ghost use Rattle.std.specs.Result.{result_map_both};
 ghost use Rattle.std.specs.String.{string_bytes};
 ghost use Rattle.ags_asm.specs.Source.{defined};
-ghost use Rattle.ags_command.specs.Command as command;
 ghost use Rattle.ags_outside.specs.Count.{HasCause};
 ghost use Rattle.ags_outside.specs.Send.{is_write_fault};
 ghost use Rattle.ags_outside.specs.Sink.{WroteFront, appended};
-ghost use Rattle.ags_plan.specs.Loading.{Loads, end_of, is_absence, is_read_fault};
 ghost use Rattle.ags_plan.specs.Plan.{WorkAt};
 ghost use Rattle.ags_plan.specs.Saying.{Says};
 ghost use Rattle.ags_run.specs.ErrorText.{error_text};
 ghost use Rattle.ags_script.specs.Script.{IsReadFor};
 ghost use Rattle.ags_top.specs.Guarding.{Guards};
-ghost use Rattle.ags_top.specs.Program.{program, command_plan, guard_plan};
-ghost use Rattle.ags_top.specs.Views.{HasImage, IsReady, line_of, status_of, work_of};
-ghost use Rattle.ags_top.specs.Work as work;
+ghost use Rattle.ags_load.specs.Program.{program};
+ghost use Rattle.ags_load.specs.Views.{HasImage};
+ghost use Rattle.ags_load.specs.Work as work;
 
 use crate::certify_command::verdict_line;
-use crate::files::{load_certificate, load_script, load_source};
-use crate::refusal::Refusal;
-use crate::status::Status;
-use crate::works::Work;
 use ags_asm::Assembled;
 use ags_cert::Cert;
 use ags_check::{Verdict, check};
 use ags_image::Image;
-use ags_outside::{SendError, Shelf, Sink, send};
-use ags_plan::Unloaded;
+use ags_load::Status;
+use ags_outside::{SendError, Sink, send};
 use ags_ports::Machine;
 use ags_ports::laws::machine_is_made_of_tables;
 use ags_run::{PlayError, play};
 use ags_script::Script;
 use std::alloc::{AllocError, Global};
-
-/// Loads the certificate and the script of these names, in this order, for a source that was read and is to be guarded on a machine.
-fn load_guard<'a, S: Shelf>(
-    alloc: Global,
-    machine: Machine,
-    made: Assembled,
-    script: &'a str,
-    certificate: &'a str,
-    shelf: &mut S,
-) -> Result<Work, Unloaded<'a, Refusal>>
-    requires { HasImage made }
-    ensures loads { Loads program (S.told shelf.old) (guard_plan machine script.entry.now certificate.entry.now (map defined made.cards.items))
-        (result_map_both work_of (end_of program line_of status_of) result) }
-    ensures ready { IfOk result IsReady }
-    ensures faults { HasCause (S.faults shelf.old) (S.faults shelf.new) (is_read_fault result) }
-    ensures absences { HasCause (S.absences shelf.old) (S.absences shelf.new) (is_absence result) }
-{
-    let cert = load_certificate(alloc, &machine, certificate, shelf)?;
-    let script = load_script(alloc, &machine, script, shelf)?;
-    Ok(Work::GuardScript {
-        machine,
-        made,
-        cert,
-        script,
-    })
-}
-
-/// Loads the source, the certificate and the script of these names, in this order, to be guarded on a machine.
-pub(crate) fn load_guarded<'a, S: Shelf>(
-    alloc: Global,
-    machine: Machine,
-    source: &'a str,
-    script: &'a str,
-    certificate: &'a str,
-    shelf: &mut S,
-) -> Result<Work, Unloaded<'a, Refusal>>
-    ensures loads { Loads program (S.told shelf.old) (command_plan machine (command.Guard source.entry.now script.entry.now certificate.entry.now))
-        (result_map_both work_of (end_of program line_of status_of) result) }
-    ensures ready { IfOk result IsReady }
-    ensures faults { HasCause (S.faults shelf.old) (S.faults shelf.new) (is_read_fault result) }
-    ensures absences { HasCause (S.absences shelf.old) (S.absences shelf.new) (is_absence result) }
-{
-    let source = load_source(alloc, &machine, source, shelf)?;
-    load_guard(alloc, machine, source.made, script, certificate, shelf)
-}
 
 /// The line of what a play met.
 fn met_line(alloc: Global, error: PlayError) -> Result<String, AllocError>

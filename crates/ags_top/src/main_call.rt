@@ -6,11 +6,11 @@ ghost use Rattle.ags_outside.specs.Count.{Rose};
 ghost use Rattle.ags_plan.specs.Answer.{IsAnswer, TellsFiles};
 ghost use Rattle.ags_plan.specs.Outcome.{AbsentExactly, Ends, EndsExactly, IsCleanOnShelf, IsCleanOnSink, LongExactly};
 ghost use Rattle.ags_top.specs.Outcome.{BadCertExactly, BadMachineExactly, BadSourceExactly, BadTextExactly, BadWordsExactly, CertifiesAccepted, CertifiesWhatIsSafe, ComparesWhatIsDefined, DoneAlways, EqualsWhatIsDefined, GuardsWhatIsDefined, JudgesWhatIsDefined, NoExactly, PlaysWhatIsDeclared, PlaysWhatIsDefined, SafeWhereCertifiedIsWritten, WritesWhatIsDefined};
-ghost use Rattle.ags_top.specs.Program.{plan_of, program};
+ghost use Rattle.ags_load.specs.Program.{plan_of, program};
 
 use crate::program::Ags;
-use crate::status::Status;
 use ags_command::SourceText;
+use ags_load::Status;
 use ags_outside::{Shelf, Sink};
 use std::alloc::Global;
 
