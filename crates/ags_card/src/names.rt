@@ -19,7 +19,7 @@ use std::marker::Model;
 const MOST_BYTES: usize = 6;
 
 /// A symbol (docs/SOURCE.md, Symbols): one to six capital letters and digits, with a letter among them.
-#[derive(Clone, Copy, Debug)]
+#[derive(Clone, Copy)]
 pub struct Name {
     /// The symbol's bytes, with zeros behind them.
     bytes: [u8; 6],

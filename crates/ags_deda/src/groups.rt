@@ -7,7 +7,7 @@ ghost use Rattle.ags_deda.specs.Part.{IsFilling};
 use crate::keyed::PLACES;
 
 /// A group that is filled digit by digit.
-#[derive(Clone, Copy, Debug)]
+#[derive(Clone, Copy)]
 pub(crate) struct Group {
     /// Its digits, and behind them those of the group before it.
     digits: [u8; PLACES],

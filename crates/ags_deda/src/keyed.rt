@@ -10,7 +10,7 @@ use crate::keys::{Key, character, digit};
 pub(crate) const PLACES: usize = 9;
 
 /// The keys that were taken, in their places.
-#[derive(Clone, Copy, Debug)]
+#[derive(Clone, Copy)]
 pub(crate) struct Keyed {
     /// Their characters, and a space where there is none.
     pub(crate) characters: [u8; PLACES],

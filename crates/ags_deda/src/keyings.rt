@@ -12,7 +12,7 @@ use crate::keys::{Key, is_decimal_digit, is_entr, is_hold, is_octal_digit, is_re
 const ENTRY_KEYS: u8 = 10;
 
 /// How far the keys that were taken have come.
-#[derive(Clone, Copy, Debug)]
+#[derive(Clone, Copy)]
 pub(crate) struct Keying {
     /// Whether they are a front of an entry.
     entry: bool,

@@ -24,7 +24,7 @@ pub struct BadDigit {
 }
 
 /// The panel: what happened to it since the last CLR, as far as it matters.
-#[derive(Debug, Drop)]
+#[derive(Drop)]
 pub struct Panel {
     /// How far the keys that were taken have come.
     keying: Keying,

@@ -6,7 +6,7 @@ ghost use Rattle.ags_outside.specs.Shelf.{GotWithin, PullTells, is_absent_pull, 
 ghost use Rattle.ags_outside.specs.ToldFile.{ToldFile};
 
 /// What a shelf answers to a pull.
-#[derive(Clone, Copy, Debug, PartialEq, Eq)]
+#[derive(Clone, Copy, PartialEq, Eq)]
 pub enum Pull {
     /// So many bytes stand at the front of the room that was given.
     Got(usize),

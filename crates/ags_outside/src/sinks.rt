@@ -5,7 +5,7 @@ ghost use Rattle.ags_outside.specs.Count.{HasCause, Rose};
 ghost use Rattle.ags_outside.specs.Sink.{TookWithin, is_failed_put, taken_after};
 
 /// What a sink answers to a put.
-#[derive(Clone, Copy, Debug, PartialEq, Eq)]
+#[derive(Clone, Copy, PartialEq, Eq)]
 pub enum PutDone {
     /// So many bytes of the piece's front were taken.
     Took(usize),

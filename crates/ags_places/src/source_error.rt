@@ -8,7 +8,7 @@ use std::fmt;
 
 /// What is wrong with a card, by the number and the name that its line is printed with. The first nine are faults of the
 /// phase of cards, the next three of the phase of places, the last four of the phase of words.
-#[derive(Clone, Copy, Debug, PartialEq, Eq)]
+#[derive(Clone, Copy, PartialEq, Eq)]
 pub enum SourceKind {
     /// Number 1: a byte is neither a tab nor a character from the space to the tilde.
     BadByte,
@@ -54,7 +54,7 @@ pub enum SourceKind {
 }
 
 /// The first fault of a source.
-#[derive(Clone, Copy, Debug, PartialEq, Eq)]
+#[derive(Clone, Copy, PartialEq, Eq)]
 pub struct SourceError {
     /// The faulty card's number, counted from 1.
     pub card: u32,
@@ -63,7 +63,7 @@ pub struct SourceError {
 }
 
 /// Why a source wasn't assembled.
-#[derive(Clone, Copy, Debug, PartialEq, Eq)]
+#[derive(Clone, Copy, PartialEq, Eq)]
 pub enum AssembleError {
     /// It has this fault.
     Source(SourceError),

@@ -8,7 +8,7 @@ use crate::time_tables::Times;
 use ags_isa::{Codes, Order};
 
 /// A machine: the codes and the times of its orders, its registers, and the registers that the panel is connected to.
-#[derive(Debug, Drop)]
+#[derive(Drop)]
 pub struct Machine {
     /// The orders' codes.
     pub codes: Codes,

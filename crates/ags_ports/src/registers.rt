@@ -13,7 +13,7 @@ const MOST: usize = 32;
 const ADDRESSES: u16 = 4096;
 
 /// A register.
-#[derive(Clone, Copy, Debug, Default, PartialEq, Eq)]
+#[derive(Clone, Copy, Default, PartialEq, Eq)]
 pub struct Port {
     /// Its address.
     pub address: u16,
@@ -22,7 +22,7 @@ pub struct Port {
 }
 
 /// A machine's registers in each direction: at most 32, at distinct addresses below 4096.
-#[derive(Debug, Drop)]
+#[derive(Drop)]
 pub struct Ports {
     inputs: ArrayVec<Port, 32>,
     outputs: ArrayVec<Port, 32>,

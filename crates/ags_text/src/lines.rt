@@ -8,7 +8,7 @@ ghost use Rattle.std.specs.Str.Lines.{strip_carriage_return};
 use std::marker::Model;
 
 /// One line of a text, without its line's end.
-#[derive(Clone, Copy, Debug)]
+#[derive(Clone, Copy)]
 pub struct Line<'a> {
     /// Where its first byte stands in the text, counted from 0; an empty line has the place where one would.
     pub start: usize,

@@ -7,7 +7,7 @@ use crate::words::Word;
 use std::fmt;
 
 /// A word that prints as six octal digits.
-#[derive(Clone, Copy, Debug, PartialEq, Eq)]
+#[derive(Clone, Copy, PartialEq, Eq)]
 pub struct SixDigits(pub Word);
 
 impl fmt::Display for SixDigits {

@@ -11,7 +11,7 @@ use ags_image::Image;
 use std::alloc::Global;
 
 /// Why a text has no image: the first fault in it, or want of memory.
-#[derive(Clone, Copy, Debug, PartialEq, Eq)]
+#[derive(Clone, Copy, PartialEq, Eq)]
 pub enum ReadError {
     /// This line hasn't the form.
     BadLine {
