@@ -1,6 +1,6 @@
-//! The assembler: from a source's bytes to the image of its words, its cards with their places and words, and its symbols, or to
-//! its first fault. It stands on `ags_places` for the first two phases and makes the words, and `assemble` answers exactly what
-//! the definitions in `specs/` say of the text.
+//! The assembler: from a source's bytes to the image of its words, its cards with their places and words, and its
+//! symbols, or to its first fault. It stands on `ags_places` for the first two phases and makes the words, and
+//! `assemble` answers exactly what the definitions in `specs/` say of the text.
 #![tactic(auto)]
 
 mod assembling;

@@ -1,5 +1,5 @@
-//! The forms of a command line: which command its arguments ask for, and on the machine of which file. It stands on nothing but the
-//! standard library, and says nothing of what a command reads or does.
+//! The forms of a command line: which command its arguments ask for, and on the machine of which file. It stands on
+//! nothing but the standard library, and says nothing of what a command reads or does.
 #![tactic(auto)]
 
 mod command_lines;

@@ -1,6 +1,7 @@
-//! Sets of words as the checker of scaling knows them: ranges between two values, and lists of a few words. It stands on
-//! `ags_word`, whose operations it carries over to whole intervals. Each arithmetic function answers the least interval of all new
-//! A, or operands that overflow exactly where some do; the laws of a domain stand in `specs/Domain`.
+//! Sets of words as the checker of scaling knows them: ranges between two values, and lists of a few words. It stands
+//! on `ags_word`, whose operations it carries over to whole intervals. Each arithmetic function answers the least
+//! interval of all new A, or operands that overflow exactly where some do; the laws of a domain stand in
+//! `specs/Domain`.
 #![tactic(auto)]
 
 mod domains;

@@ -1,5 +1,5 @@
-//! Tests of the machine, its files, the panel and scripts, over what their crates make public. They stand in a crate of their own, so that the proofs of those
-//! crates aren't done a second time for them.
+//! Tests of the machine, its files, the panel and scripts, over what their crates make public. They stand in a crate of
+//! their own, so that the proofs of those crates aren't done a second time for them.
 #![tactic(auto)]
 
 #[cfg(test)]

@@ -1,7 +1,7 @@
-//! What the checker of scaling knows of the machine at one location: a row says which words A, Q and some cells may hold there, and
-//! which index and which indicator may stand. Limits say what every other cell and each port may hold, and a post what one order
-//! leaves of a row. It stands on `ags_domain` for the sets of words. `covers` says exactly whether a row holds all that a post
-//! says. No call takes memory but the one that makes limits.
+//! What the checker of scaling knows of the machine at one location: a row says which words A, Q and some cells may
+//! hold there, and which index and which indicator may stand. Limits say what every other cell and each port may hold,
+//! and a post what one order leaves of a row. It stands on `ags_domain` for the sets of words. `covers` says exactly
+//! whether a row holds all that a post says. No call takes memory but the one that makes limits.
 #![tactic(auto, unfolding(crate::specs::Limit::cell_limit, crate::specs::Limit::input_limit, crate::specs::Limit::output_limit, crate::specs::Limit::is_named, crate::specs::Cover::cell_value, crate::specs::Cover::post_value))]
 
 mod ats;

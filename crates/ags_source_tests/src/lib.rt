@@ -1,5 +1,5 @@
-//! Tests of the source language and of what is made of a source, over what their crates make public. They stand in a crate of their own, so that the proofs of those
-//! crates aren't done a second time for them.
+//! Tests of the source language and of what is made of a source, over what their crates make public. They stand in a
+//! crate of their own, so that the proofs of those crates aren't done a second time for them.
 #![tactic(auto)]
 
 #[cfg(test)]

@@ -1,6 +1,6 @@
-//! What one order makes of a row: the words that may stand at the row's location, and for each of them, each index and each
-//! indicator the posts, or the reason why the checker stops there. It stands on `ags_posts`, where what is answered is defined and
-//! proved sound for one step of the machine. No call takes memory.
+//! What one order makes of a row: the words that may stand at the row's location, and for each of them, each index and
+//! each indicator the posts, or the reason why the checker stops there. It stands on `ags_posts`, where what is
+//! answered is defined and proved sound for one step of the machine. No call takes memory.
 #![tactic(auto)]
 
 mod cases;
