@@ -143,8 +143,6 @@ fn numbers_statuses(rt: HostRuntime) {
 /// A source, a script, and what the script shows.
 type Played = (&'static str, &'static str, &'static str);
 
-// Overflow and its test, the greatest product, two divisions, a long right shift, an indexed store, and a delay that a
-// pulse ends.
 /// The rows of `plays_scripts`.
 const PLAYS_SCRIPTS: [Played; 7] = [
     (
@@ -184,6 +182,8 @@ const PLAYS_SCRIPTS: [Played; 7] = [
     ),
 ];
 
+// Overflow and its test, the greatest product, two divisions, a long right shift, an indexed store, and a delay that a
+// pulse ends.
 #[test]
 fn plays_scripts(rt: HostRuntime) {
     for &(source, script, text) in &PLAYS_SCRIPTS {
@@ -236,7 +236,6 @@ fn says_the_first_fault_of_a_script(rt: HostRuntime) {
     }
 }
 
-// A file that comes first decides: the script counts only where the source has no fault.
 /// Command lines over a good source `S`, a bad one `B` and a long file `L`, each with the status and what is printed.
 const FILES_IN_THEIR_ORDER: [(&str, Status, &str); 7] = [
     ("run Z Y", Status::AbsentFile, "ABSENT Z\n"),
@@ -261,6 +260,7 @@ const FILES_IN_THEIR_ORDER: [(&str, Status, &str); 7] = [
     ),
 ];
 
+// A file that comes first decides: the script counts only where the source has no fault.
 #[test]
 fn takes_files_in_their_order(rt: HostRuntime) {
     let long = long_file(&rt, rt.alloc());

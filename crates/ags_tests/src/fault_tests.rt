@@ -106,8 +106,6 @@ fn compare(
     expect_same(rt, &str::from_utf8(out.bytes()), &Ok(text));
 }
 
-// A file counts only where those before it are read: the script that can't be read isn't looked for behind a source that
-// is absent or has a fault.
 /// The file that can't be read, a command line, its status, and what is printed.
 const READ_FAULTS: [(&str, &str, Status, &str); 6] = [
     ("S", "assemble S", Status::ReadFault, ""),
@@ -123,6 +121,8 @@ const READ_FAULTS: [(&str, &str, Status, &str); 6] = [
     ("S", "run S", Status::BadWords, "WORDS\n"),
 ];
 
+// A file counts only where those before it are read: the script that can't be read isn't looked for behind a source that
+// is absent or has a fault.
 #[test]
 fn read_faults_write_nothing(rt: HostRuntime) {
     for &(failing, line, status, text) in &READ_FAULTS {
@@ -144,7 +144,6 @@ fn count_puts(rt: &(impl AllocGlobal + Abort), line: &str, at: u64, status: Stat
     expect_same(rt, &(line, at, ended, out.puts), &(line, at, status, puts));
 }
 
-// Each line is put as one piece, and none is put behind one that failed.
 /// A command line, the put that fails, the status, and how many puts were made.
 const WRITE_FAULTS: [(&str, u64, Status, u64); 15] = [
     ("assemble S", 1, Status::WriteFault, 1),
@@ -165,6 +164,7 @@ const WRITE_FAULTS: [(&str, u64, Status, u64); 15] = [
     ("run S S", 1, Status::WriteFault, 1),
 ];
 
+// Each line is put as one piece, and none is put behind one that failed.
 #[test]
 fn write_faults_end_the_run(rt: HostRuntime) {
     for &(line, at, status, puts) in &WRITE_FAULTS {
