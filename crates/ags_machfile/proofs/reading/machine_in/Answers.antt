@@ -1,4 +1,4 @@
-use Rattle.std.proofs.Common.{◌∙◌, sym, refl}
+use Rattle.std.proofs.Common.{◌∙◌, sym, refl, rules}
 use Rattle.std.proofs.lemmas.Result.{err_from_is_err_and}
 use Rattle.ags_machfile.specs.MachineFile.{machine_in}
 use Rattle.ags_machfile.proofs.reading.machine_in.Goals as goal
@@ -54,3 +54,6 @@ returns-clause-machine c =
       sym (rw usual at c.address_in.ensures) ∙ c.in_ok-address_in.was,
       sym (rw usual at c.address_in-2.ensures) ∙ c.in_ok-address_in-2.was,
     ) refl
+
+pub returns-clause-tables : goal.returns-clause-tables
+returns-clause-tables c = search rules

@@ -32,3 +32,9 @@ returns-in-Absent-clause-absences g c = search rules
 
 pub returns-then-len-limit-clause-tells : goal.returns-then-len-limit-clause-tells
 returns-then-len-limit-clause-tells g c = search rules
+
+pub returns-in-Failed-clause-faults : goal.returns-in-Failed-clause-faults
+returns-in-Failed-clause-faults g c = rw c.pulls.invariant.faults_stay at c.in-Failed.ensures.faults
+
+pub returns-in-Failed-clause-absences : goal.returns-in-Failed-clause-absences
+returns-in-Failed-clause-absences g c = rw c.pulls.invariant.absences_stay at c.in-Failed.ensures.absences
