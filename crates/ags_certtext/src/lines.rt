@@ -18,7 +18,7 @@ use ags_text::{are_blanks, split_field};
 const MOST_BYTES: usize = 512;
 
 /// What a certificate's first line is.
-#[derive(Clone, Copy, PartialEq, Eq)]
+#[derive(Clone, Copy)]
 pub enum FirstLine {
     /// It opens a certificate of this version.
     Opening,

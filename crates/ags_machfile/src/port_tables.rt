@@ -22,7 +22,7 @@ const MOST: usize = 32;
 type PortList = ArrayVec<Port, 32>;
 
 /// A direction of registers.
-#[derive(Clone, Copy, PartialEq, Eq)]
+#[derive(Clone, Copy)]
 pub(crate) enum Direction {
     /// Those that INP reads.
     Input,

@@ -1,7 +1,7 @@
 //! What a run of any program may stop at, and what its statuses come of.
 
 /// What a status comes of.
-#[derive(Clone, Copy, PartialEq, Eq)]
+#[derive(Clone, Copy)]
 pub enum Cause {
     /// What the files hold, or what was typed.
     Content,

@@ -7,7 +7,7 @@ use crate::numerals::octal4;
 use std::fmt;
 
 /// A location or an address that prints as its last four octal digits.
-#[derive(Clone, Copy, PartialEq, Eq)]
+#[derive(Clone, Copy)]
 pub struct FourDigits(pub u16);
 
 impl fmt::Display for FourDigits {

@@ -7,7 +7,7 @@ use crate::numerals::decimal7;
 use std::fmt;
 
 /// A number that prints as its last seven decimal digits.
-#[derive(Clone, Copy, PartialEq, Eq)]
+#[derive(Clone, Copy)]
 pub struct SevenDigits(pub u32);
 
 impl fmt::Display for SevenDigits {

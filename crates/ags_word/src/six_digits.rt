@@ -7,7 +7,7 @@ use crate::words::Word;
 use std::fmt;
 
 /// A word that prints as six octal digits.
-#[derive(Clone, Copy, PartialEq, Eq)]
+#[derive(Clone, Copy)]
 pub struct SixDigits(pub Word);
 
 impl fmt::Display for SixDigits {
