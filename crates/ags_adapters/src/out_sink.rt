@@ -38,7 +38,7 @@ fn answer_to(write: io::Result<usize>) -> PutDone
 }
 
 impl<W: Write + Drop> OutSink<W> {
-    /// A sink that writes to this.
+    /// A sink that writes to this, with room for 65,536 bytes before it writes. An error comes for want of memory alone.
     pub fn new(alloc: Global, writer: W) -> io::Result<OutSink<W>>
         ensures writer { IfOk result (λ sink. writer_inner sink.out ≡ writer) }
         ensures empty { IfOk result (λ sink. writer_buffer sink.out ≡ []) }

@@ -35,7 +35,10 @@ fn load_on<'a, S: Shelf>(
     load_command(alloc, machine, command, shelf)
 }
 
-/// Loads the files of a command line, that of its machine first.
+/// Loads the files that a command line names into the work that it asks for (the README, Commands): that of its machine
+/// first, if it names one, and then those of its command, each looked for only where those before it were read. An error
+/// is why one of them wasn't: it is absent, longer than its limit, refused for its first fault, or couldn't be read; or
+/// memory ran out, which may come at any file.
 pub fn load_line<'a, S: Shelf>(
     alloc: Global,
     line: CommandLine<'a>,
