@@ -1,4 +1,4 @@
-use Rattle.std.proofs.Common.{◌≡◌, ◌∙◌, [], arith, refl, length-drop}
+use Rattle.std.proofs.Common.{◌≡◌, ◌∙◌, [], arith, refl, length-drop, rules}
 use Rattle.std.proofs.lemmas.List.{take_all, nil_from_length}
 use Rattle.ags_outside.specs.Sink.{wrote_of_nothing, wrote_part, wrote_all}
 use Rattle.ags_outside.proofs.sending.send.Goals as goal
@@ -13,7 +13,7 @@ loop-rest-preserved g c = record {
 
 pub returns-clause-sent : goal.returns-clause-sent
 returns-clause-sent g c =
-    let none : c.loop-rest.rest.now ≡ [] = grind (arith, nil_from_length) in
+    let none : c.loop-rest.rest.now ≡ [] = search (nil_from_length, rules) in
     wrote_all (rw none at c.loop-rest.invariant.wrote)
 
 pub returns-in-NoMemory-clause-front : goal.returns-in-NoMemory-clause-front
