@@ -1,5 +1,6 @@
 //! What several tests make, and what they assert.
 
+use ags_domain::{Range, Value};
 use ags_word::Word;
 use std::fmt::Debug;
 use std::process::Abort;
@@ -7,6 +8,11 @@ use std::process::Abort;
 /// The word of a number.
 pub(crate) fn word(rt: &impl Abort, number: u32) -> Word {
     Word::of(number).expect(rt, "the number of a word")
+}
+
+/// The value that is a range of two values.
+pub(crate) fn range(rt: &impl Abort, least: i32, greatest: i32) -> Value {
+    Value::Range(Range::of(least, greatest).expect(rt, "the ends of a range"))
 }
 
 /// Asserts that what is told is what is wanted.

@@ -1,9 +1,17 @@
-//! Tests of domains, rows and the verdict, over what their crates make public. They stand in a crate of their own, so
-//! that the proofs of those crates aren't done a second time for them.
+//! Tests of domains, rows, certificates and the verdict, over what their crates make public. They stand in a crate of
+//! their own, so that the proofs of those crates aren't done a second time for them.
 #![tactic(auto)]
 
 #[cfg(test)]
 mod answered_tests;
+#[cfg(test)]
+mod cert_tests;
+#[cfg(test)]
+mod certread_tests;
+#[cfg(test)]
+mod certsend_tests;
+#[cfg(test)]
+mod certtext_tests;
 #[cfg(test)]
 mod check_tests;
 #[cfg(test)]

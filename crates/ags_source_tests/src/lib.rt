@@ -1,7 +1,10 @@
-//! Tests of the source language and of what is made of a source, over what their crates make public. They stand in a
-//! crate of their own, so that the proofs of those crates aren't done a second time for them.
+//! Tests of words and numerals, of shelves, sinks and the walk along the files of a command, of the source language and of
+//! what is made of a source, over what their crates make public. They stand in a crate of their own, so that the proofs of
+//! those crates aren't done a second time for them.
 #![tactic(auto)]
 
+#[cfg(test)]
+mod adapters_tests;
 #[cfg(test)]
 mod asm_tests;
 #[cfg(test)]
@@ -11,12 +14,26 @@ mod common;
 #[cfg(test)]
 mod compare_tests;
 #[cfg(test)]
+mod decimal_tests;
+#[cfg(test)]
+mod image_tests;
+#[cfg(test)]
+mod isa_tests;
+#[cfg(test)]
 mod listing_tests;
 #[cfg(test)]
+mod outside_tests;
+#[cfg(test)]
 mod places_tests;
+#[cfg(test)]
+mod plan_tests;
 #[cfg(test)]
 mod symbol_tests;
 #[cfg(test)]
 mod tape_tests;
+#[cfg(test)]
+mod text_tests;
+#[cfg(test)]
+mod word_tests;
 #[cfg(test)]
 mod xref_tests;
