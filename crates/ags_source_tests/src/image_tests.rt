@@ -1,6 +1,6 @@
 //! Rows over one image. Each location that no row sets has no word.
 
-use crate::common::cell;
+use crate::common::{cell, expect_same};
 use ags_image::Image;
 use ags_word::Word;
 use std::process::Abort;
@@ -31,15 +31,16 @@ const HELD: [(u16, bool, u32); 8] = [
 fn set(rt: &impl Abort, image: &mut Image, location: u16, word: Word) {
     assert!(rt; location < 4096);
     image.set(location, word);
-    assert_eq!(rt; image.get(location), Some(word));
+    expect_same(rt, &image.get(location), &Some(word));
 }
 
 /// A location has a word or none, and this word or 0.
 fn expect_held(rt: &impl Abort, image: &Image, location: u16, held: bool, word: Word) {
     assert!(rt; location < 4096);
-    assert_eq!(rt;
-        (image.get(location).is_some(), image.word_at(location)),
-        (held, word)
+    expect_same(
+        rt,
+        &(image.get(location).is_some(), image.word_at(location)),
+        &(held, word),
     );
 }
 

@@ -1,7 +1,7 @@
 //! Rows typed from the machine's table of codes, which gives each order as the two octal digits that its word begins
 //! with, and from worked words.
 
-use crate::common::cell;
+use crate::common::{cell, expect_same};
 use ags_isa::{Codes, Decoded, Order, decode, encode, order_named};
 use ags_word::Word;
 use std::process::Abort;
@@ -45,14 +45,15 @@ fn expect_coded(rt: &impl Abort, codes: &Codes, name: &[u8; 3], order: Order, di
         indexed: true,
         address: 0o7777,
     };
-    assert_eq!(rt;
-        (
+    expect_same(
+        rt,
+        &(
             order.name().as_bytes(),
             order_named(name),
             encode(codes, order, false, 0).number(),
             decode(codes, cell(rt, digits * 4096 + 0o17777)),
         ),
-        (name.as_slice(), Some(order), digits * 4096, Some(decoded))
+        &(name.as_slice(), Some(order), digits * 4096, Some(decoded)),
     );
 }
 
@@ -63,30 +64,31 @@ fn names_and_standard_codes(rt: HostRuntime) {
         expect_coded(&rt, &codes, name, *order, *digits);
     }
     for number in 0..27 {
-        assert_eq!(rt; Order::ALL[number].number(), number);
+        expect_same(&rt, &Order::ALL[number].number(), &number);
     }
 }
+
+/// An order, its index bit and its address, and the word of the three.
+const WORDS: [(Order, bool, u16, u32); 4] = [
+    (Order::Cla, false, 0o4010, 0o204010),
+    (Order::Add, true, 0o200, 0o230200),
+    (Order::Com, false, 0, 0o600000),
+    (Order::Tra, false, 0o4001, 0o404001),
+];
 
 #[test]
 fn worked_words(rt: HostRuntime) {
     let codes = Codes::standard();
-    for (order, indexed, address, number) in [
-        (Order::Cla, false, 0o4010, 0o204010),
-        (Order::Add, true, 0o200, 0o230200),
-        (Order::Com, false, 0, 0o600000),
-        (Order::Tra, false, 0o4001, 0o404001),
-    ] {
+    for &(order, indexed, address, number) in &WORDS {
         assert!(rt; address < 4096);
         let word = cell(&rt, number);
-        assert_eq!(rt; encode(&codes, order, indexed, address), word);
-        assert_eq!(rt;
-            decode(&codes, word),
-            Some(Decoded {
-                order,
-                indexed,
-                address
-            })
-        );
+        let decoded = Decoded {
+            order,
+            indexed,
+            address,
+        };
+        expect_same(&rt, &encode(&codes, order, indexed, address), &word);
+        expect_same(&rt, &decode(&codes, word), &Some(decoded));
     }
 }
 
@@ -118,16 +120,14 @@ fn tables(rt: HostRuntime) {
         table[place] = 31 - place as u8;
     }
     let codes = Codes::of(&table).expect(&rt, "distinct codes below 32");
-    assert_eq!(rt;
-        (codes.code_of(Order::Abs), codes.code_of(Order::Tsq)),
-        (31, 5)
-    );
+    expect_same(&rt, &codes.code_of(Order::Abs), &31);
+    expect_same(&rt, &codes.code_of(Order::Tsq), &5);
     let add = Decoded {
         order: Order::Add,
         indexed: false,
         address: 0o0200,
     };
-    assert_eq!(rt; decode(&codes, cell(&rt, 0o740200)), Some(add));
+    expect_same(&rt, &decode(&codes, cell(&rt, 0o740200)), &Some(add));
     assert!(rt; decode(&codes, cell(&rt, 0o100200)).is_none());
     let mut high = table;
     high[26] = 32;

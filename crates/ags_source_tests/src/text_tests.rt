@@ -1,5 +1,6 @@
 //! Rows worked out by hand from the rules of lines, fields and numbers, and each law called once at types of its own.
 
+use crate::common::expect_same;
 use ags_text::{
     Lines, SevenDigits, are_blanks, blanks_have_no_field, bytes_tell_fields, cut_fields_stand,
     decimal7, first_fault_is_first, lines_follow, lines_make_up_the_text, no_fault_is_faultless,
@@ -45,7 +46,7 @@ const LINES: [(&[u8], &[u8]); 17] = [
 fn texts_are_cut_into_lines(rt: HostRuntime) -> Result<(), Fail> {
     for (text, wanted) in &LINES {
         let shown = shown_lines(rt.alloc(), *text)?;
-        assert_eq!(rt; shown.as_slice(), *wanted);
+        expect_same(&rt, &shown.as_slice(), wanted);
     }
     Ok(())
 }
@@ -78,7 +79,7 @@ const DIGITS: [(&[u8], Option<u32>, Option<u32>); 20] = [
 fn digits_are_read(rt: HostRuntime) {
     for row in &DIGITS {
         let text = row.0;
-        assert_eq!(rt; (text, read_octal(text), read_decimal(text)), *row);
+        expect_same(&rt, &(text, read_octal(text), read_decimal(text)), row);
     }
 }
 
@@ -100,7 +101,11 @@ fn texts_are_cut_at_blanks(rt: HostRuntime) {
         let text = row[0];
         let (leading, behind_leading) = split_leading_field(text);
         let (next, behind_next) = split_field(text);
-        assert_eq!(rt; [text, leading, behind_leading, next, behind_next], *row);
+        expect_same(
+            &rt,
+            &[text, leading, behind_leading, next, behind_next],
+            row,
+        );
     }
 }
 
@@ -114,35 +119,36 @@ fn blanks_are_told(rt: HostRuntime) {
     }
 }
 
+/// A number and its last seven decimal digits.
+const DECIMAL_DIGITS: [(u32, &str); 5] = [
+    (0, "0000000"),
+    (1, "0000001"),
+    (4194304, "4194304"),
+    (9999999, "9999999"),
+    (u32::MAX, "4967295"),
+];
+
 #[test]
-fn numbers_are_printed(rt: HostRuntime) -> Result<(), Fail> {
+fn decimal_digits_are_printed(rt: HostRuntime) -> Result<(), Fail> {
     let alloc = rt.alloc();
-    for (number, digits) in [
-        (0, "0000000"),
-        (1, "0000001"),
-        (4194304, "4194304"),
-        (9999999, "9999999"),
-        (u32::MAX, "4967295"),
-    ] {
-        assert!(rt;
-            decimal7(number).as_slice() == digits.as_bytes(),
-            "{number}"
-        );
+    for &(number, digits) in &DECIMAL_DIGITS {
         let printed = format!(in alloc; "{}", SevenDigits(number))?;
-        assert!(rt; printed.as_str() == digits, "{number}");
-    }
-    for (number, digits) in [(0, b"0000"), (8, b"0010"), (2048, b"4000"), (4095, b"7777")] {
-        assert!(rt; octal4(number) == *digits, "{number}");
-    }
-    for (number, digits) in [
-        (0, b"000000"),
-        (7, b"000007"),
-        (42798, b"123456"),
-        (262143, b"777777"),
-    ] {
-        assert!(rt; octal6(number) == *digits, "{number}");
+        expect_same(&rt, &printed.as_str(), &digits);
+        expect_same(&rt, &decimal7(number).as_slice(), &digits.as_bytes());
     }
     Ok(())
+}
+
+#[test]
+fn octal_digits_are_printed(rt: HostRuntime) {
+    expect_same(&rt, &octal4(0), b"0000");
+    expect_same(&rt, &octal4(8), b"0010");
+    expect_same(&rt, &octal4(2048), b"4000");
+    expect_same(&rt, &octal4(4095), b"7777");
+    expect_same(&rt, &octal6(0), b"000000");
+    expect_same(&rt, &octal6(7), b"000007");
+    expect_same(&rt, &octal6(42798), b"123456");
+    expect_same(&rt, &octal6(262143), b"777777");
 }
 
 #[test]

@@ -1,7 +1,7 @@
 //! Rows that were worked out outside the crate, one table for each operation: by Python's whole numbers, with masks
 //! and sign bits for what is left of a number, shifts one place at a time, and quotients of sizes with their sign put back.
 
-use crate::common::cell;
+use crate::common::{cell, expect_same};
 use ags_word::{Long, Word};
 use std::process::Abort;
 
@@ -53,7 +53,11 @@ const SUMS: [(i32, i32, i32, bool); 12] = [
 #[test]
 fn sums(rt: HostRuntime) {
     for &(a, m, result, over) in &SUMS {
-        assert_eq!(rt; word(&rt, a).add(word(&rt, m)), (word(&rt, result), over));
+        expect_same(
+            &rt,
+            &word(&rt, a).add(word(&rt, m)),
+            &(word(&rt, result), over),
+        );
     }
 }
 
@@ -76,7 +80,11 @@ const DIFFERENCES: [(i32, i32, i32, bool); 12] = [
 #[test]
 fn differences(rt: HostRuntime) {
     for &(a, m, result, over) in &DIFFERENCES {
-        assert_eq!(rt; word(&rt, a).sub(word(&rt, m)), (word(&rt, result), over));
+        expect_same(
+            &rt,
+            &word(&rt, a).sub(word(&rt, m)),
+            &(word(&rt, result), over),
+        );
     }
 }
 
@@ -92,8 +100,8 @@ const NEGATIVES_AND_SIZES: [(i32, i32, i32, bool); 5] = [
 #[test]
 fn negatives_and_sizes(rt: HostRuntime) {
     for &(a, negative, size, over) in &NEGATIVES_AND_SIZES {
-        assert_eq!(rt; word(&rt, a).com(), (word(&rt, negative), over));
-        assert_eq!(rt; word(&rt, a).abs(), (word(&rt, size), over));
+        expect_same(&rt, &word(&rt, a).com(), &(word(&rt, negative), over));
+        expect_same(&rt, &word(&rt, a).abs(), &(word(&rt, size), over));
     }
 }
 
@@ -121,7 +129,7 @@ const LEFT_SHIFTS: [(i32, u32, i32, bool); 16] = [
 fn left_shifts(rt: HostRuntime) {
     for &(a, count, result, over) in &LEFT_SHIFTS {
         assert!(rt; count < 64);
-        assert_eq!(rt; word(&rt, a).als(count), (word(&rt, result), over));
+        expect_same(&rt, &word(&rt, a).als(count), &(word(&rt, result), over));
     }
 }
 
@@ -147,13 +155,15 @@ const PRODUCTS: [(i32, i32, u32, u32, u32, bool); 14] = [
 fn products(rt: HostRuntime) {
     for &(a, m, high, low, rounded, over) in &PRODUCTS {
         let q = cell(&rt, low);
-        assert_eq!(rt;
-            word(&rt, a).multiply(word(&rt, m)),
-            (cell(&rt, high), q, over)
+        expect_same(
+            &rt,
+            &word(&rt, a).multiply(word(&rt, m)),
+            &(cell(&rt, high), q, over),
         );
-        assert_eq!(rt;
-            word(&rt, a).multiply_round(word(&rt, m)),
-            (cell(&rt, rounded), q, over)
+        expect_same(
+            &rt,
+            &word(&rt, a).multiply_round(word(&rt, m)),
+            &(cell(&rt, rounded), q, over),
         );
     }
 }
@@ -181,7 +191,7 @@ fn long_right_shifts(rt: HostRuntime) {
     for &(a, q, count, high, low) in &LONG_RIGHT_SHIFTS {
         assert!(rt; count < 64);
         let shifted = Long::of(cell(&rt, a), cell(&rt, q)).lrs(count);
-        assert_eq!(rt; shifted.split(), (cell(&rt, high), cell(&rt, low)));
+        expect_same(&rt, &shifted.split(), &(cell(&rt, high), cell(&rt, low)));
     }
 }
 
@@ -211,8 +221,8 @@ fn long_left_shifts(rt: HostRuntime) {
     for &(a, q, count, high, low, over) in &LONG_LEFT_SHIFTS {
         assert!(rt; count < 64);
         let (shifted, overflowed) = Long::of(cell(&rt, a), cell(&rt, q)).lls(count);
-        assert_eq!(rt; shifted.split(), (cell(&rt, high), cell(&rt, low)));
-        assert_eq!(rt; overflowed, over);
+        expect_same(&rt, &shifted.split(), &(cell(&rt, high), cell(&rt, low)));
+        assert!(rt; overflowed == over);
     }
 }
 
@@ -246,18 +256,26 @@ const DIVISIONS: [(u32, u32, i32, Option<i32>); 22] = [
 fn divisions(rt: HostRuntime) {
     for &(a, q, m, quotient) in &DIVISIONS {
         let answer = Long::of(cell(&rt, a), cell(&rt, q)).divide(word(&rt, m));
-        assert_eq!(rt; answer.map(Word::value), quotient);
+        expect_same(&rt, &answer.map(Word::value), &quotient);
     }
+}
+
+/// A word's number has these six octal digits, which are read as that word.
+fn expect_digits(rt: &impl Abort, number: u32, digits: &[u8; 6]) {
+    let word = cell(rt, number);
+    expect_same(rt, &word.octal6(), digits);
+    expect_same(rt, &Word::read_octal(digits), &Some(word));
 }
 
 #[test]
 fn octal_digits(rt: HostRuntime) {
-    for (number, text) in [(0, b"000000"), (0o1750, b"001750"), (0o777777, b"777777")] {
-        assert!(rt; cell(&rt, number).octal6() == *text);
-        assert!(rt; Word::read_octal(text) == Some(cell(&rt, number)));
-    }
-    assert_eq!(rt; Word::read_octal(b"17"), Some(cell(&rt, 0o17)));
-    for text in [b"".as_slice(), b"0000000", b"8", b"-1", b" 1"] {
-        assert!(rt; Word::read_octal(text).is_none());
-    }
+    expect_digits(&rt, 0, b"000000");
+    expect_digits(&rt, 0o1750, b"001750");
+    expect_digits(&rt, 0o777777, b"777777");
+    expect_same(&rt, &Word::read_octal(b"17"), &Some(cell(&rt, 0o17)));
+    assert!(rt; Word::read_octal(b"").is_none());
+    assert!(rt; Word::read_octal(b"0000000").is_none());
+    assert!(rt; Word::read_octal(b"8").is_none());
+    assert!(rt; Word::read_octal(b"-1").is_none());
+    assert!(rt; Word::read_octal(b" 1").is_none());
 }
