@@ -27,6 +27,9 @@ const HELD: [(u16, bool, u32); 8] = [
     (0o7777, true, 0o404001),
 ];
 
+/// Locations of an image in which nothing was set.
+const EMPTY: [u16; 5] = [0o0000, 0o0001, 0o4000, 0o7776, 0o7777];
+
 /// Sets a location's word, which it then has.
 fn set(rt: &impl Abort, image: &mut Image, location: u16, word: Word) {
     assert!(rt; location < 4096);
@@ -47,8 +50,8 @@ fn expect_held(rt: &impl Abort, image: &Image, location: u16, held: bool, word: 
 #[test]
 fn locations(rt: HostRuntime) {
     let mut image = Image::new(rt.alloc()).expect(&rt, "memory for an image");
-    for location in [0o0000, 0o0001, 0o4000, 0o7776, 0o7777] {
-        expect_held(&rt, &image, location, false, Word::ZERO);
+    for location in &EMPTY {
+        expect_held(&rt, &image, *location, false, Word::ZERO);
     }
     for (location, number) in &SET {
         set(&rt, &mut image, *location, cell(&rt, *number));

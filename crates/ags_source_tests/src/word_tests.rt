@@ -23,15 +23,22 @@ const NUMBERS: [(u32, i32); 6] = [
 #[test]
 fn numbers_and_values(rt: HostRuntime) {
     for &(number, value) in &NUMBERS {
-        assert!(rt; cell(&rt, number).value() == value && word(&rt, value).number() == number);
+        expect_same(&rt, &cell(&rt, number).value(), &value);
+        expect_same(&rt, &word(&rt, value).number(), &number);
     }
-    assert!(rt; Word::ZERO.number() == 0);
-    for value in [-131_073, 131_072, i32::MIN, i32::MAX] {
-        assert!(rt; Word::from_value(value).is_none());
+    expect_same(&rt, &Word::ZERO.number(), &0);
+}
+
+/// Values that no word has.
+const NO_VALUES: [i32; 4] = [-131_073, 131_072, i32::MIN, i32::MAX];
+
+#[test]
+fn other_numbers_have_no_word(rt: HostRuntime) {
+    for value in &NO_VALUES {
+        assert!(rt; Word::from_value(*value).is_none());
     }
-    for number in [0o1000000, u32::MAX] {
-        assert!(rt; Word::of(number).is_none());
-    }
+    assert!(rt; Word::of(0o1000000).is_none());
+    assert!(rt; Word::of(u32::MAX).is_none());
 }
 
 /// A, the cell, what is left of their sum, and whether it overflows.
@@ -273,9 +280,14 @@ fn octal_digits(rt: HostRuntime) {
     expect_digits(&rt, 0o1750, b"001750");
     expect_digits(&rt, 0o777777, b"777777");
     expect_same(&rt, &Word::read_octal(b"17"), &Some(cell(&rt, 0o17)));
-    assert!(rt; Word::read_octal(b"").is_none());
-    assert!(rt; Word::read_octal(b"0000000").is_none());
-    assert!(rt; Word::read_octal(b"8").is_none());
-    assert!(rt; Word::read_octal(b"-1").is_none());
-    assert!(rt; Word::read_octal(b" 1").is_none());
+}
+
+/// Texts that are no octal digits of a word.
+const NO_DIGITS: [&[u8]; 5] = [b"", b"0000000", b"8", b"-1", b" 1"];
+
+#[test]
+fn other_texts_are_no_words(rt: HostRuntime) {
+    for text in &NO_DIGITS {
+        assert!(rt; Word::read_octal(*text).is_none());
+    }
 }
