@@ -1,13 +1,10 @@
 //! What no clause says: that each call succeeds where there is memory, how many bytes are asked for at once, and
 //! that a fault in mid-stream is answered as one.
 
-ghost use Rattle.std.specs.Prelude.{None};
 ghost use Rattle.ags_outside.specs.ToldFile.{Untold};
 
-use crate::common::{expect_same, shelf_of};
-use ags_outside::{
-    FetchError, Pull, PutDone, SendError, Shelf, Sink, SteadyShelf, SteadySink, fetch, send,
-};
+use crate::common::{FailingSink, expect_same, shelf_of};
+use ags_outside::{FetchError, Pull, SendError, Shelf, SteadyShelf, SteadySink, fetch, send};
 use std::alloc::Global;
 use std::process::Abort;
 
@@ -257,29 +254,6 @@ fn all_bytes_are_sent(rt: HostRuntime) {
     expect_all_sent(&rt, rt.alloc(), 11);
 }
 
-/// A sink that tells nothing, takes two bytes a put and fails at one of its puts.
-#[derive(Drop)]
-struct ShortSink {
-    fails_at: u64,
-    puts: u64,
-    faults: u64,
-}
-
-impl Sink for ShortSink {
-    ghost told = { λ _. None };
-
-    ghost faults = { λ sink. sink.faults };
-
-    fn put(&mut self, piece: &[u8]) -> PutDone {
-        self.puts = self.puts.saturating_add(1);
-        if self.puts == self.fails_at {
-            self.faults = self.faults.saturating_add(1);
-            return PutDone::Failed;
-        }
-        PutDone::Took(piece.len().min(2))
-    }
-}
-
 // No put is made for no bytes, and none behind a put that failed.
 /// Bytes, the put that fails, the answer, and how many puts are made.
 const PUTS: [(&[u8], u64, Result<(), SendError>, u64); 5] = [
@@ -298,11 +272,7 @@ fn expect_puts(
     wanted: Result<(), SendError>,
     puts: u64,
 ) {
-    let mut sink = ShortSink {
-        fails_at,
-        puts: 0,
-        faults: 0,
-    };
+    let mut sink = FailingSink::at(fails_at, 2);
     let told = send(&mut sink, bytes);
     expect_same(rt, &(fails_at, told, sink.puts), &(fails_at, wanted, puts));
 }

@@ -1,11 +1,9 @@
 //! Cross references of sources, worked out by hand from docs/SOURCE.md.
 
-ghost use Rattle.std.specs.Prelude.{None};
-
-use crate::common::expect_same;
+use crate::common::{FailingSink, expect_same};
 use ags_asm::assemble;
 use ags_isa::Codes;
-use ags_outside::{PutDone, Sink, SteadySink};
+use ags_outside::{Sink, SteadySink};
 use ags_xref::{XrefError, pairs_by_name_ascend, send_xref};
 use std::alloc::Global;
 use std::process::Abort;
@@ -28,29 +26,6 @@ N        -2047 0000005 0000006
 T         2048 0000002 0000002 0000003 0000005
 Z9        2114 0000009
 ";
-
-/// A sink that tells nothing, counts its puts, and fails at one of them alone.
-#[derive(Drop)]
-struct FailingSink {
-    at: u64,
-    puts: u64,
-    faults: u64,
-}
-
-impl Sink for FailingSink {
-    ghost told = { λ _. None };
-
-    ghost faults = { λ sink. sink.faults };
-
-    fn put(&mut self, piece: &[u8]) -> PutDone {
-        self.puts = self.puts.saturating_add(1);
-        if self.puts == self.at {
-            self.faults = self.faults.saturating_add(1);
-            return PutDone::Failed;
-        }
-        PutDone::Took(piece.len())
-    }
-}
 
 /// Sends the cross reference of a source that the standard codes assemble.
 fn send_source<K: Sink>(
@@ -96,11 +71,7 @@ fn references_are_sent(rt: HostRuntime) {
 
 /// Sends the cross reference of `NAMED` to a sink that fails at a put, and looks at the answer and at how many puts there were.
 fn expect_puts(rt: &impl Abort, alloc: Global, at: u64, wanted: Result<(), XrefError>, puts: u64) {
-    let mut out = FailingSink {
-        at,
-        puts: 0,
-        faults: 0,
-    };
+    let mut out = FailingSink::at(at, 100);
     let answer = send_source(rt, alloc, NAMED.as_bytes(), &mut out);
     expect_same(rt, &(answer, out.puts), &(wanted, puts));
 }
