@@ -126,6 +126,7 @@ impl<'a, R: Files> FileShelf<'a, R> {
         ensures held { result.held ≡ None }
         ensures faults { result.faults ≡ 0 }
         ensures absences { result.absences ≡ 0 }
+        ensures unread { result.unread ≡ None }
     {
         FileShelf {
             rt,
@@ -150,6 +151,7 @@ impl<'a, R: Files> FileShelf<'a, R> {
     /// Keeps the name of a file that couldn't be read.
     fn keep_unread(&mut self, name: &str, answer: Pull)
         ensures unread { answer ≡ Pull.Failed → IfSome self.new.unread (λ unread. string_bytes unread ≡ name.now) }
+        ensures unread_stays { answer ≢ Pull.Failed → self.new.unread ≡ self.old.unread }
         ensures faults { self.new.faults ≡ self.old.faults }
         ensures absences { self.new.absences ≡ self.old.absences }
         ensures held { self.new.held ≡ self.old.held }
@@ -169,6 +171,7 @@ impl<'a, R: Files> FileShelf<'a, R> {
         ensures bytes { ReadsOn R.File.remaining self.old.held self.new.held name.now from into.new (result_ok result) }
         ensures source { ReadsWhatStood R.File.remaining R.File.stream_position R.File.stream_bytes self.old.held self.new.held from into.new (result_ok result) }
         ensures closed { OnErr result (self.new.held ≡ None) }
+        ensures unread { self.new.unread ≡ self.old.unread }
     {
         let mut file = file_at(self.rt, self.alloc, self.held.take(), name, from)?;
         let count = read_more(&mut file, into)?;
@@ -183,6 +186,7 @@ impl<'a, R: Files> FileShelf<'a, R> {
         ensures faults_stay { self.old.faults ≤ self.new.faults }
         ensures absences_stay { self.old.absences ≤ self.new.absences }
         ensures held { self.new.held ≡ self.old.held }
+        ensures unread { self.new.unread ≡ self.old.unread }
     {
         match answer {
             Pull::Absent => self.absences = self.absences.saturating_add(1),
@@ -208,8 +212,9 @@ impl<R: Files> Shelf for FileShelf<'_, R> {
         ensures failed { result ≡ Pull.Failed → Rose self.old.faults self.new.faults }
         ensures faults { HasCause self.old.faults self.new.faults (is_failed_pull result) }
         ensures absences { HasCause self.old.absences self.new.absences (is_absent_pull result) }
-        // The name that is kept for a message is that of the file.
+        // The name that is kept for a message is that of the file that couldn't be read last.
         ensures unread { result ≡ Pull.Failed → IfSome self.new.unread (λ unread. string_bytes unread ≡ name.now) }
+        ensures unread_stays { result ≢ Pull.Failed → self.new.unread ≡ self.old.unread }
         // Bytes and an end are those of a file of that name, and what is known of it bears them out.
         ensures open { StaysOpen self.new.held name.now from (count_of result) }
         ensures end { IsAtItsEnd R.File.remaining self.new.held (count_of result) }
