@@ -24,7 +24,7 @@ use Rattle.ags_safe.specs.Certificate.{Certificate}
 use Rattle.ags_safe.specs.Accepted.{IsCaseAccepted, IsRowAccepted}
 use Rattle.ags_safe.specs.Failing.{Item, CellItem, StartItem, CodeItem, CaseItem, Fault, InitRange, StartUncovered, CodeUnknown, Stopped, NotCovered, Precedes, place_of_item, StandsAt, IsJudged, CaseFails, Fails, IsFirstFault, IsUncovered as IsToldPost}
 use Rattle.ags_safe.proofs.FaultLemmas.{accepted_none, one_first}
-use Rattle.ags_verdict.specs.RowCase.{RowCase, cases_in, case_in}
+use Rattle.ags_verdict.specs.RowCase.{RowCase, numbers_of, cases_in, case_in}
 use Rattle.ags_verdict.specs.Fault.{refusal_of, IsUncovered, IsFaultOfAnswer}
 use Rattle.ags_verdict.specs.Flat.{IsFirstCase, IsFirstInRow, IsFirstRow, IsFirstFailing}
 use Rattle.ags_verdict.specs.Verdict.{IsInitRefused, IsStartRefused, IsVerdict}
@@ -33,9 +33,9 @@ use Rattle.ags_verdict.specs.declared.verdicts.Refusal.{Refusal}
 use Rattle.ags_verdict.specs.declared.verdicts.Verdict.{Verdict}
 use Rattle.ags_verdict.specs.declared.verdicts.Verdict.TheVariants.{Certified, Refused}
 use Rattle.ags_verdict.proofs.CaseLemmas.{cases_each, each_cases}
+use Rattle.ags_verdict.proofs.TurnLemmas.{InTurn, StandsBefore, one_way, cases_in_turn, earlier_hold}
 use Rattle.ags_verdict.proofs.VerdictLemmas.{accepted_of, first_of}
 use Rattle.ags_answered.specs.Told.{refusal_of_fault}
-use Rattle.ags_answered.proofs.OrderLemmas.{InTurn, StandsBefore, numbers_of, one_way, cases_in_turn, earlier_hold}
 use Rattle.ags_answered.proofs.UnfailingLemmas.{one_row, accepted_or_fails, one_code, some_or_none, row_or_case}
 use Rattle.ags_answered.proofs.VerdictLemmas.{some_verdict}
 

@@ -13,6 +13,4 @@ pub mod FirstFaultLemmas
 mod RangeLemmas
 mod OperationLemmas
 mod ToldLemmas
-mod EachLemmas
-mod OrderLemmas
 mod UnfailingLemmas

@@ -30,8 +30,8 @@ use Rattle.ags_verdict.specs.declared.verdicts.Refusal.{Refusal}
 use Rattle.ags_verdict.specs.declared.verdicts.Refusal.TheVariants.{InitRange, StartUncovered}
 use Rattle.ags_verdict.specs.declared.verdicts.Verdict.{Verdict}
 use Rattle.ags_verdict.specs.declared.verdicts.Verdict.TheVariants.{Certified, Refused}
+use Rattle.ags_verdict.proofs.EachLemmas.{each_of}
 use Rattle.ags_verdict.proofs.CaseLemmas.{cases_each}
-use Rattle.ags_answered.proofs.EachLemmas.{each_of}
 use Rattle.ags_answered.proofs.PostsLemmas.{some_posts}
 use Rattle.ags_answered.proofs.CodeLemmas.{some_code}
 

@@ -33,7 +33,7 @@ not_taken None none = refl
 not_taken (Some number) none = absurd cc
 
 -- where the place is a card's, no earlier one owns it
-unowned_here : (S : List Entry) (before : List Card) (at : ℕ) (stands : Option ℕ) → taken S before stands ≡ None → stands ≡ Some at → owner S at before ≡ None
+pub unowned_here : (S : List Entry) (before : List Card) (at : ℕ) (stands : Option ℕ) → taken S before stands ≡ None → stands ≡ Some at → owner S at before ≡ None
 unowned_here S before at None none is = absurd cc
 unowned_here S before at (Some other) none is =
     let same : other ≡ at = cc in

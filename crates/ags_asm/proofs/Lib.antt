@@ -1,6 +1,9 @@
 pub mod ApartLemmas
 pub mod AssembleLemmas
 pub mod FillingLemmas
+pub mod LeastLemmas
 pub mod MakingLemmas
 pub mod MeaningLemmas
 pub mod MemoryLemmas
+pub mod OwnerLemmas
+pub mod WordFaultLemmas

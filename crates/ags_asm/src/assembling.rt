@@ -8,6 +8,7 @@ ghost use Rattle.ags_places.specs.Source.{IsPlaced};
 ghost use Rattle.ags_asm.specs.Making.{Stops};
 ghost use Rattle.ags_asm.specs.Word.{definitions, first_word_fault};
 ghost use Rattle.ags_asm.specs.Source.{AreSpans, Defines, IsAssembled, IsFaulty, IsInMemory, IsRefused, defined, placed_cards, placed_words};
+ghost use Rattle.ags_places.specs.Limit.{source_limit};
 
 use crate::filling::image_of;
 use crate::making::make_words;
@@ -36,7 +37,7 @@ fn word_cards(
     symbols: &Symbols,
     mut cards: Vec<Placed>,
 ) -> Result<Vec<Placed>, AssembleError>
-    requires limit { length bytes.now ≤ SOURCE_LIMIT }
+    requires limit { length bytes.now ≤ source_limit }
     requires placed { IsPlaced bytes.now cards.items symbols.now }
     requires within { All IsInMemory cards.items }
     ensures made { IfOk result (λ made. made.items ≡ placed_cards (card_lines bytes.now) (definitions codes.now symbols.now (cards_in (card_lines bytes.now)))) }
@@ -49,7 +50,7 @@ fn word_cards(
 
 /// The phases, one after the other, each on what the one before it made.
 fn run_phases(alloc: Global, bytes: &[u8], codes: &Codes) -> Result<Assembled, AssembleError>
-    requires { length bytes.now ≤ SOURCE_LIMIT }
+    requires { length bytes.now ≤ source_limit }
     ensures assembled { IfOk result (λ made. IsAssembled codes.now bytes.now made.cards.items made.symbols made.image) }
     ensures refused { IfErr result (IsRefused bytes.now) }
     ensures within { IfOk result (λ made. All IsInMemory made.cards.items) }
@@ -69,7 +70,7 @@ fn run_phases(alloc: Global, bytes: &[u8], codes: &Codes) -> Result<Assembled, A
 /// A fault of the phase of cards comes first, then one of places, then one of words, and in a phase the first card's.
 /// `NoMemory` may come at any source, and says nothing of it.
 pub fn assemble(alloc: Global, bytes: &[u8], codes: &Codes) -> Result<Assembled, AssembleError>
-    requires { length bytes.now ≤ SOURCE_LIMIT }
+    requires { length bytes.now ≤ source_limit }
     // It is a source without a fault, and these are its cards, whose places and words are those that it defines, the one list of
     // pairs that fits them, and the image of the words; or its first fault is this one.
     ensures assembled { IfOk result (λ made. IsAssembled codes.now bytes.now made.cards.items made.symbols made.image) }

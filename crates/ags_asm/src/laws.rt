@@ -1,13 +1,20 @@
 //! Laws of sources: what a text means, and what it defines. Behind each clause is a lemma of `proofs/`, which the crates
 //! above cite.
 
-ghost use Rattle.std.specs.Prelude.{◌≡◌, ◌⊎◌, ℕ, List, Option, length};
+ghost use Rattle.std.specs.Prelude.{◌≡◌, ◌⊎◌, ◌↔◌, ℕ, List, [], Option, Some, None, length, reverse};
 ghost use Rattle.std.specs.List.{Contains};
+ghost use Rattle.ags_text.specs.Fault.{first_fault};
 ghost use Rattle.ags_isa.specs.Code.{AreCodes};
+ghost use Rattle.ags_card.specs.declared.cards.Card.{Card};
 ghost use Rattle.ags_image.specs.Image.{PlacedWord, IsMemoryWord, EachPlaceOnce};
 ghost use Rattle.ags_places.specs.declared.source_error.SourceError.{SourceError};
+ghost use Rattle.ags_places.specs.declared.source_error.SourceKind.{SourceKind};
 ghost use Rattle.ags_places.specs.Deck.{card_lines};
+ghost use Rattle.ags_places.specs.Faulty.{kind_number};
+ghost use Rattle.ags_symbol.specs.Symbol.{Entry};
+ghost use Rattle.ags_asm.specs.Faulty.{IsFaultyCard, IsLeastFaulty, Phase, StandsBefore, StandsNearest, phase_of};
 ghost use Rattle.ags_asm.specs.Source.{Defines, IsFaulty, placed_words};
+ghost use Rattle.ags_asm.specs.Word.{owner, word_fault};
 
 /// A text means one thing by a table of codes: it defines one list of words, or it has one first fault, and never both.
 pub fn source_means_one_thing()
@@ -40,4 +47,24 @@ pub fn source_defines_words_of_the_memory()
 pub fn each_card_has_its_definition()
     ensures { (codes text : List ℕ) (defined : List (Option PlacedWord)) → Defines codes text defined
         → length defined ≡ length (card_lines text) }
+{}
+
+/// The fault that is told of a source is the least of all that its cards are faulty by: by the phase, then the card, then the number.
+/// Where the source is defined no card is faulty.
+pub fn least_fault_is_told()
+    ensures told { (text : List ℕ) (error : SourceError) → IsFaulty text error
+        → IsLeastFaulty text (phase_of error.kind) error.card error.kind }
+    ensures least { (text : List ℕ) (phase : Phase) (card : ℕ) (kind : SourceKind) → IsLeastFaulty text phase card kind
+        → (error : SourceError) × IsFaulty text error × (error.card ≡ card) × (kind_number error.kind ≡ kind_number kind) }
+    ensures none { (codes text : List ℕ) (defined : List (Option PlacedWord)) → Defines codes text defined
+        → (phase : Phase) (card : ℕ) (kind : SourceKind) → IsFaultyCard text phase card kind → ⊥ }
+{}
+
+/// The owner of a place is the nearest of the earlier cards whose word stands there, and there is none exactly where no earlier
+/// card's does. Of cards without a fault of the phase of words only one has its word at a place, so there it is that one.
+pub fn owner_is_the_nearest_earlier_card()
+    ensures some { (S : List Entry) (before : List Card) (number at : ℕ) → (owner S at before ≡ Some number) ↔ StandsNearest S before number at }
+    ensures none { (S : List Entry) (before : List Card) (at : ℕ) → (owner S at before ≡ None) ↔ ((number : ℕ) → StandsBefore S before number at → ⊥) }
+    ensures one { (S : List Entry) (cards : List Card) (at one other : ℕ) → first_fault (word_fault S) [] cards ≡ None
+        → StandsBefore S (reverse cards) one at → StandsBefore S (reverse cards) other at → one ≡ other }
 {}

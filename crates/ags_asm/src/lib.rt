@@ -12,6 +12,7 @@ mod words;
 pub use ags_places::{AssembleError, Placed, SOURCE_LIMIT, SourceError, SourceKind};
 pub use assembling::{Assembled, assemble};
 pub use laws::{
-    each_card_has_its_definition, each_text_has_a_meaning, source_defines_each_place_once,
+    each_card_has_its_definition, each_text_has_a_meaning, least_fault_is_told,
+    owner_is_the_nearest_earlier_card, source_defines_each_place_once,
     source_defines_words_of_the_memory, source_means_one_thing,
 };

@@ -8,19 +8,20 @@ ghost use Rattle.ags_places.specs.Source.{IsPlaced, IsInMemory};
 ghost use Rattle.ags_asm.specs.Making.{taken_by, Stops};
 ghost use Rattle.ags_asm.specs.Source.{placed_cards};
 ghost use Rattle.ags_asm.specs.Word.{definitions, first_word_fault, word_at, word_fault_at};
+ghost use Rattle.ags_places.specs.Limit.{source_limit};
 
 use crate::words::word_of_line;
 use ags_isa::Codes;
 use ags_places::{AssembleError, Placed, SOURCE_LIMIT, SourceKind};
 use ags_symbol::Symbols;
-use ags_word::Word;
+use ags_word::{LOCATIONS, Word};
 use std::alloc::{AllocError, Global};
 
 /// For each place of the memory 0, since no card's word stands there yet.
 fn no_owners(alloc: Global) -> Result<Vec<u32>, AllocError>
     ensures { IfOk result (λ owners. owners.items ≡ replicate 4096 0) }
 {
-    vec![in alloc; 0u32; 4096]
+    vec![in alloc; 0u32; LOCATIONS as usize]
 }
 
 /// The line of a card.
@@ -61,7 +62,7 @@ pub(crate) fn make_words(
     symbols: &Symbols,
     cards: &mut [Placed],
 ) -> Result<(), AssembleError>
-    requires limit { length bytes.now ≤ SOURCE_LIMIT }
+    requires limit { length bytes.now ≤ source_limit }
     requires placed { IsPlaced bytes.now cards.old symbols.now }
     requires within { All IsInMemory cards.old }
     ensures made { OnOk result (cards.new ≡ placed_cards (card_lines bytes.now) (definitions codes.now symbols.now (cards_in (card_lines bytes.now)))) }

@@ -11,7 +11,7 @@ use ags_card::{Body, Terms, read_card};
 use ags_isa::{Codes, encode};
 use ags_places::SourceKind;
 use ags_symbol::Symbols;
-use ags_word::Word;
+use ags_word::{LOCATIONS, Word};
 
 /// The address that an operand comes to.
 fn address_of(symbols: &Symbols, place: u16, terms: &Terms) -> Result<u16, SourceKind>
@@ -24,7 +24,7 @@ fn address_of(symbols: &Symbols, place: u16, terms: &Terms) -> Result<u16, Sourc
     let Some(value) = symbols.value_of(terms, place) else {
         return Err(SourceKind::Undefined);
     };
-    if value < 0 || value > 4095 {
+    if value < 0 || value >= i32::from(LOCATIONS) {
         return Err(SourceKind::AddressRange { value });
     }
     Ok(value as u16)

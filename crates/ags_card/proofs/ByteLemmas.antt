@@ -1,16 +1,15 @@
 -- Tests of the bytes of a text: of each, of the first, and of some byte; and the digits among them.
-use Rattle.std.proofs.Common.{◌≡◌, ℕ, ◌<◌, ◌⊎◌, ◌==◌, Bool, true, false, not, List, [], ◌∷◌, ◌++◌, length, refl, sym, ap, ◌∙◌, inl, inr, nat_eq, arith}
-use Rattle.std.specs.Prelude.{nat_lt, slice_index}
+use Rattle.std.proofs.Common.{◌≡◌, ℕ, ◌<◌, ◌≤◌, ◌⊎◌, ◌==◌, Bool, true, false, not, List, [], ◌∷◌, ◌++◌, length, refl, sym, ap, ◌∙◌, inl, inr, nat_eq, arith}
+use Rattle.std.specs.Prelude.{slice_index}
 use Rattle.std.specs.Char.{digit_value}
 use Rattle.std.specs.Cmp.Lexicographic.{pointwise, same_text}
 use Rattle.std.specs.List.{list_all}
 use Rattle.std.specs.Str.Parse.{AllDigits, starts_with_minus, without_leading_sign}
-use Rattle.std.proofs.lemmas.Bool.{cases_Bool, and_parts, and_from, lt-ltb, ltb-true, eqb-true, true≢false, false_from_ne_true}
+use Rattle.std.proofs.lemmas.Bool.{cases_Bool, and_parts, and_from, eqb-true, true≢false, false_from_ne_true}
 use Rattle.std.proofs.lemmas.Bool.Decides.{nat_tests}
 use Rattle.std.proofs.lemmas.List.Folds.{list_all-append}
 use Rattle.ags_decimal.specs.Spelling.{is_digit, IsSign}
 use Rattle.ags_card.specs.Spelling.{Holds}
-use Rattle.ags_card.proofs.NumberLemmas.{digits_pass}
 
 -- a text is empty or has some bytes
 pub list_cases : (text : List ℕ) → (text ≡ []) ⊎ (0 < length text)
@@ -76,17 +75,19 @@ fails_not_all p q fails text holds =
 -- ---- digits
 
 -- what has the value of a decimal digit is one
-pub decimal_digit : (b : ℕ) → nat_lt (digit_value b) 10 ≡ true → is_digit b ≡ true
+pub decimal_digit : (b : ℕ) → digit_value b < 10 → is_digit b ≡ true
 decimal_digit b is = grind (arith, nat_tests)
 
-pub octal_digit : (b : ℕ) → nat_lt (digit_value b) 8 ≡ true → is_digit b ≡ true
-octal_digit b is = decimal_digit b (lt-ltb (digit_value b) 10 (omega (arith, ltb-true (digit_value b) 8 is)))
+-- so what are digits of a base up to ten are such digits
+digit_bytes : (base : ℕ) (text : List ℕ) → base ≤ 10 → AllDigits base text → list_all is_digit text ≡ true
+digit_bytes base [] most digits = refl
+digit_bytes base (b ∷ text) most digits = and_from _ _ (decimal_digit b (omega (arith, digits.0, most))) (digit_bytes base text most digits.1)
 
 pub decimal_bytes : (text : List ℕ) → AllDigits 10 text → list_all is_digit text ≡ true
-decimal_bytes text digits = list_all-weaken (λ b. nat_lt (digit_value b) 10) is_digit decimal_digit text (digits_pass 10 text digits)
+decimal_bytes text digits = digit_bytes 10 text (omega arith) digits
 
 pub octal_bytes : (text : List ℕ) → AllDigits 8 text → list_all is_digit text ≡ true
-octal_bytes text digits = list_all-weaken (λ b. nat_lt (digit_value b) 8) is_digit octal_digit text (digits_pass 8 text digits)
+octal_bytes text digits = digit_bytes 8 text (omega arith) digits
 
 -- ---- the sign
 

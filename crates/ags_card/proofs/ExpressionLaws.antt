@@ -7,14 +7,15 @@ use Rattle.std.specs.Option.{option_map}
 use Rattle.std.specs.Str.Parse.{starts_with_minus, without_leading_sign}
 use Rattle.std.proofs.lemmas.Bool.{cases_Bool, and_parts, and_right, or_left, or_right, or_cases, eqb-true, true≢false}
 use Rattle.std.proofs.lemmas.List.{append-nil}
+use Rattle.ags_text.specs.Numeral.{number_of}
+use Rattle.ags_text.proofs.NumberLaws.{number_told, number_written}
 use Rattle.ags_decimal.specs.Spelling.{is_digit, IsSign}
 use Rattle.ags_card.specs.declared.terms.Atom.{Atom}
 use Rattle.ags_card.specs.declared.terms.Atom.TheVariants.{Number, Here, Symbol}
 use Rattle.ags_card.specs.declared.terms.Term.{Term}
 use Rattle.ags_card.specs.Symbol.{is_capital, is_symbol}
 use Rattle.ags_card.specs.Spelling.{IsAtom, sign_byte, IsSum, IsExpression}
-use Rattle.ags_card.specs.Reading.{number_of, atom_reading, is_sign, with_term, terms_reading, expression_reading}
-use Rattle.ags_card.proofs.NumberLemmas.{number_of-IsNumber, IsNumber-number_of}
+use Rattle.ags_card.specs.Reading.{atom_reading, is_sign, with_term, terms_reading, expression_reading}
 use Rattle.ags_card.proofs.SymbolLemmas.{is_symbol-IsSymbol, IsSymbol-is_symbol}
 use Rattle.ags_card.proofs.TermLemmas.{none_empty}
 use Rattle.ags_card.proofs.ByteLemmas.{list_all-join, list_all-weaken, first_by, not_byte, is_not, decimal_bytes, octal_bytes, sign_front, BeginsUnsigned, starts_with_minus-signed, without_leading_sign-signed}
@@ -36,7 +37,7 @@ atom_spelled text atom is =
     elim (cases_Bool (slice_index text 0 == 47)) [
       | inl slash ↦
           let found = mapped_number (number_of 8 6 (drop 1 text)) atom (rw slash at is) in
-          rw (found.2) (inl (drop 1 text, slash_first text slash, number_of-IsNumber 8 6 (drop 1 text) found.0 found.1))
+          rw (found.2) (inl (drop 1 text, slash_first text slash, number_told 8 6 (drop 1 text) found.0 found.1))
       | inr no_slash ↦ elim (cases_Bool (pointwise nat_eq text (42 ∷ []))) [
         | inl here ↦
             let value : Some Here ≡ Some atom = rw (no_slash, here) at is in
@@ -49,7 +50,7 @@ atom_spelled text atom is =
               rw same (refl, is_symbol-IsSymbol text symbol)
           | inr none ↦
               let found = mapped_number (number_of 10 6 text) atom (rw (no_slash, not_here, none) at is) in
-              rw (found.2) (inr (number_of-IsNumber 10 6 text found.0 found.1))
+              rw (found.2) (inr (number_told 10 6 text found.0 found.1))
         ]
       ]
     ]
@@ -65,11 +66,11 @@ digits_no_symbol text all = rw all (and_right (list_all is_symbol_byte text) fal
 
 pub atom_read : (text : List ℕ) (atom : Atom) → IsAtom text atom → atom_reading text ≡ Some atom
 unfolding atom_reading
-atom_read text (Number number) (inl octal) = rw (octal.1, IsNumber-number_of 8 6 octal.0 number octal.2) refl
+atom_read text (Number number) (inl octal) = rw (octal.1, number_written 8 6 octal.0 number octal.2) refl
 atom_read text (Number number) (inr decimal) =
     let bytes = decimal_bytes text decimal.digits.1 in
     let slash : (slice_index text 0 == 47) ≡ false = rw append-nil at (first_by is_digit 47 refl text [] decimal.digits.0 bytes) in
-    rw (slash, not_byte is_digit 42 refl text bytes, digits_no_symbol text bytes, IsNumber-number_of 10 6 text number decimal) refl
+    rw (slash, not_byte is_digit 42 refl text bytes, digits_no_symbol text bytes, number_written 10 6 text number decimal) refl
 atom_read text Here is = rw is refl
 atom_read text (Symbol name) is =
     let symbol = is.1 in

@@ -6,6 +6,7 @@ use Rattle.std.proofs.Common.{◌≡◌, ℕ, ◌+◌, ◌*◌, ◌^◌, ◌<◌
 use Rattle.std.specs.Prelude.{All, IfSome, IsSome, Ok, neg_ℤ, pos}
 use Rattle.std.proofs.lemmas.List.{length-append}
 use Rattle.std.proofs.lemmas.List.Elements.{All-nil, All-cons}
+use Rattle.ags_text.proofs.NumberLaws.{number_below}
 use Rattle.ags_word.proofs.WordLaws.{wrap_below}
 use Rattle.ags_isa.specs.declared.orders.Order.{Order}
 use Rattle.ags_card.specs.declared.cards.Card.{Card}
@@ -22,7 +23,7 @@ use Rattle.ags_card.specs.Term.{HasSmallNumber, AreTerms, zero_terms}
 use Rattle.ags_card.specs.Limit.{KeepsLimits}
 use Rattle.ags_card.specs.Spelling.{IsAtom, sign_byte, IsSum, IsExpression, index_mark, signed_word, IsOctalOperand, IsOrder, IsWritten, FitsSymbol, WritesCard}
 use Rattle.ags_card.specs.Reading.{operand_field, reading}
-use Rattle.ags_card.proofs.NumberLemmas.{number_below, small_decimal}
+use Rattle.ags_card.proofs.NumberLemmas.{small_decimal}
 use Rattle.ags_card.proofs.TermLemmas.{operand_short}
 use Rattle.ags_card.proofs.ExpressionLaws.{atom_some}
 use Rattle.ags_card.proofs.FieldLemmas.{fields_read}

@@ -7,14 +7,15 @@ use Rattle.std.proofs.lemmas.Bool.{cases_Bool, and_parts, and_from, lt-ltb, ltb-
 use Rattle.std.proofs.lemmas.Grind.{common_steps}
 use Rattle.std.proofs.lemmas.List.{append-nil, length-append, take_all, take_at, take_more}
 use Rattle.std.proofs.lemmas.List.Folds.{list_all-append}
+use Rattle.ags_text.specs.Numeral.{number_of}
+use Rattle.ags_text.proofs.NumberLaws.{number_told, number_written}
 use Rattle.ags_decimal.specs.Decimal.{Parts}
 use Rattle.ags_decimal.specs.Reading.{reading, reading_before_scale, front_at, rest_at, marked_reading, digits_of, behind_sign}
 use Rattle.ags_decimal.specs.Spelling.{is_digit, are_digits, IsSign, IsMarked, IsPointed, Spells}
 use Rattle.ags_decimal.proofs.SpellingLaws.{reading-spells, spelled-reading}
 use Rattle.ags_card.specs.declared.terms.Term.{Term}
 use Rattle.ags_card.specs.Spelling.{IsExpression, IsOrderOperand, signed_word, IsOctalOperand}
-use Rattle.ags_card.specs.Reading.{number_of, expression_reading, is_indexed, without_index, order_terms, plain_terms, decimal_operand, octal_reading, octal_operand}
-use Rattle.ags_card.proofs.NumberLemmas.{number_of-IsNumber, IsNumber-number_of}
+use Rattle.ags_card.specs.Reading.{expression_reading, is_indexed, without_index, order_terms, plain_terms, decimal_operand, octal_reading, octal_operand}
 use Rattle.ags_card.proofs.ByteLemmas.{list_all-join, list_all-weaken, first_by, is_not, octal_bytes, sign_front, BeginsUnsigned, starts_with_minus-signed, without_leading_sign-signed}
 use Rattle.ags_card.proofs.ExpressionLaws.{expression_spelled, expression_read, expression_no_comma, expression_some}
 use Rattle.ags_card.proofs.ResultLemmas.{checked_ok, ok_or_ok, option_map_some}
@@ -183,7 +184,7 @@ octal_spells text word is =
       number = found.x;
       whole = sign.whole;
       is_sign = sign.is_sign;
-      is_octal = number_of-IsNumber 8 6 (without_leading_sign text) found.x found.found_is;
+      is_octal = number_told 8 6 (without_leading_sign text) found.x found.found_is;
       word_is = found.made;
     }
 
@@ -196,7 +197,7 @@ octal_found text word is =
     let unsigned : BeginsUnsigned is.digits = record { minus = minus_not; plus = plus_not } in
     let minus = starts_with_minus-signed is.negative is.sign is.digits is.is_sign unsigned in
     let behind = without_leading_sign-signed is.negative is.sign is.digits is.is_sign unsigned in
-    rw (is.whole, behind, minus, IsNumber-number_of 8 6 is.digits is.number is.is_octal) (ap Some (sym is.word_is))
+    rw (is.whole, behind, minus, number_written 8 6 is.digits is.number is.is_octal) (ap Some (sym is.word_is))
 
 octal_no_comma : (text : List ℕ) (word : ℕ) → IsOctalOperand text word → list_all is_no_comma text ≡ true
 octal_no_comma text word is =

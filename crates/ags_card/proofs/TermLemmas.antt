@@ -8,10 +8,11 @@ use Rattle.std.proofs.lemmas.List.Sums.{prefix_len-le-length}
 use Rattle.std.proofs.lemmas.List.{append-nil, take_all, take-append-drop, length-append}
 use Rattle.std.proofs.lemmas.Bool.Decides.{nat_tests}
 use Rattle.ags_text.specs.Field.{is_blank, leading_field, behind_leading_field, behind_blanks, next_field, behind_field}
+use Rattle.ags_text.specs.Numeral.{number_of}
 use Rattle.ags_card.specs.declared.terms.Atom.{Atom}
 use Rattle.ags_card.specs.declared.terms.Term.{Term}
 use Rattle.ags_card.specs.Symbol.{is_symbol}
-use Rattle.ags_card.specs.Reading.{number_of, atom_reading, is_sign, with_term, terms_reading, is_indexed, without_index, operand_field}
+use Rattle.ags_card.specs.Reading.{atom_reading, is_sign, with_term, terms_reading, is_indexed, without_index, operand_field}
 
 -- the first place that passes, or the length
 pub position_or_len_is : (p : ℕ → Bool) (text : List ℕ) → unwrap_or (position p text) (length text) ≡ position_or_len p text

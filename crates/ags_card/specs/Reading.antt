@@ -1,12 +1,12 @@
 -- What a line is read as: its card, or the first fault that a reader meets from left to right. It looks at the fields
 -- that are cut from the line.
-use Rattle.std.specs.Prelude.{ℕ, ◌-◌, ◌+◌, Bool, false, not, ◌&&◌, ◌||◌, ◌==◌, nat_lt, nat_eq, List, [], ◌∷◌, ◌++◌, length, take, drop, slice_index, Option, Some, None, Result, Ok, Err, if◌then◌else◌, codes}
+use Rattle.std.specs.Prelude.{ℕ, ◌-◌, Bool, false, not, ◌&&◌, ◌||◌, ◌==◌, nat_lt, nat_eq, List, [], ◌∷◌, ◌++◌, length, take, drop, slice_index, Option, Some, None, Result, Ok, Err, if◌then◌else◌, codes}
 use Rattle.std.specs.Option.{option_map, ok_or}
-use Rattle.std.specs.Char.{digit_value}
 use Rattle.std.specs.Cmp.Lexicographic.{pointwise}
 use Rattle.std.specs.List.{list_all}
-use Rattle.std.specs.Str.Parse.{digits_value, starts_with_minus, without_leading_sign}
+use Rattle.std.specs.Str.Parse.{starts_with_minus, without_leading_sign}
 use Rattle.ags_text.specs.Field.{is_blank, leading_field, behind_leading_field, next_field, behind_field}
+use Rattle.ags_text.specs.Numeral.{number_of}
 use Rattle.ags_decimal.specs.Decimal.{Parts}
 use Rattle.ags_decimal.specs.Reading as decimal
 use Rattle.ags_card.specs.declared.cards.Card.{Card}
@@ -24,11 +24,7 @@ use Rattle.ags_card.specs.Symbol.{is_symbol}
 use Rattle.ags_card.specs.Spelling.{is_allowed, signed_word, comment_card}
 use Rattle.ags_card.specs.Term.{zero_terms}
 
--- ---- numbers and expressions
-
--- the number that one digit of a base or more write, `most` of them at most
-unfoldable pub number_of : (base most : ℕ) → List ℕ → Option ℕ
-number_of base most text = if list_all (λ b. nat_lt (digit_value b) base) text && (nat_lt 0 (length text) && nat_lt (length text) (most + 1)) then Some (digits_value base text) else None
+-- ---- expressions
 
 -- what a text stands for as a term without its sign
 unfoldable pub atom_reading : List ℕ → Option Atom

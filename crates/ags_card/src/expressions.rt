@@ -3,23 +3,17 @@
 ghost use Rattle.std.specs.Prelude.{◌≡◌, [], ◌+◌, ◌*◌, ◌^◌, ◌<◌, ◌≤◌, ◌==◌, length, position, IfSome, Some};
 ghost use Rattle.std.specs.List.{position_or_len};
 ghost use Rattle.std.specs.Str.Parse.{starts_with_minus, without_leading_sign};
-ghost use Rattle.ags_card.specs.Reading.{number_of, atom_reading, is_sign, terms_reading, expression_reading};
+ghost use Rattle.ags_text.specs.Numeral.{number_of};
+ghost use Rattle.ags_card.specs.Reading.{atom_reading, is_sign, terms_reading, expression_reading};
 ghost use Rattle.ags_card.specs.Term.{HasSmallNumber};
 
 use crate::names::Name;
-use crate::terms::{Atom, Term, Terms};
+use crate::terms::{Atom, MOST_TERMS, Term, Terms};
+use ags_text::read_octal;
 use arrayvec::ArrayVec;
 
 /// The most decimal digits of a number.
 const MOST_DIGITS: usize = 6;
-
-/// The number that one to six octal digits write.
-pub(crate) fn read_octal(text: &[u8]) -> Option<u32>
-    ensures same { result ≡ number_of 8 6 text.now }
-    ensures below { IfSome result (λ number. number < 2 ^ 18) }
-{
-    ags_text::read_octal(text)
-}
 
 /// The number that one to six decimal digits write.
 fn read_decimal(text: &[u8]) -> Option<u32>
@@ -94,7 +88,7 @@ fn read_terms(minus: bool, text: &[u8]) -> Option<Terms>
     requires { length text.now ≤ 120 }
     ensures { result ≡ terms_reading minus [] text.now }
 {
-    let mut terms: ArrayVec<Term, 64> = ArrayVec::new();
+    let mut terms: ArrayVec<Term, MOST_TERMS> = ArrayVec::new();
     let mut minus = minus;
     let mut rest = text;
     loop {

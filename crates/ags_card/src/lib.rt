@@ -20,4 +20,4 @@ pub use reading::read_card;
 pub use reading_laws::{
     cards_keep_to_their_form, each_line_is_a_card_or_has_a_fault, lines_spell_what_is_read,
 };
-pub use terms::{Atom, Term, Terms};
+pub use terms::{Atom, MOST_TERMS, Term, Terms};

@@ -5,9 +5,10 @@ ghost use Rattle.std.specs.List.{list_all};
 ghost use Rattle.ags_card.specs.Reading.{is_indexed, without_index, order_terms, plain_terms, decimal_operand, octal_reading, octal_operand};
 
 use crate::cards::CardFault;
-use crate::expressions::{begins_with_minus, behind_sign, read_expression, read_octal};
+use crate::expressions::{begins_with_minus, behind_sign, read_expression};
 use crate::terms::Terms;
 use ags_decimal::Decimal;
+use ags_text::read_octal;
 use ags_word::Word;
 
 /// Whether no comma stands in a text.

@@ -28,10 +28,13 @@ pub struct Term {
     pub atom: Atom,
 }
 
+/// How many terms an expression has at most.
+pub const MOST_TERMS: usize = 64;
+
 /// The terms of an expression, which stands for their sum: 1 to 64, each number among them at most 999,999.
 #[derive(Drop)]
 pub struct Terms {
-    items: ArrayVec<Term, 64>,
+    items: ArrayVec<Term, MOST_TERMS>,
 }
 
 impl Model for Terms {
@@ -56,7 +59,7 @@ impl Terms {
     }
 
     /// The terms of a list that has some, and not too many.
-    pub(crate) fn of(items: ArrayVec<Term, 64>) -> Terms
+    pub(crate) fn of(items: ArrayVec<Term, MOST_TERMS>) -> Terms
         requires { AreTerms items.items }
         ensures { result ≡ items.items }
     {
@@ -67,7 +70,7 @@ impl Terms {
     pub(crate) fn zero() -> Terms
         ensures { result ≡ zero_terms }
     {
-        let mut items: ArrayVec<Term, 64> = ArrayVec::new();
+        let mut items: ArrayVec<Term, MOST_TERMS> = ArrayVec::new();
         items.push(Term {
             minus: false,
             atom: Atom::Number(0),

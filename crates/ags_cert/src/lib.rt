@@ -1,10 +1,10 @@
-//! Certificates: what a person states of a program, so that it can be checked one order at a time
-//! (docs/CERTIFICATE.md). A `Cert` is valid by its type: what is stated of a cell is within the cell's limit, and there
-//! are neither too many rows nor too many at one location. It stands on `ags_row` for rows and limits, and on
-//! `ags_safe` for what a certificate promises. The readers take no memory.
+//! Certificates under one path (docs/CERTIFICATE.md): `Cert`, its reader `read`, its writer `send_cert`, and what a text that
+//! is none is told as. The work stands in four crates below, so that each is proved beside the others: `ags_certtype` has
+//! the type, `ags_certtext` what a line states, `ags_certread` the reader and `ags_certsend` the writer. Here nothing is
+//! added, and the definitions that their contracts cite are handed on in `specs/`.
 #![tactic(auto)]
 
-mod certs;
-mod checks;
-
-pub use certs::{Cert, CertParts};
+pub use ags_certread::{CERT_LIMIT, read, read_certificates_suit, text_has_one_meaning};
+pub use ags_certsend::{send_cert, sent_certificate_reads_back, sent_lines_are_read};
+pub use ags_certtext::{CertError, CertKind};
+pub use ags_certtype::{Cert, CertParts, MOST_ROWS, MOST_ROWS_AT_ONE};

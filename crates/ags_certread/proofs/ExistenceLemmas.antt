@@ -15,7 +15,7 @@ use Rattle.ags_domain.specs.declared.values.Value.TheVariants.{Range as ByEnds}
 use Rattle.ags_ports.specs.Port.{Registers}
 use Rattle.ags_row.specs.Limit.{Limiting, cell_limit, input_limit, output_limit, is_named}
 use Rattle.ags_row.specs.declared.rows.Row.{Row as Row_of}
-use Rattle.ags_cert.specs.Cert.{Stated as Cert_stated}
+use Rattle.ags_certtype.specs.Cert.{Stated as Cert_stated}
 use Rattle.ags_certtext.specs.declared.cert_error.CertKind.{CertKind}
 use Rattle.ags_certtext.specs.declared.cert_error.CertKind.TheVariants.{BadLine}
 use Rattle.ags_certtext.specs.declared.cert_error.CertError.TheVariants.{At as AtLine}

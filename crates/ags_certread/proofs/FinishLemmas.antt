@@ -12,7 +12,7 @@ use Rattle.ags_row.specs.Cell.{cells_ascend, value_among}
 use Rattle.ags_row.specs.Limit.{Limiting, cell_limit, input_limit, output_limit}
 use Rattle.ags_row.specs.declared.ats.At.{At as Cell_at}
 use Rattle.ags_row.specs.declared.rows.Row.{Row as Row_of}
-use Rattle.ags_cert.specs.Cert.{Stated, IsCert, rows_at}
+use Rattle.ags_certtype.specs.Cert.{Stated, IsCert, rows_at}
 use Rattle.ags_certtext.specs.declared.statements.Entry.{Entry}
 use Rattle.ags_certtext.specs.declared.statements.RowLine.{RowLine}
 use Rattle.ags_certtext.specs.declared.statements.Statement.{Statement}
@@ -102,6 +102,7 @@ cell_within g limits row are inside k d within =
 pub cert_made : (g : Gathering) (limits : Limiting Value) → IsFinished g → AreLimitsOf g limits
     → IsCert (record { start = g.start; limits = limits; init = g.init; rows = g.rows })
 cert_made g limits is are = record {
+  limits = record { tables = are.tables; every = are.every };
   entries = is.sized.init;
   certificate = record {
     start = is.start;

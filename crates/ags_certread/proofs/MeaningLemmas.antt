@@ -3,7 +3,7 @@ use Rattle.std.proofs.Common.{◌≡◌, ℕ, refl, sym, ap, ◌∙◌, List, []
 use Rattle.ags_text.specs.Fault.{first_fault}
 use Rattle.ags_text.specs.Line.{LineAt, lines_of}
 use Rattle.ags_ports.specs.Port.{Registers}
-use Rattle.ags_cert.specs.Cert.{Stated as Cert_stated}
+use Rattle.ags_certtype.specs.Cert.{Stated as Cert_stated}
 use Rattle.ags_certtext.specs.declared.cert_error.CertKind.{CertKind}
 use Rattle.ags_certtext.specs.Fault.{reading_fault}
 use Rattle.ags_certtext.specs.Reading.{Reading, Ended, IsReading, AreLineReadings}

@@ -7,7 +7,7 @@ use Rattle.ags_text.specs.Fault.{first_fault, first_fault-nil, first_fault-fault
 use Rattle.ags_text.specs.Line.{LineAt, Follow, lines_of}
 use Rattle.ags_text.specs.Reading.{AreReadingsBy}
 use Rattle.ags_ports.specs.Port.{Registers}
-use Rattle.ags_cert.specs.Cert.{Stated as Cert_stated}
+use Rattle.ags_certtype.specs.Cert.{Stated as Cert_stated}
 use Rattle.ags_certtext.specs.declared.cert_error.CertKind.{CertKind}
 use Rattle.ags_certtext.specs.declared.cert_error.CertKind.TheVariants.{BadLine}
 use Rattle.ags_certtext.specs.declared.cert_error.CertError.{CertError}

@@ -11,7 +11,7 @@ use Rattle.ags_ports.specs.Port.{Registers}
 use Rattle.ags_row.specs.Cell.{value_among}
 use Rattle.ags_row.specs.declared.ats.At.{At as Cell_at}
 use Rattle.ags_row.specs.declared.rows.Row.{Row as Row_of}
-use Rattle.ags_cert.specs.Cert.{rows_at}
+use Rattle.ags_certtype.specs.Cert.{rows_at}
 use Rattle.ags_certtext.specs.declared.statements.Entry.{Entry}
 use Rattle.ags_certtext.specs.declared.statements.RowLine.{RowLine}
 use Rattle.ags_certtext.specs.declared.statements.Statement.{Statement}

@@ -14,7 +14,7 @@ use Rattle.ags_ports.specs.declared.machines.Machine.{Machine}
 use Rattle.ags_ports.specs.declared.registers.Port.{Port}
 use Rattle.ags_row.specs.Limit.{Limiting, AreLimits, input_limit, output_limit}
 use Rattle.ags_safe.specs.Certificate.{Suits}
-use Rattle.ags_cert.specs.Cert.{Stated as Cert_stated, certificate_of}
+use Rattle.ags_certtype.specs.Cert.{Stated as Cert_stated, certificate_of}
 use Rattle.ags_certtext.specs.declared.cert_error.CertKind.{CertKind}
 use Rattle.ags_certtext.specs.declared.cert_error.CertKind.TheVariants.{BadLine, Twice}
 use Rattle.ags_certtext.specs.declared.statements.Entry.{Entry}

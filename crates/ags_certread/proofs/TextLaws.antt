@@ -8,7 +8,7 @@ use Rattle.std.proofs.Common.{◌≡◌, ℕ, ◌⊎◌, List, [], ◌∷◌, Re
 use Rattle.std.specs.Prelude.{IfErr}
 use Rattle.ags_text.specs.Line.{LineAt, lines_of}
 use Rattle.ags_ports.specs.Port.{Registers}
-use Rattle.ags_cert.specs.Cert.{Stated as Cert_stated}
+use Rattle.ags_certtype.specs.Cert.{Stated as Cert_stated}
 use Rattle.ags_certtext.specs.declared.cert_error.CertKind.{CertKind}
 use Rattle.ags_certtext.specs.declared.cert_error.CertError.{CertError}
 use Rattle.ags_certtext.specs.Text.{IsCertOf, IsFaultyCert, IsRefused}

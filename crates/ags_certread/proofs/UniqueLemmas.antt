@@ -18,7 +18,7 @@ use Rattle.ags_row.specs.Flag.{some_flag}
 use Rattle.ags_row.specs.Limit.{Limiting, cell_limit, input_limit, output_limit, is_named}
 use Rattle.ags_row.specs.declared.ats.At.{At as Cell_at}
 use Rattle.ags_row.specs.declared.rows.Row.{Row as Row_of}
-use Rattle.ags_cert.specs.Cert.{Stated as Cert_stated}
+use Rattle.ags_certtype.specs.Cert.{Stated as Cert_stated}
 use Rattle.ags_certtext.specs.declared.statements.Statement.{Statement}
 use Rattle.ags_certtext.specs.Reading.{Reading, statement_of}
 use Rattle.ags_certtext.specs.Text.{IsLimit, LimitsAreStated, RowOfLines, IsRowOfLines, AreRowsOf, rows_of, IsWhatIsStated, IsCertOf}

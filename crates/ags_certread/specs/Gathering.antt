@@ -10,8 +10,8 @@ use Rattle.ags_row.specs.Cell.{cells_ascend, value_among}
 use Rattle.ags_row.specs.Limit.{Limiting, AreLimits, cell_limit, input_limit, output_limit, is_named}
 use Rattle.ags_row.specs.declared.ats.At.{At as Cell_at}
 use Rattle.ags_row.specs.declared.rows.Row.{Row as Row_of}
-use Rattle.ags_cert.specs.Cert.{Stated, IsCert, rows_at}
-use Rattle.ags_cert.specs.declared.certs.TheConstants.{MOST_ROWS, MOST_ROWS_AT_ONE}
+use Rattle.ags_certtype.specs.Cert.{Stated, IsCert, rows_at}
+use Rattle.ags_certtype.specs.Limit.{most_rows, most_rows_at_one}
 use Rattle.ags_certtext.specs.declared.cert_error.CertKind.{CertKind}
 use Rattle.ags_certtext.specs.declared.cert_error.CertKind.TheVariants.{BadLine, Twice, EmptyRange, OutsideGlobal, NoZero, TooManyRows, TooManyAt, NoRows}
 use Rattle.ags_certtext.specs.declared.statements.Entry.{Entry}
@@ -125,7 +125,7 @@ place_fault g location = fault_if (get_or g.places location false) Twice None
 
 abbrev pub row_fault : Gathering → RowLine → Option CertKind
 row_fault g row = fault_if (is_empty row.a || is_empty row.q) EmptyRange
-    (fault_if (nat_le MOST_ROWS (row_count g) || nat_le MOST_ROWS_AT_ONE (get_or g.counts row.location 0)) TooManyRows None)
+    (fault_if (nat_le most_rows (row_count g) || nat_le most_rows_at_one (get_or g.counts row.location 0)) TooManyRows None)
 
 abbrev pub at_fault : Gathering → Entry → Option CertKind
 at_fault g entry = entry_fault (is_fixed entry.address) (has_cell g.row_cells entry.address) entry.value

@@ -1,3 +1,5 @@
+-- what the public contracts cite
+pub mod Length
 -- what serves inside
 pub mod Gathering
 pub mod LimitTable

@@ -5,7 +5,7 @@ ghost use Rattle.ags_certread.specs.Gathering.{IsCertOfGathering, IsFinished, ga
 
 use crate::gatherer::Gatherer;
 use crate::limits::limits_of;
-use ags_cert::{Cert, CertParts};
+use ags_certtype::{Cert, CertParts};
 use std::alloc::{AllocError, Global};
 
 /// The certificate of what is gathered. The one error is want of memory.

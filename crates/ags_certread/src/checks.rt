@@ -8,10 +8,7 @@ use ags_certtext::{CertKind, Entry};
 use ags_domain::{Domain, Value};
 use ags_ports::Port;
 use ags_row::At;
-use ags_word::Word;
-
-/// How many erasable cells there are: the cells from this address on are fixed.
-pub(crate) const ERASABLE: u16 = 2048;
+use ags_word::{ERASABLE, Word};
 
 /// A fault where one is found, and else what is found later.
 pub(crate) fn fault_if(found: bool, kind: CertKind, later: Option<CertKind>) -> Option<CertKind>

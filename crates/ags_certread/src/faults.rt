@@ -11,16 +11,9 @@ use crate::checks::{
 use crate::gatherer::Gatherer;
 use crate::order::{is_second_start, stands_in_order};
 use ags_certtext::{CertKind, Entry, RowLine, Statement};
+use ags_certtype::{MOST_ROWS, MOST_ROWS_AT_ONE};
 use ags_ports::Ports;
-
-/// The most rows of a certificate.
-const MOST_ROWS: usize = 20_000;
-
-/// The most rows at one location.
-const MOST_ROWS_AT_ONE: u16 = 512;
-
-/// The most cells of a row.
-const MOST_CELLS: usize = 64;
+use ags_row::MOST_CELLS;
 
 impl Gatherer {
     /// How many rows there are, the open one with them.

@@ -11,17 +11,9 @@ use ags_certtext::{CertKind, Entry, RowLine, Statement};
 use ags_domain::Value;
 use ags_ports::Ports;
 use ags_row::{At, Row};
+use ags_word::{ERASABLE, LOCATIONS};
 use std::alloc::{AllocError, Global};
 use std::mem;
-
-/// How many erasable cells there are.
-const ERASABLE: usize = 2048;
-
-/// How many addresses, and how many locations, there are.
-const ADDRESSES: usize = 4096;
-
-/// Where a run starts if nothing is stated: 4000 octal.
-const FIRST_FIXED: u16 = 2048;
 
 /// What is gathered of the statements so far.
 #[derive(Drop)]
@@ -61,14 +53,14 @@ fn nothing(alloc: Global, count: usize) -> Result<Vec<Option<Value>>, AllocError
 fn no_places(alloc: Global) -> Result<Vec<bool>, AllocError>
     ensures { IfOk result (λ places. places.items ≡ replicate 4096 false) }
 {
-    Ok(vec![in alloc; false; ADDRESSES]?)
+    Ok(vec![in alloc; false; LOCATIONS as usize]?)
 }
 
 /// A count of 0 for each location.
 fn zeros(alloc: Global) -> Result<Vec<u16>, AllocError>
     ensures { IfOk result (λ counts. counts.items ≡ replicate 4096 0) }
 {
-    Ok(vec![in alloc; 0; ADDRESSES]?)
+    Ok(vec![in alloc; 0; LOCATIONS as usize]?)
 }
 
 /// Sets what is stated at an entry's address.
@@ -86,11 +78,11 @@ impl Gatherer {
     {
         Ok(Gatherer {
             last: NO_KIND,
-            start: FIRST_FIXED,
-            cells: nothing(alloc, ERASABLE)?,
-            init: nothing(alloc, ERASABLE)?,
-            inputs: nothing(alloc, ADDRESSES)?,
-            outputs: nothing(alloc, ADDRESSES)?,
+            start: ERASABLE,
+            cells: nothing(alloc, ERASABLE as usize)?,
+            init: nothing(alloc, ERASABLE as usize)?,
+            inputs: nothing(alloc, LOCATIONS as usize)?,
+            outputs: nothing(alloc, LOCATIONS as usize)?,
             places: no_places(alloc)?,
             rows: Vec::new(alloc),
             counts: zeros(alloc)?,

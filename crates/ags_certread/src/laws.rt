@@ -6,7 +6,7 @@ ghost use Rattle.ags_domain.specs.Value.{value_meaning};
 ghost use Rattle.ags_ports.specs.Port.{Registers};
 ghost use Rattle.ags_ports.specs.declared.machines.Machine.{Machine};
 ghost use Rattle.ags_safe.specs.Certificate.{Suits};
-ghost use Rattle.ags_cert.specs.Cert.{Stated, certificate_of};
+ghost use Rattle.ags_certtype.specs.Cert.{Stated, certificate_of};
 ghost use Rattle.ags_certtext.specs.declared.cert_error.CertKind.{CertKind};
 ghost use Rattle.ags_certtext.specs.Text.{IsCertOf, IsFaultyCert};
 

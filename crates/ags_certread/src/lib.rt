@@ -1,6 +1,6 @@
 //! The reader of certificates: from a certificate's text to the certificate that it states for a machine's registers,
 //! or to its first fault (docs/CERTIFICATE.md). It stands on `ags_certtext` for what a line says and for the
-//! definitions, on `ags_text` for the lines of a text, and on `ags_cert` for certificates. `read` answers exactly what
+//! definitions, on `ags_text` for the lines of a text, and on `ags_certtype` for certificates. `read` answers exactly what
 //! the definitions say, but for want of memory.
 #![tactic(auto)]
 

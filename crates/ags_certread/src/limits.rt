@@ -5,14 +5,11 @@ ghost use Rattle.ags_row.specs.Limit.{SetsOne};
 ghost use Rattle.ags_certread.specs.Gathering.{AreLimitsOf, IsNamedUpTo, IsSetUpTo, IsSized, gathering_of};
 ghost use Rattle.ags_certread.specs.LimitTable.{KeepsOthers, address_count, limit_in};
 
-use crate::checks::ERASABLE;
 use crate::gatherer::Gatherer;
 use ags_domain::Value;
 use ags_row::Limits;
+use ags_word::{ERASABLE, LOCATIONS};
 use std::alloc::{AllocError, Global};
-
-/// How many addresses there are.
-const ADDRESSES: u16 = 4096;
 
 /// A table of limits.
 #[derive(Clone, Copy)]
@@ -32,7 +29,7 @@ impl Table {
     {
         match self {
             Table::Cells => ERASABLE,
-            Table::Inputs | Table::Outputs => ADDRESSES,
+            Table::Inputs | Table::Outputs => LOCATIONS,
         }
     }
 
@@ -95,7 +92,7 @@ fn name_places(limits: &mut Limits<Value>, places: &[bool])
     ensures named { IsNamedUpTo 4096 places.now limits.new }
     ensures rest { limits.new ≡ record limits.old { places = limits.new.places } }
 {
-    for location in 0..4096 {
+    for location in 0..LOCATIONS {
         name_place(limits, places, location);
     }
 }

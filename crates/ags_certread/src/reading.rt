@@ -4,13 +4,14 @@ ghost use Rattle.std.specs.Prelude.{◌≡◌, ◌≤◌, ◌==◌, length, IfOk
 ghost use Rattle.ags_text.specs.Line.{lines_of};
 ghost use Rattle.ags_certtext.specs.Text.{IsCertOf, IsRefused};
 ghost use Rattle.ags_certread.specs.LineTaken.{HaveReadings, behind_first};
+ghost use Rattle.ags_certread.specs.Length.{certificate_limit};
 
 use crate::certificates::certificate_of;
 use crate::gatherer::Gatherer;
 use crate::lines_taken::{bad_line, opening_fault};
 use crate::order::END;
-use ags_cert::Cert;
 use ags_certtext::CertError;
+use ags_certtype::Cert;
 use ags_ports::Ports;
 use ags_text::Lines;
 use std::alloc::Global;
@@ -27,7 +28,7 @@ fn has_ended(last: u8) -> bool
 
 /// Reads the lines of a certificate, one after the other.
 fn read_lines(alloc: Global, bytes: &[u8], ports: &Ports) -> Result<Cert, CertError>
-    requires { length bytes.now ≤ CERT_LIMIT }
+    requires { length bytes.now ≤ certificate_limit }
     ensures read { IfOk result (λ cert. IsCertOf ports.now bytes.now cert) }
     // Where every line has a reading, an error is the first fault.
     ensures refused { IfErr result (λ error. HaveReadings (behind_first (lines_of bytes.now)) → IsRefused ports.now bytes.now error) }
@@ -55,7 +56,7 @@ fn read_lines(alloc: Global, bytes: &[u8], ports: &Ports) -> Result<Cert, CertEr
 /// (docs/CERTIFICATE.md, Faults). A line's number counts every line, skipped ones too; where END is missing it is the line behind the
 /// last. On one line the fault of the least number comes. `NoMemory` may come at any text, and says nothing of it.
 pub fn read(alloc: Global, bytes: &[u8], ports: &Ports) -> Result<Cert, CertError>
-    requires { length bytes.now ≤ CERT_LIMIT }
+    requires { length bytes.now ≤ certificate_limit }
     // The text is a certificate without a fault, and this is the certificate; or its first fault is this one.
     ensures read { IfOk result (λ cert. IsCertOf ports.now bytes.now cert) }
     ensures refused { IfErr result (IsRefused ports.now bytes.now) }

@@ -8,7 +8,7 @@ use Rattle.ags_row.specs.Cell.{cells_ascend}
 use Rattle.ags_row.specs.Limit.{cell_limit, input_limit, output_limit, is_named}
 use Rattle.ags_row.specs.declared.ats.At.{At}
 use Rattle.ags_row.specs.declared.rows.Row.{Row}
-use Rattle.ags_cert.specs.Cert.{Stated, IsCert}
+use Rattle.ags_certtype.specs.Cert.{Stated, IsCert}
 use Rattle.ags_certtext.specs.declared.statements.Entry.{Entry}
 use Rattle.ags_certtext.specs.declared.statements.Statement.{Statement}
 use Rattle.ags_certtext.specs.declared.statements.Statement.TheVariants.{Cell, Init, In, Out, May, End}

@@ -19,7 +19,7 @@ use Rattle.ags_ports.specs.declared.machines.Machine.{Machine}
 use Rattle.ags_ports.specs.declared.registers.Port.{Port}
 use Rattle.ags_row.specs.Limit.{cell_limit, input_limit, output_limit, is_named}
 use Rattle.ags_safe.specs.Certificate.{Suits}
-use Rattle.ags_cert.specs.Cert.{Stated, IsCert, certificate_of}
+use Rattle.ags_certtype.specs.Cert.{Stated, IsCert, certificate_of}
 use Rattle.ags_certtext.specs.Fault.{fault_after, has_register, lacks_zero, is_outside}
 use Rattle.ags_certtext.specs.Statement.{cell_entry, init_entry, in_entry, out_entry, may_place, entries, has_address, value_at, kind_number, last_kind}
 use Rattle.ags_certtext.specs.declared.statements.Entry.{Entry}

@@ -8,7 +8,7 @@ use Rattle.ags_domain.specs.Value.{value_held, value_meaning}
 use Rattle.ags_domain.specs.declared.values.Value.{Value}
 use Rattle.ags_ports.specs.Port.{Registers}
 use Rattle.ags_row.specs.Limit.{cell_limit}
-use Rattle.ags_cert.specs.Cert.{Stated}
+use Rattle.ags_certtype.specs.Cert.{Stated}
 use Rattle.ags_certtext.specs.Fault.{fault_after, end_fault, reading_fault, is_outside}
 use Rattle.ags_certtext.specs.Reading.{Reading, Stated as StatedBy, Ended, statement_of}
 use Rattle.ags_certtext.specs.Statement.{cell_entry, entries, value_at, row_line, kind_number, last_kind, all_below, is_within}

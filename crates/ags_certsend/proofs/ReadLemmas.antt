@@ -5,7 +5,7 @@ use Rattle.std.proofs.lemmas.List.Folds.{flat_map-map}
 use Rattle.ags_text.specs.Line.{LineAt, IsCutFrom, lines_of}
 use Rattle.ags_text.specs.Reading.{AreReadingsBy}
 use Rattle.ags_text.proofs.CutLemmas.{cut_is_lines}
-use Rattle.ags_cert.specs.Cert.{Stated, IsCert}
+use Rattle.ags_certtype.specs.Cert.{Stated, IsCert}
 use Rattle.ags_certtext.specs.Reading.{Reading, Opening, Stated as StatedBy, Ended, IsReading, AreReadings}
 use Rattle.ags_certtext.specs.declared.statements.Statement.{Statement}
 use Rattle.ags_certsend.specs.Spelled.{statement_text, statement_line}

@@ -17,8 +17,8 @@ use Rattle.ags_row.specs.Limit.{cell_limit}
 use Rattle.ags_row.specs.declared.ats.At.{At}
 use Rattle.ags_row.specs.declared.rows.Row.{Row}
 use Rattle.ags_safe.specs.Certificate.{Suits}
-use Rattle.ags_cert.specs.Cert.{Stated, IsCert, certificate_of, rows_at}
-use Rattle.ags_cert.specs.declared.certs.TheConstants.{MOST_ROWS, MOST_ROWS_AT_ONE}
+use Rattle.ags_certtype.specs.Cert.{Stated, IsCert, certificate_of, rows_at}
+use Rattle.ags_certtype.specs.Limit.{most_rows, most_rows_at_one}
 use Rattle.ags_certtext.specs.Fault.{fault_after, end_fault, reading_fault, is_outside, rows_at as lines_at}
 use Rattle.ags_certtext.specs.Reading.{Opening, Stated as StatedBy, Ended}
 use Rattle.ags_certtext.specs.Statement.{cell_entry, entries, has_address, value_at, row_entries, row_line, last_kind}
@@ -81,12 +81,12 @@ record IsBeforeRows (cert : Stated) (before : List Statement) (rows : List (Row 
   last : last_kind before ≤ 7
   cells : AreCellsOf cert before
   count : length (filter_map row_line before) + length rows ≡ length cert.rows
-  few : (location : ℕ) → length (lines_at before location) + rows_at rows location ≤ MOST_ROWS_AT_ONE
+  few : (location : ℕ) → length (lines_at before location) + rows_at rows location ≤ most_rows_at_one
 
-row_clear : (ports : Registers) (before : List Statement) (row : Row Value) → last_kind before ≤ 7 → length (filter_map row_line before) < MOST_ROWS
-    → length (lines_at before row.location) < MOST_ROWS_AT_ONE → fault_after ports before (RowOf (row_line_of row)) ≡ None
+row_clear : (ports : Registers) (before : List Statement) (row : Row Value) → last_kind before ≤ 7 → length (filter_map row_line before) < most_rows
+    → length (lines_at before row.location) < most_rows_at_one → fault_after ports before (RowOf (row_line_of row)) ≡ None
 row_clear ports before row last few few_here =
-    rw (in_order (last_kind before) 7 last last, not_many MOST_ROWS (length (filter_map row_line before)) few, not_many MOST_ROWS_AT_ONE (length (lines_at before row.location)) few_here) refl
+    rw (in_order (last_kind before) 7 last last, not_many most_rows (length (filter_map row_line before)) few, not_many most_rows_at_one (length (lines_at before row.location)) few_here) refl
 
 -- the row's own line counts where it stands
 here_once : (row : Row Value) (rows : List (Row Value)) → rows_at (row ∷ rows) row.location ≡ 1 + rows_at rows row.location

@@ -5,7 +5,7 @@ use Rattle.std.proofs.lemmas.List.{drop_more, drop_all}
 use Rattle.ags_domain.specs.declared.values.Value.{Value}
 use Rattle.ags_row.specs.declared.rows.Row.{Row}
 use Rattle.ags_outside.specs.Sink.{appended, Wrote, WroteFront, wrote_nothing, wrote_piece, wrote_all, wrote_front, wrote_front_last, front_in_first}
-use Rattle.ags_cert.specs.Cert.{Stated}
+use Rattle.ags_certtype.specs.Cert.{Stated}
 use Rattle.ags_certtext.specs.declared.statements.Statement.{Statement}
 use Rattle.ags_certtext.specs.declared.statements.Statement.TheVariants.{Start, Row as RowOf, End}
 use Rattle.ags_certsend.specs.Spelled.{statement_line}

@@ -9,10 +9,10 @@ use Rattle.ags_domain.specs.Value.{value_meaning}
 use Rattle.ags_domain.specs.declared.values.Value.{Value}
 use Rattle.ags_domain.specs.declared.values.Value.TheVariants.{Range, Words}
 use Rattle.ags_row.specs.Cell.{value_among}
-use Rattle.ags_row.specs.Limit.{AreLimits, cell_limit, input_limit, output_limit, is_named}
+use Rattle.ags_row.specs.Limit.{cell_limit, input_limit, output_limit, is_named}
 use Rattle.ags_row.specs.declared.ats.At.{At}
 use Rattle.ags_row.specs.declared.rows.Row.{Row}
-use Rattle.ags_cert.specs.Cert.{Stated, IsCert}
+use Rattle.ags_certtype.specs.Cert.{Stated, IsCert}
 use Rattle.ags_certtext.specs.Reading.{Stated as StatedBy, Ended, statement_of}
 use Rattle.ags_certtext.specs.Statement.{cell_entry, init_entry, in_entry, out_entry, may_place, entries, value_at, kind_number}
 use Rattle.ags_certtext.specs.Text.{start_of, IsLimit, leading_cells, rows_of, AreRowsOf, IsWhatIsStated}
@@ -400,17 +400,17 @@ module _ (cert : Stated) where
   unfolding rows_part
   stated_rows = rw (parts, rows_behind sections) (rows_stated cert.rows).are
 
-  pub certificate_stated : IsCert cert → AreLimits cert.limits → IsFull value_meaning cert.limits.every → IsWhatIsStated (statements_of cert) cert
-  certificate_stated good tables every = record {
+  pub certificate_stated : IsCert cert → IsWhatIsStated (statements_of cert) cert
+  certificate_stated good = record {
     is_cert = good;
     start = sym starts;
     limits = record {
-      tables = tables;
+      tables = good.limits.tables;
       cells = λ address below. rw (cell_values address below) (limit_is (cell_limit cert.limits address));
       inputs = λ address below. rw (input_values address below) (limit_is (input_limit cert.limits address));
       outputs = λ address below. rw (output_values address below) (limit_is (output_limit cert.limits address));
       places = λ location below. sym (place_names location below);
-      every = every;
+      every = good.limits.every;
     };
     init = λ address below. sym (init_values address below);
     rows = stated_rows;

@@ -8,7 +8,7 @@ use Rattle.ags_domain.specs.declared.values.Value.TheVariants.{Range, Words}
 use Rattle.ags_row.specs.Limit.{cell_limit, input_limit, output_limit, is_named}
 use Rattle.ags_row.specs.declared.ats.At.{At}
 use Rattle.ags_row.specs.declared.rows.Row.{Row}
-use Rattle.ags_cert.specs.Cert.{Stated}
+use Rattle.ags_certtype.specs.Cert.{Stated}
 use Rattle.ags_certtext.specs.declared.statements.Entry.{Entry}
 use Rattle.ags_certtext.specs.declared.statements.RowLine.{RowLine}
 use Rattle.ags_certtext.specs.declared.statements.Statement.{Statement}

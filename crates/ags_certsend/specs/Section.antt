@@ -4,7 +4,7 @@ use Rattle.std.specs.List.{flat_map}
 use Rattle.ags_domain.specs.declared.values.Value.{Value}
 use Rattle.ags_row.specs.declared.ats.At.{At}
 use Rattle.ags_row.specs.declared.rows.Row.{Row}
-use Rattle.ags_cert.specs.Cert.{Stated}
+use Rattle.ags_certtype.specs.Cert.{Stated}
 use Rattle.ags_certtext.specs.declared.statements.Statement.{Statement}
 use Rattle.ags_certsend.specs.Spelled.{statement_line}
 use Rattle.ags_certsend.specs.CertText.{cell_statement, init_statement, input_statement, output_statement, place_statement, ascending, at_statement, row_statements}

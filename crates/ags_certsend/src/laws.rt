@@ -2,12 +2,10 @@
 
 ghost use Rattle.std.specs.Prelude.{◌∷◌, ◌++◌, [], map};
 ghost use Rattle.ags_text.specs.Line.{lines_of};
-ghost use Rattle.ags_domain.specs.Domain.{IsFull};
 ghost use Rattle.ags_domain.specs.Value.{value_meaning};
 ghost use Rattle.ags_ports.specs.declared.machines.Machine.{Machine};
-ghost use Rattle.ags_row.specs.Limit.{AreLimits};
 ghost use Rattle.ags_safe.specs.Certificate.{Suits};
-ghost use Rattle.ags_cert.specs.Cert.{Stated, IsCert, certificate_of};
+ghost use Rattle.ags_certtype.specs.Cert.{Stated, IsCert, certificate_of};
 ghost use Rattle.ags_certtext.specs.Reading.{Opening, Stated as StatedBy, Ended, AreReadings};
 ghost use Rattle.ags_certtext.specs.Text.{IsCertOf};
 ghost use Rattle.ags_certsend.specs.CertText.{statements_of, cert_text};
@@ -18,9 +16,8 @@ pub fn sent_lines_are_read()
         → AreReadings (lines_of (cert_text cert)) (Opening ∷ (map StatedBy (statements_of cert) ++ Ended ∷ [])) }
 {}
 
-/// What is written of a certificate reads back as that certificate, for the registers of each machine that it suits. Its limits are
-/// whole tables, and the value that stands where no limit was set is every word, as it is from the making of the limits on.
+/// What is written of a certificate reads back as that certificate, for the registers of each machine that it suits.
 pub fn sent_certificate_reads_back()
-    ensures { (machine : Machine) (cert : Stated) → IsCert cert → AreLimits cert.limits → IsFull value_meaning cert.limits.every
-        → Suits value_meaning machine (certificate_of cert) → IsCertOf machine.ports (cert_text cert) cert }
+    ensures { (machine : Machine) (cert : Stated) → IsCert cert → Suits value_meaning machine (certificate_of cert)
+        → IsCertOf machine.ports (cert_text cert) cert }
 {}

@@ -1,5 +1,5 @@
 //! The writer of certificates: the text of a certificate in hand, a line at a time (docs/CERTIFICATE.md, Written
-//! certificates). It stands on `ags_certtext` for what a line states, on `ags_cert` for certificates, and on
+//! certificates). It stands on `ags_certtext` for what a line states, on `ags_certtype` for certificates, and on
 //! `ags_outside` for where the text is written to. What is written is the definition of `specs/CertText`, whole or a
 //! front of it, and it reads back as the certificate.
 #![tactic(auto)]

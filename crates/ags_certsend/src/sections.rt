@@ -4,15 +4,10 @@ ghost use Rattle.std.specs.Prelude.{◌≡◌, ◌<◌, ◌≤◌};
 ghost use Rattle.ags_certsend.specs.CertText.{is_full, limited, cell_statement, init_statement, input_statement, output_statement, place_statement};
 ghost use Rattle.ags_certsend.specs.Section.{address_count, stated_at};
 
-use ags_cert::Cert;
 use ags_certtext::{Entry, Statement};
+use ags_certtype::Cert;
 use ags_domain::{Domain, Value};
-
-/// How many erasable cells there are.
-const ERASABLE: u16 = 2048;
-
-/// How many addresses there are.
-const ADDRESSES: u16 = 4096;
+use ags_word::{ERASABLE, LOCATIONS};
 
 /// The word of least value.
 const LEAST_WORD: u32 = 0o400000;
@@ -43,7 +38,7 @@ impl Section {
     {
         match self {
             Section::Cells | Section::Starts => ERASABLE,
-            Section::Inputs | Section::Outputs | Section::Places => ADDRESSES,
+            Section::Inputs | Section::Outputs | Section::Places => LOCATIONS,
         }
     }
 

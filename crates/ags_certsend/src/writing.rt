@@ -2,17 +2,23 @@
 
 ghost use Rattle.std.specs.Prelude.{◌≡◌, IfSome, OnOk, OnErr};
 ghost use Rattle.std.specs.List.{flat_map};
+ghost use Rattle.ags_domain.specs.Value.{value_meaning};
 ghost use Rattle.ags_outside.specs.Count.{HasCause};
 ghost use Rattle.ags_outside.specs.Send.{is_write_fault};
 ghost use Rattle.ags_outside.specs.Sink.{appended, WroteFront};
+ghost use Rattle.ags_ports.specs.declared.machines.Machine.{Machine};
+ghost use Rattle.ags_safe.specs.Certificate.{Suits};
+ghost use Rattle.ags_certtype.specs.Cert.{certificate_of};
+ghost use Rattle.ags_certtext.specs.Text.{IsCertOf};
 ghost use Rattle.ags_certsend.specs.Spelled.{statement_line};
 ghost use Rattle.ags_certsend.specs.CertText.{row_line_of, cert_text};
 ghost use Rattle.ags_certsend.specs.Section.{section_text, cell_line, row_lines, kinds_text};
 
+use crate::laws::sent_certificate_reads_back;
 use crate::sections::Section;
 use crate::spelling::Spelled;
-use ags_cert::Cert;
 use ags_certtext::{Entry, RowLine, Statement};
+use ags_certtype::Cert;
 use ags_domain::Value;
 use ags_outside::{SendError, Sink, send};
 use ags_row::{At, Row};
@@ -125,9 +131,8 @@ fn send_kinds<K: Sink>(out: &mut K, cert: &Cert) -> Result<(), SendError>
     send_section(out, cert, Section::Places)
 }
 
-/// Sends the text of a certificate, a line at a time (docs/CERTIFICATE.md, Written certificates). After a refusal a front of the text
-/// was sent.
-pub fn send_cert<K: Sink>(cert: &Cert, out: &mut K) -> Result<(), SendError>
+/// Sends the text of a certificate, part by part.
+fn send_parts<K: Sink>(cert: &Cert, out: &mut K) -> Result<(), SendError>
     ensures sent { OnOk result (K.told out.new ≡ appended (K.told out.old) (cert_text cert.now)) }
     ensures front { OnErr result (WroteFront (K.told out.old) (K.told out.new) (cert_text cert.now)) }
     ensures faults { HasCause (K.faults out.old) (K.faults out.new) (is_write_fault result) }
@@ -137,4 +142,18 @@ pub fn send_cert<K: Sink>(cert: &Cert, out: &mut K) -> Result<(), SendError>
     send_kinds(out, cert)?;
     send_rows(out, cert.rows())?;
     send_statement(out, Statement::End)
+}
+
+/// Sends the text of a certificate, a line at a time (docs/CERTIFICATE.md, Written certificates). After a refusal a front of the text
+/// was sent. The text reads back as the certificate, for the registers of each machine that it suits.
+pub fn send_cert<K: Sink>(cert: &Cert, out: &mut K) -> Result<(), SendError>
+    ensures sent { OnOk result (K.told out.new ≡ appended (K.told out.old) (cert_text cert.now)) }
+    ensures front { OnErr result (WroteFront (K.told out.old) (K.told out.new) (cert_text cert.now)) }
+    ensures faults { HasCause (K.faults out.old) (K.faults out.new) (is_write_fault result) }
+    ensures reads_back { (machine : Machine) → Suits value_meaning machine (certificate_of cert.now)
+        → IsCertOf machine.ports (cert_text cert.now) cert.now }
+{
+    sent_certificate_reads_back();
+    let _start = cert.start();
+    send_parts(cert, out)
 }

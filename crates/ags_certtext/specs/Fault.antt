@@ -5,7 +5,7 @@ use Rattle.ags_domain.specs.Value.{value_held}
 use Rattle.ags_domain.specs.declared.values.Value.{Value}
 use Rattle.ags_ports.specs.Port.{Registers, is_once}
 use Rattle.ags_ports.specs.declared.registers.Port.{Port}
-use Rattle.ags_cert.specs.declared.certs.TheConstants.{MOST_ROWS, MOST_ROWS_AT_ONE}
+use Rattle.ags_certtype.specs.Limit.{most_rows, most_rows_at_one}
 use Rattle.ags_certtext.specs.declared.cert_error.CertKind.{CertKind}
 use Rattle.ags_certtext.specs.declared.cert_error.CertKind.TheVariants.{BadLine, Version, Twice, EmptyRange, OutsideGlobal, NoZero, TooManyRows, TooManyAt, NoRows}
 use Rattle.ags_certtext.specs.declared.statements.RowLine.{RowLine}
@@ -71,7 +71,7 @@ statement_fault ports before (May location) =
     fault_if (list_any (λ (other : ℕ). other == location) (filter_map may_place before)) Twice None
 statement_fault ports before (Row row) =
     fault_if (is_empty row.a || is_empty row.q) EmptyRange
-    (fault_if (nat_le MOST_ROWS (length (filter_map row_line before)) || nat_le MOST_ROWS_AT_ONE (length (rows_at before row.location))) TooManyRows None)
+    (fault_if (nat_le most_rows (length (filter_map row_line before)) || nat_le most_rows_at_one (length (rows_at before row.location))) TooManyRows None)
 statement_fault ports before (At entry) =
     fault_if (is_fixed entry.address) BadLine
     (fault_if (has_address (row_entries before) entry.address) Twice

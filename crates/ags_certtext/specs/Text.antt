@@ -10,7 +10,7 @@ use Rattle.ags_ports.specs.Port.{Registers}
 use Rattle.ags_row.specs.Cell.{value_among}
 use Rattle.ags_row.specs.Limit.{Limiting, AreLimits, cell_limit, input_limit, output_limit, is_named}
 use Rattle.ags_row.specs.declared.rows.Row.{Row}
-use Rattle.ags_cert.specs.Cert.{Stated, IsCert, certificate_of}
+use Rattle.ags_certtype.specs.Cert.{Stated, IsCert, certificate_of}
 use Rattle.ags_certtext.specs.declared.cert_error.CertKind.{CertKind}
 use Rattle.ags_certtext.specs.declared.cert_error.CertError.{CertError}
 use Rattle.ags_certtext.specs.declared.cert_error.CertError.TheVariants.{At as AtLine, NoMemory}

@@ -1,7 +1,7 @@
 //! The text of a certificate (docs/CERTIFICATE.md): what each line states, which text is a certificate for a machine's
 //! registers, and which fault is a text's first. `read_first_line` and `read_line` tell what a line is exactly as
 //! `specs/Spelling` has it: a line has one reading. It stands on `ags_text` for lines, fields and digits, on
-//! `ags_domain` for values, and on `ags_cert` for certificates.
+//! `ags_domain` for values, and on `ags_certtype` for certificates.
 #![tactic(auto)]
 
 mod cert_error;

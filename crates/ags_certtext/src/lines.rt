@@ -12,10 +12,7 @@ use crate::keywords::{Keyword, keyword_named};
 use crate::numbers::read_size;
 use crate::operands::{read_entry, read_place, read_row};
 use crate::statements::Statement;
-use ags_text::{are_blanks, split_field};
-
-/// The most bytes of a line.
-const MOST_BYTES: usize = 512;
+use ags_text::{MOST_LINE_BYTES, are_blanks, split_field};
 
 /// What a certificate's first line is.
 #[derive(Clone, Copy)]
@@ -89,7 +86,7 @@ pub fn read_line(line: &[u8]) -> FurtherLine
     // Its addresses and locations are below 4096, and a row has an index and an indicator.
     ensures stated { IfStated result IsStatement }
 {
-    if line.len() > MOST_BYTES {
+    if line.len() > MOST_LINE_BYTES {
         return FurtherLine::Malformed;
     }
     if is_idle(line) {
@@ -133,7 +130,7 @@ pub fn read_first_line(line: &[u8]) -> FirstLine
     ensures found { IsFirstReading line.now (first_reading result) }
     ensures only { (reading : Reading) → IsFirstReading line.now reading → reading ≡ first_reading result }
 {
-    if line.len() > MOST_BYTES {
+    if line.len() > MOST_LINE_BYTES {
         return FirstLine::Malformed;
     }
     match version_digits(line) {

@@ -5,12 +5,9 @@ ghost use Rattle.ags_domain.specs.declared.values.Value.{Value};
 ghost use Rattle.ags_certtext.specs.Front.{BeginsWithWord, BeginsWithWords, IsSetFront};
 
 use crate::numbers::read_word;
-use ags_domain::{Value, WordSet};
+use ags_domain::{MOST_WORDS, Value, WordSet};
 use ags_text::split_field;
 use ags_word::Word;
-
-/// The most words of a word set.
-const MOST_WORDS: usize = 16;
 
 /// The set of some words as a value, beside what stands behind them.
 fn set_front<'a>(words: &[Word], behind: &'a [u8]) -> Option<(Option<Value>, &'a [u8])>

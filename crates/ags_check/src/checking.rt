@@ -1,26 +1,33 @@
 //! The verdict of a certificate in hand.
 
-ghost use Rattle.std.specs.Prelude.{◌≡◌, ◌≤◌, ℕ, length};
+ghost use Rattle.std.specs.Prelude.{◌≡◌, ◌≤◌, ◌↔◌, ℕ, length};
 ghost use Rattle.ags_domain.specs.Value.{value_meaning};
+ghost use Rattle.ags_domain.specs.declared.values.Value.{Value};
 ghost use Rattle.ags_safe.specs.Certificate.{Suits};
 ghost use Rattle.ags_safe.specs.Safe.{Safe};
+ghost use Rattle.ags_safe.specs.Accepted.{Accepted};
+ghost use Rattle.ags_safe.specs.Failing.{Fault, IsFirstFault};
 ghost use Rattle.ags_verdict.specs.InOrder.{InOrder};
 ghost use Rattle.ags_verdict.specs.Fault.{IsRowJudgedAt};
 ghost use Rattle.ags_verdict.specs.Verdict.{IsVerdict};
-ghost use Rattle.ags_verdict.specs.declared.verdicts.Verdict.TheVariants.{Certified};
-ghost use Rattle.ags_cert.specs.Cert.{certificate_of};
+ghost use Rattle.ags_verdict.specs.Flat.{IsNumberOfCases};
+ghost use Rattle.ags_verdict.specs.declared.verdicts.Refusal.{Refusal};
+ghost use Rattle.ags_verdict.specs.declared.verdicts.Verdict.TheVariants.{Certified, Refused};
+ghost use Rattle.ags_answered.specs.Told.{refusal_of_fault};
+ghost use Rattle.ags_certtype.specs.Cert.{certificate_of};
 
+use crate::answers::{Refusal, Verdict};
 use crate::firsts::{first_outside, first_word};
 use crate::starts::some_holds_start;
 use crate::tables::Table;
-use ags_cert::Cert;
+use ags_answered::laws::refusal_tells_the_first_fault;
+use ags_certtype::Cert;
 use ags_domain::Value;
 use ags_image::Image;
 use ags_ports::Machine;
 use ags_ports::laws::machine_is_made_of_tables;
 use ags_safe::laws::accepted_certificates_are_safe;
-use ags_verdict::laws::accepted_certificates_are_certified;
-use ags_verdict::{Refusal, Verdict};
+use ags_verdict::laws::{accepted_certificates_are_certified, certificate_has_one_verdict};
 
 /// How many rows a certificate has.
 fn number_of_rows(cert: &Cert) -> u32
@@ -31,7 +38,7 @@ fn number_of_rows(cert: &Cert) -> u32
 }
 
 /// How many cases the rows of a certificate have, or what fails first in them.
-fn judged_rows(machine: &Machine, image: &Image, cert: &Cert) -> Result<u64, Refusal<Value>>
+fn judged_rows(machine: &Machine, image: &Image, cert: &Cert) -> Result<u64, Refusal>
     ensures { InOrder (IsRowJudgedAt value_meaning (certificate_of cert.now) machine.now image.now) 1 cert.now.rows result }
 {
     let _few = number_of_rows(cert);
@@ -45,7 +52,7 @@ fn judged_rows(machine: &Machine, image: &Image, cert: &Cert) -> Result<u64, Ref
 }
 
 /// The verdict.
-fn verdict(machine: &Machine, image: &Image, cert: &Cert) -> Verdict<Value>
+fn verdict(machine: &Machine, image: &Image, cert: &Cert) -> Verdict
     ensures { IsVerdict value_meaning machine.now image.now (certificate_of cert.now) result }
 {
     match first_outside(image, cert) {
@@ -70,15 +77,27 @@ fn verdict(machine: &Machine, image: &Image, cert: &Cert) -> Verdict<Value>
 }
 
 /// The verdict of a certificate for an image on a machine: how many rows and cases it has, or the first item that fails
-/// (docs/CHECKER.md, When a certificate is accepted). Where the certificate is one for the machine's registers and is certified, every
-/// run of every length is safe. It takes no memory.
-pub fn check(machine: &Machine, image: &Image, cert: &Cert) -> Verdict<Value>
+/// (docs/CHECKER.md, When a certificate is accepted). Just an accepted certificate is certified, and a refusal tells the fault of the
+/// first item that fails. Where the certificate is one for the machine's registers and is certified, every run of every length is
+/// safe. It takes no memory.
+pub fn check(machine: &Machine, image: &Image, cert: &Cert) -> Verdict
     ensures verdict { IsVerdict value_meaning machine.now image.now (certificate_of cert.now) result }
     ensures safe { (rows cases : ℕ) → result ≡ Certified rows cases
         → Suits value_meaning machine.now (certificate_of cert.now)
         → Safe value_meaning machine.now image.now (certificate_of cert.now) }
+    ensures certified { Accepted value_meaning machine.now image.now (certificate_of cert.now)
+        → (cases : ℕ) × (result ≡ Certified (length cert.now.rows) cases) }
+    ensures accepted { (rows cases : ℕ) → result ≡ Certified rows cases
+        → Accepted value_meaning machine.now image.now (certificate_of cert.now) × (rows ≡ length cert.now.rows)
+        × IsNumberOfCases value_meaning image.now cert.now.limits cert.now.rows cases }
+    ensures refused { (refusal : Refusal Value) → (result ≡ Refused refusal)
+        ↔ ((fault : Fault Value) × IsFirstFault value_meaning machine.now image.now (certificate_of cert.now) fault
+        × (refusal ≡ refusal_of_fault fault)) }
 {
     machine_is_made_of_tables(machine);
+    let _first = image.get(0);
+    refusal_tells_the_first_fault();
+    certificate_has_one_verdict::<Value>();
     accepted_certificates_are_certified::<Value>();
     accepted_certificates_are_safe::<Value>();
     let _start = cert.start();

@@ -4,13 +4,13 @@ ghost use Rattle.std.specs.Prelude.{◌≡◌, ◌<◌, ◌↔◌, ℕ, IsTrue, 
 ghost use Rattle.ags_domain.specs.Value.{value_meaning};
 ghost use Rattle.ags_image.specs.Image.{entry_at};
 ghost use Rattle.ags_safe.specs.Accepted.{IsFirstHeld};
-ghost use Rattle.ags_cert.specs.Cert.{certificate_of};
+ghost use Rattle.ags_certtype.specs.Cert.{certificate_of};
 ghost use Rattle.ags_check.specs.Checking.{IsFirstHeldAt, IsFirstOutside};
 
-use ags_cert::Cert;
+use ags_certtype::Cert;
 use ags_domain::{Domain, Value};
 use ags_image::Image;
-use ags_word::Word;
+use ags_word::{ERASABLE, Word};
 
 /// Whether a cell's first word, by the image's entry and what is stated of the start, is in the cell's limit.
 fn is_first_held(limit: Value, entry: Option<Word>, stated: Option<Value>) -> bool
@@ -42,7 +42,7 @@ pub(crate) fn first_outside(image: &Image, cert: &Cert) -> Option<u16>
     ensures none { result ≡ None → (address : ℕ) → address < 2048 → IsFirstHeldAt image.now (certificate_of cert.now) address }
     ensures some { IfSome result (IsFirstOutside image.now (certificate_of cert.now)) }
 {
-    for address in 0..2048 {
+    for address in 0..ERASABLE {
         if !is_first_held_at(image, cert, address) {
             return Some(address);
         }

@@ -5,11 +5,11 @@ ghost use Rattle.ags_domain.specs.Value.{value_meaning};
 ghost use Rattle.ags_image.specs.Image.{entry_at};
 ghost use Rattle.ags_row.specs.Flag.{has_flag};
 ghost use Rattle.ags_safe.specs.Accepted.{HoldsStart};
-ghost use Rattle.ags_cert.specs.Cert.{certificate_of};
+ghost use Rattle.ags_certtype.specs.Cert.{certificate_of};
 ghost use Rattle.ags_check.specs.Checking.{HoldsFirstWords};
 
 use crate::cases::{has_index, may_be_clear};
-use ags_cert::Cert;
+use ags_certtype::Cert;
 use ags_domain::{Domain, Value};
 use ags_image::Image;
 use ags_row::{At, Row};

@@ -1,5 +1,6 @@
 //! What rows are judged against.
 
+use ags_domain::Domain;
 use ags_image::Image;
 use ags_ports::Machine;
 use ags_row::{Limits, Row};
@@ -7,7 +8,7 @@ use std::marker::Model;
 
 /// A machine, an image, and the limits and the rows of a certificate.
 #[derive(Drop)]
-pub struct Table<'a, D> {
+pub struct Table<'a, D: Domain> {
     /// The machine.
     pub machine: &'a Machine,
     /// The image.
@@ -18,7 +19,7 @@ pub struct Table<'a, D> {
     pub rows: &'a [Row<D>],
 }
 
-impl<'a, D> Model for Table<'a, D> {
+impl<'a, D: Domain> Model for Table<'a, D> {
     ghost use Rattle.ags_check.specs.Judging.{Judging};
 
     ghost Value = { Judging D };

@@ -1,7 +1,7 @@
 //! Certificates that were worked out outside the crate.
 
 use crate::common::{expect_same, range};
-use ags_cert::{Cert, CertParts};
+use ags_certtype::{Cert, CertParts};
 use ags_domain::{Domain, Range, Value};
 use ags_row::{At, Limits, Row, RowParts};
 use std::alloc::Global;

@@ -1,9 +1,9 @@
 //! Certificates whose reading or whose first fault was worked out outside the crate.
 
 use crate::common::expect_same;
-use ags_cert::Cert;
 use ags_certread::{CERT_LIMIT, read};
 use ags_certtext::{CertError, CertKind};
+use ags_certtype::Cert;
 use ags_domain::{Range, Value};
 use ags_ports::Ports;
 use ags_row::Row;

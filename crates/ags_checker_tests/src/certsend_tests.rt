@@ -3,10 +3,12 @@
 ghost use Rattle.std.specs.Prelude.{None};
 
 use crate::common::{expect_same, range};
-use ags_cert::{Cert, CertParts};
+use ags_certread::{CERT_LIMIT, read};
 use ags_certsend::{send_cert, sent_certificate_reads_back, sent_lines_are_read};
+use ags_certtype::{Cert, CertParts};
 use ags_domain::{Domain, Range, Value, WordSet};
 use ags_outside::{PutDone, SendError, Sink, SteadySink};
+use ags_ports::Ports;
 use ags_row::{At, Limits, Row, RowParts};
 use ags_word::Word;
 use std::alloc::Global;
@@ -38,6 +40,14 @@ const ONE_OF_EACH: &[u8] = b"AGSCERT 1\nSTART 4001\n\
     AT 0017 ANY\n\
     AT 0020 RANGE -1 0\n\
     ROW 4000 A ANY Q ANY X 5 V 1\n\
+    END\n";
+
+/// The text of `two_sets`: its row is as long a line as a certificate has.
+const TWO_SETS: &[u8] = b"AGSCERT 1\nSTART 4000\n\
+    ROW 4000 A WORDS 000001 000002 000003 000004 000005 000006 000007 000010 \
+    000011 000012 000013 000014 000015 000016 000017 000020 Q WORDS \
+    777760 777761 777762 777763 777764 777765 777766 777767 \
+    777770 777771 777772 777773 777774 777775 777776 777777 X 01234567 V 01\n\
     END\n";
 
 /// The value that is a set of some words, by their numbers.
@@ -175,6 +185,32 @@ fn one_of_each(rt: &impl Abort, alloc: Global) -> Cert {
     made(rt, alloc, 0o4001, some_limits(rt, alloc), firsts, rows)
 }
 
+/// The value that is the set of sixteen words, ascending from the one of a number.
+fn sixteen(rt: &impl Abort, alloc: Global, first: u32) -> Value {
+    let mut numbers = Vec::new(alloc);
+    for place in 0..16u32 {
+        assert!(rt; numbers.push(first.saturating_add(place)).is_ok());
+    }
+    words(rt, alloc, numbers.as_slice())
+}
+
+/// A certificate of one row, whose A and whose Q hold sixteen words each; each index and each indicator may stand.
+fn two_sets(rt: &impl Abort, alloc: Global) -> Cert {
+    let row = Row::of(RowParts {
+        location: 0o4000,
+        a: sixteen(rt, alloc, 0o1),
+        q: sixteen(rt, alloc, 0o777760),
+        x: [true; 8],
+        v: [true, true],
+        at: Vec::new(alloc),
+    })
+    .expect(rt, "the parts of a row");
+    let mut rows = Vec::new(alloc);
+    assert!(rt; rows.push(row).is_ok());
+    let limits: Limits<Value> = Limits::new(alloc).expect(rt, "memory for limits");
+    made(rt, alloc, 0o4000, limits, [None, None], rows)
+}
+
 /// Expects the text of a certificate, which a sink takes in pieces of so many bytes at most.
 fn expect_sent(rt: &impl Abort, alloc: Global, cert: &Cert, most: usize, text: &[u8]) {
     let mut out = SteadySink::new(alloc, most.max(1));
@@ -187,6 +223,23 @@ fn certificates_are_sent(rt: HostRuntime) {
     let alloc = rt.alloc();
     expect_sent(&rt, alloc, &return_word(&rt, alloc), 10_000, RETURN_WORD);
     expect_sent(&rt, alloc, &one_of_each(&rt, alloc), 1, ONE_OF_EACH);
+    expect_sent(&rt, alloc, &two_sets(&rt, alloc), 10_000, TWO_SETS);
+}
+
+/// Reads a text, and expects that the certificate is sent as that very text.
+fn expect_sent_again(rt: &impl Abort, alloc: Global, text: &[u8]) {
+    assert!(rt; text.len() <= CERT_LIMIT);
+    let Ok(cert) = read(alloc, text, &Ports::standard()) else {
+        panic!(rt; "the text is no certificate");
+    };
+    expect_sent(rt, alloc, &cert, 10_000, text);
+}
+
+#[test]
+fn sent_texts_read_back(rt: HostRuntime) {
+    let alloc = rt.alloc();
+    expect_sent_again(&rt, alloc, RETURN_WORD);
+    expect_sent_again(&rt, alloc, TWO_SETS);
 }
 
 /// A sink that tells nothing, takes each piece whole, and fails at one of its puts.

@@ -1,7 +1,7 @@
 //! Verdicts of programs that were worked out outside the crate.
 
 use crate::common::word;
-use ags_cert::{Cert, CertParts};
+use ags_certtype::{Cert, CertParts};
 use ags_check::{Refusal, Verdict, check};
 use ags_domain::{Domain, Operands, Range, Value};
 use ags_image::Image;
@@ -12,7 +12,7 @@ use std::alloc::Global;
 use std::process::Abort;
 
 /// Asserts that a verdict is the one that is wanted.
-fn expect_verdict(rt: &impl Abort, told: &Verdict<Value>, wanted: &Verdict<Value>) {
+fn expect_verdict(rt: &impl Abort, told: &Verdict, wanted: &Verdict) {
     assert!(rt; *told == *wanted, "{told}");
 }
 
@@ -76,7 +76,7 @@ fn verdict(
     locations: &[u16],
     limits: Limits<Value>,
     may_be_set: bool,
-) -> Verdict<Value> {
+) -> Verdict {
     let cert = certificate(rt, alloc, locations, limits, may_be_set);
     check(&Machine::standard(), &image_of(rt, alloc, words), &cert)
 }
@@ -93,7 +93,7 @@ fn assert_sum_verdict(
     alloc: Global,
     named: bool,
     may_be_set: bool,
-    wanted: Verdict<Value>,
+    wanted: Verdict,
 ) {
     let mut limits: Limits<Value> = Limits::new(alloc).expect(rt, "memory for limits");
     if named {
@@ -107,7 +107,7 @@ fn assert_sum_verdict(
 }
 
 /// That the ADD may overflow.
-fn may_overflow(rt: &impl Abort) -> Refusal<Value> {
+fn may_overflow(rt: &impl Abort) -> Refusal {
     let operands = Operands {
         a: word(rt, 0o377777),
         q: word(rt, 0),
@@ -121,7 +121,7 @@ fn may_overflow(rt: &impl Abort) -> Refusal<Value> {
 }
 
 /// That no row covers what the ADD leaves.
-fn not_covered(rt: &impl Abort) -> Refusal<Value> {
+fn not_covered(rt: &impl Abort) -> Refusal {
     Refusal::NotCovered {
         row: 2,
         word: word(rt, 0o224004),
@@ -142,7 +142,7 @@ fn overflow_is_refused_where_it_is_not_named(rt: HostRuntime) {
 }
 
 /// Asserts how a program that goes to the cell 17 octal is refused, where the words of value 0 to a greatest may stand there.
-fn assert_refused(rt: &impl Abort, alloc: Global, greatest: i32, refusal: Refusal<Value>) {
+fn assert_refused(rt: &impl Abort, alloc: Global, greatest: i32, refusal: Refusal) {
     let mut limits: Limits<Value> = Limits::new(alloc).expect(rt, "memory for limits");
     let range = Range::of(0, greatest).expect(rt, "the ends of a range");
     limits.set_cell(0o17, Value::Range(range));

@@ -2,14 +2,16 @@
 
 use ags_domain::{Range, Value};
 use ags_verdict::laws::{
-    accepted_certificates_are_certified, certificate_has_one_verdict,
-    refusal_tells_what_fails_first,
+    accepted_certificates_are_certified, cases_are_each_word_with_each_index_and_indicator,
+    certificate_has_one_verdict, refusal_tells_what_fails_first,
 };
 
 #[test]
 fn laws_at_domains(_rt: HostRuntime) {
     accepted_certificates_are_certified::<Range>();
     accepted_certificates_are_certified::<Value>();
+    cases_are_each_word_with_each_index_and_indicator::<Range>();
+    cases_are_each_word_with_each_index_and_indicator::<Value>();
     certificate_has_one_verdict::<Range>();
     certificate_has_one_verdict::<Value>();
     refusal_tells_what_fails_first::<Range>();

@@ -3,10 +3,7 @@
 ghost use Rattle.ags_compare.specs.Comparison.{IsComparison};
 
 use ags_image::Image;
-use ags_word::Word;
-
-/// How many locations the memory has.
-const MEMORY_SIZE: u16 = 4096;
+use ags_word::{LOCATIONS, Word};
 
 /// How two images compare.
 #[derive(Clone, Copy, Debug, PartialEq, Eq)]
@@ -28,7 +25,7 @@ pub enum Compared {
 pub fn compare(left: &Image, right: &Image) -> Compared
     ensures { IsComparison left.now right.now result }
 {
-    for location in 0..MEMORY_SIZE {
+    for location in 0..LOCATIONS {
         let one = left.get(location);
         let other = right.get(location);
         if one != other {

@@ -9,7 +9,7 @@ ghost use Rattle.ags_ports.specs.Step.{Steps, StepsIn, idle_report, phase_after_
 use crate::cores::Core;
 use ags_isa::decode;
 use ags_ports::laws::machine_is_made_of_tables;
-use ags_ports::{Event, Machine, Phase, Report};
+use ags_ports::{Done, Event, Machine, Phase};
 use ags_word::Word;
 
 impl Core {
@@ -17,7 +17,7 @@ impl Core {
     /// began: it has a word for each register of theirs.
     // A long script is steps and little else, so that the call counts.
     #[inline(always)]
-    pub fn act(&mut self, machine: &Machine, event: Event) -> Report
+    pub fn act(&mut self, machine: &Machine, event: Event) -> Done
         requires inputs { length self.old.inputs ≡ length machine.now.ports.inputs }
         requires outputs { length self.old.outputs ≡ length machine.now.ports.outputs }
         ensures step { Steps machine.now self.old event result self.new }
@@ -38,7 +38,7 @@ impl Core {
     }
 
     /// Runs the order at the location, where orders run.
-    fn step(&mut self, machine: &Machine) -> Report
+    fn step(&mut self, machine: &Machine) -> Done
         requires inputs { length self.old.inputs ≡ length machine.now.ports.inputs }
         requires outputs { length self.old.outputs ≡ length machine.now.ports.outputs }
         ensures { StepsIn self.old.phase machine.now self.old result self.new }
@@ -50,7 +50,7 @@ impl Core {
     }
 
     /// Runs the order at the location; where there is none, the machine halts.
-    fn run(&mut self, machine: &Machine) -> Report
+    fn run(&mut self, machine: &Machine) -> Done
         requires inputs { length self.old.inputs ≡ length machine.now.ports.inputs }
         requires outputs { length self.old.outputs ≡ length machine.now.ports.outputs }
         ensures { StepsIn Running machine.now self.old result self.new }
@@ -68,7 +68,7 @@ impl Core {
     }
 
     /// A pulse of the timer.
-    fn pulse(&mut self) -> Report
+    fn pulse(&mut self) -> Done
         ensures told { result ≡ idle_report self.old }
         ensures after { self.new ≡ record self.old { phase = phase_after_pulse self.old.phase } }
     {
@@ -87,10 +87,10 @@ impl Core {
     }
 
     /// What is reported of an event that runs no order.
-    fn idle_report(&self) -> Report
+    fn idle_report(&self) -> Done
         ensures { result ≡ idle_report self.now }
     {
-        Report {
+        Done {
             ran: false,
             location: self.location(),
             word: self.word_here(),

@@ -11,15 +11,9 @@ ghost use Rattle.ags_core.specs.OrderReport.{Does};
 use crate::order_reports::OrderReport;
 use ags_image::Image;
 use ags_ports::{Machine, Phase};
-use ags_word::Word;
+use ags_word::{ERASABLE, LOCATIONS, Word};
 use std::alloc::{AllocError, Global};
 use std::marker::Model;
-
-/// How many cells there are.
-const CELLS: u16 = 4096;
-
-/// The address of the first fixed cell, 4000 octal.
-const FIXED: u16 = 2048;
 
 /// The machine as it runs: its registers, its cells, and the words of its input and output registers.
 #[derive(Drop)]
@@ -183,7 +177,7 @@ impl Core {
         ensures next { result ≡ next_location self.now }
         ensures below { result < 4096 }
     {
-        (self.location + 1) % CELLS
+        (self.location + 1) % LOCATIONS
     }
 
     /// Moves the location on.
@@ -197,7 +191,7 @@ impl Core {
     pub(crate) fn store(&mut self, address: u16, word: Word)
         ensures { self.new ≡ record self.old { cells = cells_with_word self.old.cells address word } }
     {
-        if address < FIXED {
+        if address < ERASABLE {
             self.cells[address as usize] = word;
         }
     }
@@ -217,7 +211,7 @@ fn cells_of(alloc: Global, image: &Image) -> Result<Vec<Word>, AllocError>
     ensures image { IfOk result (λ cells. IsImage image.now) }
 {
     let mut cells = Vec::new(alloc);
-    for location in 0..CELLS {
+    for location in 0..LOCATIONS {
         cells.push(image.word_at(location))?;
     }
     Ok(cells)

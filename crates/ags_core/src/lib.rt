@@ -15,4 +15,5 @@ mod pairs;
 mod sums;
 mod transfers;
 
+pub use ags_ports::{Done, Event, Phase, Stored};
 pub use cores::Core;

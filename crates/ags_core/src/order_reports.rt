@@ -2,7 +2,7 @@
 
 ghost use Rattle.std.specs.Prelude.{◌≡◌, true, None, Some};
 
-use ags_ports::{Report, Stored};
+use ags_ports::{Done, Stored};
 use ags_word::Word;
 
 /// What an order reports: whether it overflowed, its store, and what it took and gave.
@@ -49,7 +49,7 @@ impl OrderReport {
     }
 
     /// The report of a step whose order was read from this word at this location.
-    pub(crate) fn ran(self, location: u16, word: Word) -> Report
+    pub(crate) fn ran(self, location: u16, word: Word) -> Done
         ensures { result ≡ record {
           ran = true;
           location = location;
@@ -60,7 +60,7 @@ impl OrderReport {
           gave = self.gave;
         } }
     {
-        Report {
+        Done {
             ran: true,
             location,
             word,

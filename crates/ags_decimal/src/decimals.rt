@@ -3,7 +3,7 @@
 ghost use Rattle.std.specs.Prelude.{◌≡◌, ◌≤ℤ◌, ◌<◌, ◌≤◌, ◌+◌, ◌^◌, true, false, IfSome, Some, None, IsTrue, pos, ◌++◌, length};
 ghost use Rattle.std.specs.List.{list_all};
 ghost use Rattle.ags_decimal.specs.Spelling.{is_digit, are_digits, digits_number};
-ghost use Rattle.ags_decimal.specs.Decimal.{nearest_size, decimal_word};
+ghost use Rattle.ags_decimal.specs.Decimal.{IsWithinLimits, nearest_size, decimal_word};
 ghost use Rattle.ags_decimal.specs.Reading.{reading, digits_of, places_of, reading_before_scale, limited};
 
 use crate::marks::{begins_with_minus, behind_first, behind_sign, split_at_mark};
@@ -32,6 +32,39 @@ impl Model for Decimal {
     ghost invariant = { λ d. IsWithinLimits (record { negative = d.negative; digits = d.digits; power = d.power; scale = d.scale }) };
 
     ghost inverse = { λ p. record { negative = p.negative; digits = p.digits; power = p.power; scale = p.scale } };
+}
+
+impl Decimal {
+    /// Whether it has a minus sign.
+    pub fn negative(&self) -> bool
+        ensures { result ≡ self.now.negative }
+    {
+        self.negative
+    }
+
+    /// The number that its digits write, without the sign and the point; below 10^10.
+    pub fn digits(&self) -> u64
+        ensures same { result ≡ self.now.digits }
+        ensures limits { IsWithinLimits self.now }
+    {
+        self.digits
+    }
+
+    /// The power of ten that the digits are times, those behind the point counted in; from -12 to 12.
+    pub fn power(&self) -> i8
+        ensures same { result ≡ self.now.power }
+        ensures limits { IsWithinLimits self.now }
+    {
+        self.power
+    }
+
+    /// Its binary scale: how many bits of the word stand before the binary point; from -30 to 60.
+    pub fn scale(&self) -> i8
+        ensures same { result ≡ self.now.scale }
+        ensures limits { IsWithinLimits self.now }
+    {
+        self.scale
+    }
 }
 
 /// The size of a decimal, rounded to the nearest whole number.

@@ -110,7 +110,7 @@ fine_of operation a_ends m_ends ends o w is ok inside = record {
 
 pub reached_at : (operation : Operation) (a_ends m_ends : Ends) (o : Operands) (w v : ℕ) → IsOperands a_ends m_ends o → IsCorner a_ends m_ends o
     → tried operation o ≡ Ok w → v ≡ w → IsReached operation a_ends m_ends v
-reached_at operation a_ends m_ends o w v is corner ok e = record { at = o; operands = is; corner = corner; given = tried_word operation o w ok ∙ sym e }
+reached_at operation a_ends m_ends o w v is corner ok e = record { at = o; operands = is; corner = inl corner; given = tried_word operation o w ok ∙ sym e }
 
 -- ---- ends
 
@@ -150,7 +150,7 @@ end_operands a m o is_a is_m at = record {
 }
 
 pub end_corner : (a m : Ends) (o : Operands) → IsAtEnds a m o → IsCorner a m o
-end_corner a m o at = record { a_corner = ⊎_elim inl (λ e. inr (inl e)) at.0; q_corner = at.1; m_corner = at.2 }
+end_corner a m o at = record { a_corner = at.0; q_corner = at.1; m_corner = at.2 }
 
 -- ---- two corners: the numbers of all operands lie between theirs
 

@@ -13,7 +13,7 @@ use Rattle.ags_domain.specs.Range.{range_ends, range_meaning, greater, ends_of}
 use Rattle.ags_domain.specs.Corners.{IsFromZero}
 use Rattle.ags_domain.specs.declared.operands.Operands.{Operands}
 use Rattle.ags_domain.specs.declared.ranges.Range.{Range}
-use Rattle.ags_domain.proofs.HullLaws.{IsExact, IsFine, IsSpan, AreEnds, AreEnds-range, AreEnds-no_cell, least_between, greatest_between, rimmed_interval, word_of, value_of, fine_of, reached_at, end_corner, span_of, told_first, told_later, told_answer}
+use Rattle.ags_domain.proofs.HullLaws.{IsExact, IsFine, IsSpan, AreEnds, AreEnds-range, AreEnds-no_cell, least_between, greatest_between, rimmed_interval, tried_word, word_of, value_of, fine_of, reached_at, end_corner, span_of, told_first, told_later, told_answer}
 use Rattle.ags_domain.proofs.CornerLaws.{AreTried, tried_of, found_is, told_alone, greater_one, greater_left, greater_right}
 use Rattle.ags_domain.proofs.SumLaws.{settled_exact}
 
@@ -140,7 +140,7 @@ module _ (a : Ends) (is_a : AreEnds a) (from_below : val a.least ≤ℤ pos 0) (
           lower = λ o is. (operands 0 0 0, zero_fine, omega (arith, ints, val_zero));
           upper = λ o is. ⊎_elim (λ h. (operands a.least 0 0, first_fine, h)) (λ h. (operands a.greatest 0 0, second_fine, h)) (bounded o is);
         })
-        (reached_at size a no_cell (operands 0 0 0) 0 0 zero_is (record { a_corner = inr (inr refl); q_corner = inl refl; m_corner = inl refl }) zero_tried refl)
+        (record { at = operands 0 0 0; operands = zero_is; corner = inr (refl, refl); given = tried_word size (operands 0 0 0) 0 zero_tried })
         (⊎_elim
         (reached_at size a no_cell (operands a.least 0 0) w1 (greater w1 w2) (at_least a is_a 0 (omega arith))
         (end_corner a no_cell (operands a.least 0 0) (inl refl, inl refl, inl refl)) ok1)

@@ -2,7 +2,7 @@
 -- is any word, so that its low part is any.
 use Rattle.std.specs.Prelude.{◌≡◌, ℕ, ◌<◌, ◌^◌, Bool, false, ◌⊎◌, List, Some, Result, Ok, Err, if◌then◌else◌}
 use Rattle.std.specs.List.{find}
-use Rattle.ags_word.specs.Operation.{Operation}
+use Rattle.ags_word.specs.Operation.{Operation, size}
 use Rattle.ags_domain.specs.LowBits.{all_ones}
 use Rattle.ags_domain.specs.Domain.{Ends, IsBetween, Meaning, Ranged}
 use Rattle.ags_domain.specs.declared.operands.Operands.{Operands}
@@ -29,18 +29,21 @@ overflows_at operation o = operation.overflows o.a o.q o.m
 abbrev pub NoneOverflows : Operation → (a_ends m_ends : Ends) → Type 0
 NoneOverflows operation a_ends m_ends = (o : Operands) → IsOperands a_ends m_ends o → overflows_at operation o ≡ false
 
--- operands at the rim: A at an end of its interval, or 0, where the size of A turns; the cell at an end of its own; the low
--- part of Q with no bit set, or with all
+-- operands at a corner: A at an end of its interval, the cell at an end of its own, and the low part of Q with no bit set, or with all
 pub record IsCorner (a_ends m_ends : Ends) (o : Operands) : Type 0 where
-  pub a_corner : (o.a ≡ a_ends.least) ⊎ ((o.a ≡ a_ends.greatest) ⊎ (o.a ≡ 0))
+  pub a_corner : (o.a ≡ a_ends.least) ⊎ (o.a ≡ a_ends.greatest)
   pub q_corner : (o.q ≡ 0) ⊎ (o.q ≡ all_ones)
   pub m_corner : (o.m ≡ m_ends.least) ⊎ (o.m ≡ m_ends.greatest)
 
--- some operands, at a corner, give the word
+-- where the size of A turns: A is 0, for the absolute value alone
+abbrev pub IsTurn : Operation → Operands → Type 0
+IsTurn operation o = (operation ≡ size) × (o.a ≡ 0)
+
+-- some operands, at a corner or where the size of A turns, give the word
 pub record IsReached (operation : Operation) (a_ends m_ends : Ends) (word : ℕ) : Type 0 where
   pub at : Operands
   pub operands : IsOperands a_ends m_ends at
-  pub corner : IsCorner a_ends m_ends at
+  pub corner : IsCorner a_ends m_ends at ⊎ IsTurn operation at
   pub given : new_a_at operation at ≡ word
 
 -- the least interval of all new A: each lies between its ends, and both ends are reached

@@ -7,7 +7,7 @@ ghost use Rattle.ags_domain.specs.Domain.{held_by_either};
 ghost use Rattle.ags_domain.specs.Gathering.{AreGathered};
 
 use crate::values::Value;
-use crate::word_lists::WordList;
+use crate::word_lists::{MOST_WORDS, WordList};
 use crate::word_sets::WordSet;
 use ags_word::Word;
 
@@ -43,7 +43,7 @@ pub(crate) fn gather(left: &Value, right: &Value) -> Option<WordSet>
     let mut list = WordList::new();
     let mut from = 0;
     while let Some(word) = next_of_either(left, right, from) {
-        if list.len() == 16 {
+        if list.len() == MOST_WORDS {
             return None;
         }
         list.push(word);

@@ -29,4 +29,5 @@ pub use domains::Domain;
 pub use operands::Operands;
 pub use ranges::Range;
 pub use values::Value;
+pub use word_lists::MOST_WORDS;
 pub use word_sets::WordSet;

@@ -5,10 +5,13 @@ ghost use Rattle.std.specs.Prelude.{◌≡◌, ℕ, ◌+◌, ◌-◌, ◌<◌, �
 use ags_word::Word;
 use std::marker::Model;
 
+/// How many words a word set has at most.
+pub const MOST_WORDS: usize = 16;
+
 /// Up to 16 words in an array; behind them it is filled up with 0.
 #[derive(Clone, Copy, Debug, PartialEq, Eq)]
 pub(crate) struct WordList {
-    words: [Word; 16],
+    words: [Word; MOST_WORDS],
     count: usize,
 }
 
@@ -33,7 +36,7 @@ impl WordList {
         ensures { result ≡ [] }
     {
         WordList {
-            words: [Word::ZERO; 16],
+            words: [Word::ZERO; MOST_WORDS],
             count: 0,
         }
     }

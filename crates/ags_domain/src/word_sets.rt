@@ -4,7 +4,7 @@ ghost use Rattle.std.specs.Prelude.{◌≡◌, ◌<◌, ◌≤◌, true, length}
 ghost use Rattle.ags_domain.specs.WordSet.{ascends_from};
 
 use crate::hulls::{greater_word, lesser_word};
-use crate::word_lists::WordList;
+use crate::word_lists::{MOST_WORDS, WordList};
 use crate::word_signs::is_of_sign;
 use ags_word::Word;
 
@@ -26,7 +26,7 @@ impl WordSet {
     pub fn of(words: &[Word]) -> Option<WordSet>
         ensures { IsSetOf words.now result }
     {
-        if words.is_empty() || words.len() > 16 {
+        if words.is_empty() || words.len() > MOST_WORDS {
             return None;
         }
         let mut list = WordList::new();

@@ -1,14 +1,12 @@
 //! The image: an optional word for each location.
+#![tactic(auto, unfolding(crate::specs::Image::no_words, crate::specs::Image::entry_at, crate::specs::Image::word_at, crate::specs::Image::with_word))]
 
 ghost use Rattle.std.specs.Prelude.{◌≡◌, ◌<◌, IfOk};
 ghost use Rattle.ags_image.specs.Image.{memory_size, no_words, entry_at, word_at, with_word, IsImage};
 
-use ags_word::Word;
+use ags_word::{LOCATIONS, Word};
 use std::alloc::{AllocError, Global};
 use std::marker::Model;
-
-/// How many locations the memory has.
-const MEMORY_SIZE: usize = 4096;
 
 /// What an assembly puts into the machine's memory: for each of its 4096 locations a word, or none.
 #[derive(Drop)]
@@ -35,7 +33,7 @@ impl Image {
         ensures image { IfOk result IsImage }
     {
         Ok(Image {
-            entries: vec![in alloc; None; MEMORY_SIZE]?,
+            entries: vec![in alloc; None; LOCATIONS as usize]?,
         })
     }
 

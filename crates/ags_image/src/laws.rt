@@ -1,5 +1,6 @@
 //! How the definitions meet, for the crates above. Each law is what a function that does nothing ensures, so that it is
 //! proved with the crate. Behind each clause is a lemma of `proofs/ImageLaws`.
+#![tactic(auto, unfolding(crate::specs::Image::no_words, crate::specs::Image::entry_at, crate::specs::Image::word_at, crate::specs::Image::with_word))]
 
 ghost use Rattle.std.specs.Prelude.{◌≡◌, ◌≢◌, ℕ, ◌<◌, ◌^◌, ◌++◌, List, [], ◌∷◌, Option, Some, None, length};
 ghost use Rattle.std.specs.List.{Contains};

@@ -8,11 +8,11 @@ use Rattle.std.proofs.lemmas.List.Folds.{list_all-append}
 use Rattle.ags_text.specs.Line.{HasNoFeed}
 use Rattle.ags_text.specs.Numeral.{numeral, decimal7_text, octal4_text, octal6_text}
 use Rattle.ags_image.specs.Image.{PlacedWord, IsMemoryWord, EachPlaceOnce, IsImageOf}
-use Rattle.ags_wordlines.specs.Columns.{placed_in}
-use Rattle.ags_wordlines.specs.Form.{HasForm, words_of}
-use Rattle.ags_wordlines.specs.Lines.{IsCutAtFeeds, feed_lines}
-use Rattle.ags_wordlines.proofs.ColumnLemmas.{and_left, and_right, printed_columns}
-use Rattle.ags_wordlines.proofs.CutLemmas.{one_cut}
+use Rattle.ags_image.specs.Columns.{placed_in}
+use Rattle.ags_image.specs.Form.{HasForm, words_of}
+use Rattle.ags_image.specs.Lines.{IsCutAtFeeds, feed_lines}
+use Rattle.ags_image.proofs.ColumnLemmas.{and_left, and_right, printed_columns}
+use Rattle.ags_image.proofs.CutLemmas.{one_cut}
 use Rattle.ags_listing.specs.Listing.{PrintedCard, columns, printed_line, listing_text, printed_words, IsPrintable}
 use Rattle.ags_listing.specs.Reads.{is_digit, is_space, is_ruled, said, listing_form, Reads}
 

@@ -1,30 +1,28 @@
 -- What the bytes of a listing mean, and that a source's listing means its words.
-use Rattle.std.proofs.Common.{◌≡◌, ℕ, suc, ◌+◌, ◌<◌, ◌≤◌, ◌^◌, Bool, true, false, ◌&&◌, List, [], ◌∷◌, length, take, drop, Option, Some, None, refl, sym, ap, subst, ◌∙◌, ◌⊎◌, inl, inr, arith}
+use Rattle.std.proofs.Common.{◌≡◌, ℕ, suc, ◌+◌, ◌<◌, Bool, true, false, ◌&&◌, List, [], ◌∷◌, length, take, drop, Option, Some, None, refl, sym, ap, subst, ◌∙◌, ◌⊎◌, inl, inr, arith}
 use Rattle.std.specs.Prelude.{nat_lt, IfSome, if◌then◌else◌}
 use Rattle.std.specs.List.{All, Contains, list_all}
 use Rattle.std.proofs.lemmas.Bool.Decides.{nat_tests}
 use Rattle.std.proofs.lemmas.List.{length-take-le, length-drop}
 use Rattle.std.proofs.lemmas.List.Elements.{All-cons}
-use Rattle.ags_text.specs.Line.{LineAt, HasNoFeed, IsCutFrom, Follow, lines_of}
+use Rattle.ags_text.specs.Line.{LineAt, HasNoFeed, IsCutFrom, lines_of}
 use Rattle.ags_text.proofs.CutLemmas.{lines_are_cut}
 use Rattle.ags_isa.specs.Code.{AreCodes}
 use Rattle.ags_image.specs.Image.{PlacedWord, IsMemoryWord, IsImageOf}
 use Rattle.ags_card.specs.Reading.{reading}
 use Rattle.ags_places.specs.Deck.{deck, ends, card_lines}
-use Rattle.ags_places.specs.declared.sources.TheConstants.{SOURCE_LIMIT}
-use Rattle.ags_places.proofs.PlacingLemmas.{lines_of_cards_follow}
 use Rattle.ags_asm.specs.Source.{Defines, placed_words}
 use Rattle.ags_asm.proofs.ApartLemmas.{each_place_once}
 use Rattle.ags_asm.proofs.MeaningLemmas.{one_for_each}
 use Rattle.ags_asm.proofs.MemoryLemmas.{words_of_memory}
-use Rattle.ags_wordlines.specs.Columns.{placed_in}
-use Rattle.ags_wordlines.specs.Fault.{LineFault}
-use Rattle.ags_wordlines.specs.Fault.LineFault.{Misshapen, Twice}
-use Rattle.ags_wordlines.specs.Form.{PutsInMemory}
-use Rattle.ags_wordlines.specs.Lines.{feed_lines}
-use Rattle.ags_wordlines.proofs.ColumnLemmas.{and_left, columns_in_memory}
-use Rattle.ags_wordlines.proofs.MeaningLemmas.{each_means, one_reading}
-use Rattle.ags_wordlines.proofs.ReadLemmas.{read_faultless}
+use Rattle.ags_image.specs.Columns.{placed_in}
+use Rattle.ags_image.specs.Fault.{LineFault}
+use Rattle.ags_image.specs.Fault.LineFault.{Misshapen, Twice}
+use Rattle.ags_image.specs.Form.{PutsInMemory}
+use Rattle.ags_image.specs.Lines.{feed_lines}
+use Rattle.ags_image.proofs.ColumnLemmas.{and_left, columns_in_memory}
+use Rattle.ags_image.proofs.MeaningLemmas.{each_means, one_reading}
+use Rattle.ags_image.proofs.ReadLemmas.{read_faultless}
 use Rattle.ags_listing.specs.declared.list_error.ListError.{ListError}
 use Rattle.ags_listing.specs.declared.list_error.ListError.TheVariants.{BadLine, PlaceTwice, NoMemory}
 use Rattle.ags_listing.specs.Listing.{PrintedCard, IsPrintable, printed_words, printed_from, listing}
@@ -122,12 +120,6 @@ deck_unbroken (line ∷ lines) are = (are.0, by_end (ends (reading line.bytes)) 
 cards_unbroken : (text : List ℕ) → AreUnbroken (card_lines text)
 cards_unbroken text = deck_unbroken (lines_of text) (cut_unbroken 0 text (lines_of text) (lines_are_cut text))
 
--- lines that follow each other in a text are no more than its bytes and one
-follow_few : (text : List ℕ) (from : ℕ) (lines : List LineAt) → Follow text from lines → from ≤ length text + 1 → from + length lines ≤ length text + 1
-follow_few text from [] follow short = omega arith
-follow_few text from (line ∷ lines) (start, lies, others) short =
-    omega (arith, follow_few text (line.start + length line.bytes + 1) lines others (omega (arith, lies.within)))
-
 -- the words of the printed cards are those that were defined
 words_are : (number : ℕ) (lines : List LineAt) (words : List (Option PlacedWord)) → length words ≡ length lines → printed_words (printed_from number lines words) ≡ placed_words words
 words_are number [] [] same = refl
@@ -159,23 +151,22 @@ unfolding AreOfMemory
 others_of_memory None words are = are
 others_of_memory (Some placed) words are = λ other held. are other (suc held.0, omega (arith, held.1), held.2)
 
-printed_printable : (number : ℕ) (lines : List LineAt) (words : List (Option PlacedWord)) → number + length lines ≤ 10 ^ 7 → AreUnbroken lines → AreOfMemory words
+printed_printable : (number : ℕ) (lines : List LineAt) (words : List (Option PlacedWord)) → AreUnbroken lines → AreOfMemory words
     → AllPrintable (printed_from number lines words)
 unfolding AllPrintable AreUnbroken
-printed_printable number [] words few unbroken are = tt
-printed_printable number (line ∷ lines) [] few unbroken are = tt
-printed_printable number (line ∷ lines) (one ∷ words) few unbroken are = (
-  record { numbered = omega (arith, few); within = first_of_memory one words are; unbroken = unbroken.0 },
-  printed_printable (number + 1) lines words (omega (arith, few)) unbroken.1 (others_of_memory one words are),
+printed_printable number [] words unbroken are = tt
+printed_printable number (line ∷ lines) [] unbroken are = tt
+printed_printable number (line ∷ lines) (one ∷ words) unbroken are = (
+  record { within = first_of_memory one words are; unbroken = unbroken.0 },
+  printed_printable (number + 1) lines words unbroken.1 (others_of_memory one words are),
 )
 
-pub written_reads : (codes text : List ℕ) (words : List (Option PlacedWord)) (image : List (Option ℕ)) → AreCodes codes → length text ≤ SOURCE_LIMIT
+pub written_reads : (codes text : List ℕ) (words : List (Option PlacedWord)) (image : List (Option ℕ)) → AreCodes codes
     → Defines codes text words → IsImageOf (placed_words words) image → Reads (listing text words) image
 unfolding listing AreOfMemory
-written_reads codes text words image are short defines filled =
+written_reads codes text words image are defines filled =
     let lines : List LineAt = card_lines text in
     let same = words_are 1 lines words (one_for_each codes text words defines) in
-    let few : length lines ≤ length text + 1 = omega (arith, follow_few text 0 lines (lines_of_cards_follow text) (omega arith)) in
     let printable = all_printable (printed_from 1 lines words)
-    (printed_printable 1 lines words (omega (arith, few, short)) (cards_unbroken text) (words_of_memory codes text words are defines)) in
+    (printed_printable 1 lines words (cards_unbroken text) (words_of_memory codes text words are defines)) in
     printed_reads (printed_from 1 lines words) image printable (rw same (each_place_once codes text words defines)) (rw same filled)

@@ -2,8 +2,8 @@
 use Rattle.std.specs.Prelude.{ℕ, List, [], ◌++◌, codes}
 use Rattle.std.specs.Fmt.{decimal}
 use Rattle.ags_text.specs.Numeral.{octal4_text}
-use Rattle.ags_wordlines.specs.declared.reading.ReadError.{ReadError}
-use Rattle.ags_wordlines.specs.declared.reading.ReadError.TheVariants as read
+use Rattle.ags_image.specs.declared.reading.ReadError.{ReadError}
+use Rattle.ags_image.specs.declared.reading.ReadError.TheVariants as read
 use Rattle.ags_listing.specs.declared.list_error.ListError.{ListError}
 use Rattle.ags_listing.specs.declared.list_error.ListError.TheVariants.{BadLine, PlaceTwice, NoMemory}
 

@@ -1,4 +1,5 @@
 -- what the public contracts cite
+pub mod Limit
 pub mod ErrorText
 pub mod Listing
 pub mod Reads

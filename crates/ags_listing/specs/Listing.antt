@@ -1,11 +1,11 @@
 -- The listing of printed cards, and that of a source.
-use Rattle.std.specs.Prelude.{◌≡◌, ℕ, ◌+◌, ◌≤◌, ◌<◌, ◌^◌, List, [], ◌∷◌, ◌++◌, length, map, Option, Some, None, codes, IfSome}
+use Rattle.std.specs.Prelude.{◌≡◌, ℕ, ◌+◌, ◌≤◌, List, [], ◌∷◌, ◌++◌, length, map, Option, Some, None, codes, IfSome}
 use Rattle.std.specs.List.{filter_map}
 use Rattle.ags_text.specs.Line.{LineAt, HasNoFeed}
 use Rattle.ags_text.specs.Numeral.{decimal7_text, octal4_text, octal6_text}
 use Rattle.ags_image.specs.Image.{PlacedWord, IsMemoryWord}
 use Rattle.ags_places.specs.declared.placed.Placed.{Placed}
-use Rattle.ags_places.specs.declared.sources.TheConstants.{SOURCE_LIMIT}
+use Rattle.ags_places.specs.Limit.{source_limit}
 use Rattle.ags_places.specs.Deck.{card_lines}
 use Rattle.ags_asm.specs.Source.{AreSpans, defined, placed_cards}
 
@@ -37,9 +37,8 @@ listing_text (card ∷ cards) = listing_line card ++ listing_text cards
 abbrev pub printed_words : List PrintedCard → List PlacedWord
 printed_words cards = filter_map (λ card. card.placed) cards
 
--- a card can be printed: its number fits its seven digits, its word is one of the memory, and its text has no line feed
+-- a card can be printed on a line: its word is one of the memory, and its text has no line feed
 pub record IsPrintable (card : PrintedCard) : Type 0 where
-  pub numbered : card.number < 10 ^ 7
   pub within : IfSome card.placed IsMemoryWord
   pub unbroken : HasNoFeed card.text
 
@@ -58,6 +57,6 @@ listing text defined = listing_text (printed_from 1 (card_lines text) defined)
 
 -- The cards are those of the source's lines, which is within its limit.
 pub record AreCardsOf (bytes : List ℕ) (placed : List Placed) : Type 0 where
-  pub short : length bytes ≤ SOURCE_LIMIT
+  pub short : length bytes ≤ source_limit
   pub spans : AreSpans 0 (length bytes) placed
   pub cards_are : placed ≡ placed_cards (card_lines bytes) (map defined placed)

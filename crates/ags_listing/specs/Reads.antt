@@ -2,11 +2,11 @@
 use Rattle.std.specs.Prelude.{◌≡◌, ℕ, Bool, ◌&&◌, ◌==◌, nat_lt, List, length, take, drop, slice_index, Option, Some, None, if◌then◌else◌}
 use Rattle.std.specs.List.{list_all}
 use Rattle.ags_image.specs.Image.{PlacedWord}
-use Rattle.ags_wordlines.specs.Columns.{placed_in}
-use Rattle.ags_wordlines.specs.Fault.{first_line_fault}
-use Rattle.ags_wordlines.specs.Fault.LineFault.{Misshapen, Twice}
-use Rattle.ags_wordlines.specs.Form.{Form, ReadBy}
-use Rattle.ags_wordlines.specs.Lines.{feed_lines}
+use Rattle.ags_image.specs.Columns.{placed_in}
+use Rattle.ags_image.specs.Fault.{first_line_fault}
+use Rattle.ags_image.specs.Fault.LineFault.{Misshapen, Twice}
+use Rattle.ags_image.specs.Form.{Form, ReadBy}
+use Rattle.ags_image.specs.Lines.{feed_lines}
 use Rattle.ags_listing.specs.declared.list_error.ListError.{ListError}
 use Rattle.ags_listing.specs.declared.list_error.ListError.TheVariants.{BadLine, PlaceTwice, NoMemory}
 

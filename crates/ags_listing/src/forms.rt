@@ -2,11 +2,11 @@
 
 ghost use Rattle.std.specs.Prelude.{◌≡◌, ◌≤◌, length, true};
 ghost use Rattle.std.specs.List.{list_all};
-ghost use Rattle.ags_wordlines.specs.Form.{entry_of, IsInMemory};
+ghost use Rattle.ags_image.specs.Form.{entry_of, IsInMemory};
 ghost use Rattle.ags_listing.specs.Reads.{is_digit, is_space, is_ruled, said};
 
+use ags_image::{LineForm, read_columns};
 use ags_word::Word;
-use ags_wordlines::{LineForm, read_columns};
 
 /// A listing: a line puts its card's word at its place, where the card has one.
 pub(crate) struct Listing;

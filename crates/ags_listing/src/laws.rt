@@ -1,11 +1,10 @@
 //! The laws that join the text of a listing and its reader. Behind each clause is a lemma of `proofs/`.
 
-ghost use Rattle.std.specs.Prelude.{◌≡◌, ◌≤◌, ◌⊎◌, ℕ, List, Option, length};
+ghost use Rattle.std.specs.Prelude.{◌≡◌, ◌⊎◌, ℕ, List, Option};
 ghost use Rattle.std.specs.List.{All};
 ghost use Rattle.ags_isa.specs.Code.{AreCodes};
 ghost use Rattle.ags_image.specs.Image.{EachPlaceOnce, IsImageOf, PlacedWord};
 ghost use Rattle.ags_asm.specs.Source.{Defines, placed_words};
-ghost use Rattle.ags_places.specs.declared.sources.TheConstants.{SOURCE_LIMIT};
 ghost use Rattle.ags_listing.specs.Listing.{PrintedCard, IsPrintable, listing, listing_text, printed_words};
 ghost use Rattle.ags_listing.specs.Reads.{Reads, IsFaultyListing};
 ghost use Rattle.ags_listing.specs.declared.list_error.ListError.{ListError};
@@ -16,11 +15,10 @@ pub fn printed_listing_reads_back()
         → IsImageOf (printed_words cards) image → Reads (listing_text cards) image }
 {}
 
-/// The listing of a source, within its limit, reads back as exactly the words that the source defines.
+/// The listing of a source reads back as exactly the words that the source defines.
 pub fn written_listing_reads_back()
     ensures { (codes text : List ℕ) (words : List (Option PlacedWord)) (image : List (Option ℕ)) → AreCodes codes
-        → length text ≤ SOURCE_LIMIT → Defines codes text words → IsImageOf (placed_words words) image
-        → Reads (listing text words) image }
+        → Defines codes text words → IsImageOf (placed_words words) image → Reads (listing text words) image }
 {}
 
 /// A text is the listing of one image, or it has one first fault, and never both.

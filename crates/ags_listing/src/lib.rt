@@ -1,5 +1,5 @@
 //! Listings: the writer of a source's listing, and the reader of listings (docs/SOURCE.md, Listing). It stands on
-//! `ags_asm` for sources, on `ags_wordlines` for texts whose lines put words at places, and on `ags_outside` for where
+//! `ags_asm` for sources, on `ags_image` for texts whose lines put words at places, and on `ags_outside` for where
 //! a listing is written to. The text of a listing and what the bytes of one read as are defined apart in `specs/`, and
 //! a law joins them: a written listing reads back as the words that its source defines.
 #![tactic(auto)]

@@ -3,12 +3,11 @@
 ghost use Rattle.std.specs.Prelude.{◌≡◌, ◌≤◌, length, IfOk, IfErr};
 ghost use Rattle.ags_listing.specs.ErrorText.{list_error};
 ghost use Rattle.ags_listing.specs.Reads.{Reads, IsListingFault};
-ghost use Rattle.ags_listing.specs.declared.reading.TheConstants.{LISTING_LIMIT};
+ghost use Rattle.ags_listing.specs.Limit.{listing_limit};
 
 use crate::forms::Listing;
 use crate::list_error::ListError;
-use ags_image::Image;
-use ags_wordlines::{ReadError, read_image};
+use ags_image::{Image, ReadError, read_image};
 use std::alloc::Global;
 
 /// How many bytes a listing may have, at most.
@@ -28,7 +27,7 @@ fn list_error(error: ReadError) -> ListError
 /// Reads the words of a listing, or tells its first fault (docs/SOURCE.md, Listing). Its lines end at line feeds alone, and
 /// the last line feed may be missing.
 pub fn read(alloc: Global, bytes: &[u8]) -> Result<Image, ListError>
-    requires { length bytes.now ≤ LISTING_LIMIT }
+    requires { length bytes.now ≤ listing_limit }
     ensures image { IfOk result (Reads bytes.now) }
     ensures fault { IfErr result (IsListingFault bytes.now) }
 {

@@ -7,7 +7,7 @@ ghost use Rattle.ags_outside.specs.Sink.{appended, WroteFront};
 ghost use Rattle.ags_asm.specs.Source.{AreSpans, defined};
 ghost use Rattle.ags_listing.specs.Listing.{AreCardsOf, columns, listing};
 ghost use Rattle.ags_listing.specs.PlacedListing.{placed_line, placed_listing};
-ghost use Rattle.ags_places.specs.declared.sources.TheConstants.{SOURCE_LIMIT};
+ghost use Rattle.ags_places.specs.Limit.{source_limit};
 
 use ags_asm::{Assembled, Placed};
 use ags_outside::{SendError, Sink, send};
@@ -75,7 +75,7 @@ fn send_cards<K: Sink>(
     placed: &[Placed],
     out: &mut K,
 ) -> Result<(), SendError>
-    requires short { length source.now ≤ SOURCE_LIMIT }
+    requires short { length source.now ≤ source_limit }
     requires spans { AreSpans 0 (length source.now) placed.now }
     ensures sent { OnOk result (K.told out.new ≡ appended (K.told out.old) (placed_listing source.now 1 placed.now)) }
     ensures front { OnErr result (WroteFront (K.told out.old) (K.told out.new) (placed_listing source.now 1 placed.now)) }

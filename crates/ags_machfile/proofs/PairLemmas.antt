@@ -1,16 +1,23 @@
 -- The first pair of orders with one code: it is one, and the least of all.
 use Rattle.std.proofs.Common.{◌≡◌, ◌≢◌, ℕ, zero, suc, ◌<◌, ◌≤◌, ◌==◌, true, false, List, [], ◌∷◌, length, get_or, refl, sym, ap, subst, ◌∙◌, inl, inr, arith}
-use Rattle.std.specs.Prelude.{Option, Some, None, option_map}
-use Rattle.std.specs.Option.{option_or}
+use Rattle.std.specs.Prelude.{Option, Some, None, option_map, Result, Ok, Err}
+use Rattle.std.specs.Option.{ok_or, option_or}
 use Rattle.std.proofs.lemmas.Bool.{cases_Bool, cases_lt}
 use Rattle.std.proofs.lemmas.Bool.Decides.{nat_tests}
 use Rattle.ags_isa.specs.declared.orders.Order.{Order}
 use Rattle.ags_isa.specs.declared.orders.Order.TheVariants.{Abs}
-use Rattle.ags_isa.specs.Order.{all_orders, order_number}
+use Rattle.ags_isa.specs.Order.{all_orders, order_name, order_number}
 use Rattle.ags_isa.specs.Code.{code_of}
-use Rattle.ags_isa.proofs.OrderLemmas.{order_at_number, order_number-below, number_at}
-use Rattle.ags_machfile.specs.OrderTable.{order_with_code_of, first_pair, shared_pair}
+use Rattle.ags_isa.proofs.OrderLemmas.{order_at_number, order_number-below, order_number-injective, number_at}
+use Rattle.toml.specs.Data.{Data, Members, get_member, as_table}
+use Rattle.ags_machfile.specs.declared.keys.Key.{Key}
+use Rattle.ags_machfile.specs.declared.keys.Key.TheVariants.{Codes, Code}
+use Rattle.ags_machfile.specs.declared.mach_error.MachError.{MachError}
+use Rattle.ags_machfile.specs.declared.mach_error.MachError.TheVariants.{BadValue, SameCode}
+use Rattle.ags_machfile.specs.Value.{◌>>=◌}
+use Rattle.ags_machfile.specs.OrderTable.{code_given, code_entry, codes_in, first_pair, number_at as number_given, order_numbers, order_with_code_of, shared_pair, unshared}
 use Rattle.ags_machfile.specs.Rule.{IsPair, IsFirstPair}
+use Rattle.ags_machfile.proofs.NumbersLemmas.{all_numbers-err}
 use Rattle.ags_machfile.proofs.TableLemmas.{unfound, unpaired}
 
 some_same : {A : Type 0} (x y : A) → Some x ≡ Some y → x ≡ y
@@ -152,3 +159,69 @@ unfolding shared_pair
 shared_pair-none table none order other is =
     unpaired table all_orders none (order_number order) (order_number other) Abs is.before (order_number-below other)
     (rw (order_at_number order Abs, order_at_number other Abs) is.same)
+
+-- ---- what is so is told
+
+pub none-shared_pair : (table : List ℕ) → ((order other : Order) → ¬ IsPair table order other) → shared_pair table ≡ None
+none-shared_pair table none = by_pair (shared_pair table) refl
+  where
+    by_pair : (found : Option (Order × Order)) → shared_pair table ≡ found → shared_pair table ≡ None
+    by_pair None is = is
+    by_pair (Some pair) is = absurd (none pair.0 pair.1 (shared_pair-first table pair is).pair)
+
+-- there is one least pair
+one_pair : (table : List ℕ) (first second one other : Order) → IsFirstPair table first second → IsFirstPair table one other → (first ≡ one) × (second ≡ other)
+one_pair table first second one other is too =
+    let firsts : first ≡ one = order_number-injective first one (omega (arith, is.least_first one other too.pair, too.least_first first second is.pair)) in
+    let mine : IsPair table one second = subst (λ (o : Order). IsPair table o second) firsts is.pair in
+    let theirs : IsPair table first other = subst (λ (o : Order). IsPair table o other) (sym firsts) too.pair in
+    (firsts, order_number-injective second other (omega (arith, is.least_second other theirs, too.least_second second mine)))
+
+pub first-shared_pair : (table : List ℕ) (first second : Order) → IsFirstPair table first second → shared_pair table ≡ Some (first, second)
+first-shared_pair table first second least = by_pair (shared_pair table) refl
+  where
+    by_pair : (found : Option (Order × Order)) → shared_pair table ≡ found → shared_pair table ≡ Some (first, second)
+    by_pair None is = absurd (shared_pair-none table is first second least.pair)
+    by_pair (Some pair) is =
+        let same = one_pair table pair.0 pair.1 first second (shared_pair-first table pair is) least in
+        is ∙ ap (λ (o : Order). Some (o, pair.1)) same.0 ∙ ap (λ (o : Order). Some (first, o)) same.1
+
+-- ---- what a file's codes are refused for
+
+-- what an entry gives is no shared code
+entry_alone : (which : Key) (found : Option Data) (first second : Order) → number_given code_given which found ≡ Err (SameCode first second) → ⊥
+entry_alone which None first second is = absurd cc
+entry_alone which (Some value) first second is = by_given (code_given value) is
+  where
+    by_given : (given : Option ℕ) → ok_or given (BadValue which) ≡ Err (SameCode first second) → ⊥
+    by_given None is = absurd cc
+    by_given (Some code) is = absurd cc
+
+numbers_alone : (members : Option Members) (first second : Order) → order_numbers Codes code_entry members ≡ Err (SameCode first second) → ⊥
+numbers_alone None first second is = absurd cc
+numbers_alone (Some members) first second is =
+    let fault = all_numbers-err (code_entry members) (SameCode first second) is in
+    entry_alone (Code fault.order) (get_member (order_name fault.order) members) first second fault.fails
+
+pub codes_in-shared : (value : Data) (first second : Order) → codes_in (Some value) ≡ Err (SameCode first second)
+    → (table : List ℕ) × (order_numbers Codes code_entry (as_table value) ≡ Ok table) × IsFirstPair table first second
+codes_in-shared value first second is = by_numbers (order_numbers Codes code_entry (as_table value)) refl is
+  where
+    by_pair : (table : List ℕ) (found : Option (Order × Order)) → shared_pair table ≡ found → unshared table found ≡ Err (SameCode first second) → IsFirstPair table first second
+    by_pair table None found_is told = absurd cc
+    by_pair table (Some pair) found_is told =
+        let same : SameCode pair.0 pair.1 ≡ SameCode first second = cc in
+        let one : pair.0 ≡ first = cc in
+        let two : pair.1 ≡ second = cc in
+        subst (λ (o : Order). IsFirstPair table o second) one (subst (λ (o : Order). IsFirstPair table pair.0 o) two (shared_pair-first table pair found_is))
+
+    by_numbers : (numbers : Result (List ℕ) MachError) → order_numbers Codes code_entry (as_table value) ≡ numbers
+        → (numbers >>= (λ table. unshared table (shared_pair table))) ≡ Err (SameCode first second)
+        → (table : List ℕ) × (order_numbers Codes code_entry (as_table value) ≡ Ok table) × IsFirstPair table first second
+    by_numbers (Ok table) numbers told = (table, numbers, by_pair table (shared_pair table) refl told)
+    by_numbers (Err fault) numbers told = absurd (numbers_alone (as_table value) first second (numbers ∙ told))
+
+pub shared-codes_in : (value : Data) (first second : Order) (table : List ℕ) → order_numbers Codes code_entry (as_table value) ≡ Ok table → IsFirstPair table first second
+    → codes_in (Some value) ≡ Err (SameCode first second)
+shared-codes_in value first second table numbers least =
+    ap (λ (r : Result (List ℕ) MachError). r >>= (λ table. unshared table (shared_pair table))) numbers ∙ ap (unshared table) (first-shared_pair table first second least)

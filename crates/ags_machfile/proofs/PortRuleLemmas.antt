@@ -4,7 +4,7 @@ use Rattle.std.specs.Prelude.{Result, Ok, Err, Option, Some, None, ⊤, Any, opt
 use Rattle.std.proofs.lemmas.Bool.{cases_Bool}
 use Rattle.std.proofs.lemmas.Bool.Decides.{nat_tests}
 use Rattle.std.proofs.lemmas.List.{length-append}
-use Rattle.std.proofs.lemmas.List.Folds.{Any-from_list_any}
+use Rattle.std.proofs.lemmas.List.Folds.{Any-from_list_any, list_any-from_Any}
 use Rattle.std.proofs.lemmas.List.Quantifiers.{all_pairs_push}
 use Rattle.toml.specs.Data.{Data, boolean, Members, Items, as_table, as_array, as_integer, get_member}
 use Rattle.ags_ports.specs.declared.registers.Port.{Port}
@@ -187,6 +187,104 @@ ports_behind-err direction entries fault is =
       };
       fails = bad.fails;
     }
+
+-- ---- what is so is told
+
+-- an entry of the list by its place
+give_from : (direction : Direction) (position : ℕ) (entries : List Data) (ports : List Port) → length ports ≡ length entries
+    → ((k : ℕ) (entry : Data) (port : Port) → k < length entries → entry_port direction (position + k) (as_table (get_or entries k entry)) ≡ Ok (get_or ports k port))
+    → PortsGive direction position entries ports
+give_from direction position [] [] same each = tt
+give_from direction position [] (port ∷ ports) same each = absurd (omega (arith, same))
+give_from direction position (entry ∷ entries) [] same each = absurd (omega (arith, same))
+give_from direction position (entry ∷ entries) (port ∷ ports) same each =
+    let first : position + 0 ≡ position = omega arith in (
+      rw first at (each 0 entry port (omega arith)),
+      give_from direction (position + 1) entries ports (omega (arith, same))
+          (λ k e p within. let next : position + suc k ≡ position + 1 + k = omega arith in rw next at (each (suc k) e p (omega (arith, within)))),
+    )
+
+are_give : (direction : Direction) (entries : List Data) (ports : List Port) → ArePorts direction entries ports → PortsGive direction 0 entries ports
+are_give direction entries ports are =
+    give_from direction 0 entries ports are.count (λ k entry port within. let at : 0 + k ≡ k = omega arith in rw at (are.each k entry port within))
+
+-- where no two have one address, none has that of a later one
+differ_rest : (port : Port) (ports : List Port) → Differ (port ∷ ports) → Differ ports
+differ_rest port ports differ i j d before within = differ (suc i) (suc j) d (omega (arith, before)) (omega (arith, within))
+
+at_length : (earlier : List Port) (port d : Port) (more : List Port) → get_or (earlier ++ port ∷ more) (length earlier) d ≡ port
+at_length [] port d more = refl
+at_length (first ∷ earlier) port d more = at_length earlier port d more
+
+alone : (m n : ℕ) → m ≢ n → (m == n) ≡ false
+alone m n apart = grind (arith, nat_tests, apart)
+
+unlike_later : (earlier : List Port) (port : Port) (more : List Port) → Differ (earlier ++ port ∷ more) → has_address earlier port.address ≡ false
+unlike_later [] port more differ = refl
+unlike_later (first ∷ earlier) port more differ =
+    let apart : first.address ≢ port.address =
+    λ same. differ 0 (suc (length earlier)) port (omega arith) (omega (arith, length-append earlier (port ∷ more))) (same ∙ ap (λ (p : Port). p.address) (sym (at_length earlier port port more))) in
+    rw (alone first.address port.address apart, unlike_later earlier port more (differ_rest first (earlier ++ port ∷ more) differ)) refl
+
+regroup : (earlier : List Port) (port : Port) (more : List Port) → (earlier ++ port ∷ []) ++ more ≡ earlier ++ port ∷ more
+regroup earlier port more = append_assoc earlier (port ∷ []) more
+
+-- an entry that gives a register of an address that no earlier one has
+one_further : (direction : Direction) (earlier : List Port) (entry : Data) (entries : List Data) (port : Port) → entry_port direction (length earlier) (as_table entry) ≡ Ok port
+    → has_address earlier port.address ≡ false → ports_behind direction earlier (entry ∷ entries) ≡ ports_behind direction (earlier ++ port ∷ []) entries
+one_further direction earlier entry entries port here unlike = rw (here, unlike) refl
+
+next_give : (direction : Direction) (earlier : List Port) (port : Port) (entries : List Data) (more : List Port) → PortsGive direction (length earlier + 1) entries more
+    → PortsGive direction (length (earlier ++ port ∷ [])) entries more
+next_give direction earlier port entries more give =
+    let P : ℕ → Type 0 = λ n. PortsGive direction n entries more in
+    subst P (sym (length-append earlier (port ∷ []))) give
+
+give_ok : (direction : Direction) (earlier : List Port) (entries : List Data) (more : List Port) → PortsGive direction (length earlier) entries more → Differ (earlier ++ more)
+    → ports_behind direction earlier entries ≡ Ok (earlier ++ more)
+give_ok direction earlier [] [] give differ = ap Ok (append-nil earlier)
+give_ok direction earlier [] (port ∷ more) give differ = absurd give
+give_ok direction earlier (entry ∷ entries) [] give differ = absurd give
+give_ok direction earlier (entry ∷ entries) (port ∷ more) give differ =
+    let P : List Port → Type 0 = λ ps. Differ ps in
+    one_further direction earlier entry entries port give.0 (unlike_later earlier port more differ)
+    ∙ give_ok direction (earlier ++ port ∷ []) entries more (next_give direction earlier port entries more give.1) (subst P (sym (regroup earlier port more)) differ)
+    ∙ ap Ok (regroup earlier port more)
+
+pub ok-ports_behind : (direction : Direction) (entries : List Data) (ports : List Port) → ArePorts direction entries ports → ports_behind direction [] entries ≡ Ok ports
+ok-ports_behind direction entries ports are = give_ok direction [] entries ports (are_give direction entries ports are) are.distinct
+
+-- a bad entry
+fails_here : (direction : Direction) (earlier : List Port) (entry : Data) (entries : List Data) (fault : MachError) → Fails direction earlier entry fault
+    → ports_behind direction earlier (entry ∷ entries) ≡ Err fault
+fails_here direction earlier entry entries fault (inl own) = rw own refl
+fails_here direction earlier entry entries fault (inr (port, here, (k, other, within, stands, same), is)) =
+    let tested : (other.address == port.address) ≡ true = same_test other.address port.address same in
+    let taken : has_address earlier port.address ≡ true = list_any-from_Any (λ (other : Port). other.address == port.address) earlier (k, other, within, stands, tested) in
+    rw (here, taken, is) refl
+  where
+    same_test : (m n : ℕ) → m ≡ n → (m == n) ≡ true
+    same_test m n same = grind (arith, nat_tests, same)
+
+give_err : (direction : Direction) (earlier : List Port) (entries : List Data) (place : ℕ) (more : List Port) (fault : MachError) → place < length entries
+    → PortsGive direction (length earlier) (take place entries) more → Differ (earlier ++ more) → ((e : Data) → Fails direction (earlier ++ more) (get_or entries place e) fault)
+    → ports_behind direction earlier entries ≡ Err fault
+give_err direction earlier [] place more fault within give differ fails = absurd (omega (arith, within))
+give_err direction earlier (entry ∷ entries) zero [] fault within give differ fails =
+    let P : List Port → Type 0 = λ ps. Fails direction ps entry fault in
+    fails_here direction earlier entry entries fault (subst P (sym (append-nil earlier)) (fails entry))
+give_err direction earlier (entry ∷ entries) zero (port ∷ more) fault within give differ fails = absurd give
+give_err direction earlier (entry ∷ entries) (suc place) [] fault within give differ fails = absurd give
+give_err direction earlier (entry ∷ entries) (suc place) (port ∷ more) fault within give differ fails =
+    let P : List Port → Type 0 = λ ps. Differ ps in
+    one_further direction earlier entry entries port give.0 (unlike_later earlier port more differ)
+    ∙ give_err direction (earlier ++ port ∷ []) entries place more fault (omega (arith, within))
+    (next_give direction earlier port (take place entries) more give.1) (subst P (sym (regroup earlier port more)) differ)
+    (λ e. let Q : List Port → Type 0 = λ ps. Fails direction ps (get_or entries place e) fault in subst Q (sym (regroup earlier port more)) (fails e))
+
+pub err-ports_behind : (direction : Direction) (entries : List Data) (fault : MachError) → IsFirstBadEntry direction entries fault → ports_behind direction [] entries ≡ Err fault
+err-ports_behind direction entries fault bad =
+    give_err direction [] entries bad.position bad.earlier fault bad.within (are_give direction (take bad.position entries) bad.earlier bad.before) bad.before.distinct bad.fails
 
 -- ---- registers
 

@@ -1,4 +1,5 @@
 -- what the public contracts cite
+pub mod Limit
 pub mod Value
 pub mod OrderTable
 pub mod PortTable

@@ -4,17 +4,18 @@
 
 ghost use Rattle.std.specs.Prelude.{◌≡◌, ◌≢◌, ◌↔◌, ℕ, Bool, List, [], Option, Some, None, Result, Ok, Err, IsUtf8};
 ghost use Rattle.std.specs.Result.{result_err};
-ghost use Rattle.toml.specs.Data.{Data, Members, no_members};
+ghost use Rattle.toml.specs.Data.{Data, Members, as_table, no_members};
 ghost use Rattle.toml.specs.Parse.{parse_document};
 ghost use Rattle.ags_isa.specs.declared.orders.Order.{Order};
 ghost use Rattle.ags_ports.specs.declared.machines.Machine.{Machine};
 ghost use Rattle.ags_ports.specs.declared.registers.Port.{Port};
 ghost use Rattle.ags_ports.specs.Machine.{IsMachine, standard_machine};
 ghost use Rattle.ags_machfile.specs.declared.keys.Key.{Key};
+ghost use Rattle.ags_machfile.specs.declared.keys.Key.TheVariants.{Codes};
 ghost use Rattle.ags_machfile.specs.declared.mach_error.MachError.{MachError};
-ghost use Rattle.ags_machfile.specs.declared.mach_error.MachError.TheVariants.{NotToml, MissingKey, BadValue, NoMemory};
+ghost use Rattle.ags_machfile.specs.declared.mach_error.MachError.TheVariants.{NotToml, MissingKey, BadValue, SameCode, NoMemory};
 ghost use Rattle.ags_machfile.specs.declared.port_tables.Direction.{Direction};
-ghost use Rattle.ags_machfile.specs.OrderTable.{all_numbers, shared_pair};
+ghost use Rattle.ags_machfile.specs.OrderTable.{all_numbers, code_entry, codes_in, order_numbers, shared_pair};
 ghost use Rattle.ags_machfile.specs.PortTable.{port_with, ports_behind};
 ghost use Rattle.ags_machfile.specs.MachineFile.{machine_in, machine_of};
 ghost use Rattle.ags_machfile.specs.Rule.{AreNumbers, IsFirstFault, IsPair, IsFirstPair, ArePorts, IsFirstBadEntry, GivesMachine, part_faults, first_of};
@@ -28,11 +29,14 @@ pub fn table_gives_each_order_its_number()
         → (all_numbers entry ≡ Err fault) ↔ IsFirstFault entry fault }
 {}
 
-/// The orders that are told to share a code do, and no pair that does has a lesser first order, or with that one a lesser
-/// second. Where none are told, no two orders share a code.
+/// Orders are told to share a code exactly where they do and no pair that does has a lesser first order, or with that one a lesser
+/// second; none are told exactly where no two orders share a code. So a file's codes are refused for a shared one exactly where its
+/// table gives all orders their codes and that is the first pair.
 pub fn shared_code_is_told_by_the_first_pair()
-    ensures first { (table : List ℕ) (pair : Order × Order) → shared_pair table ≡ Some pair → IsFirstPair table pair.0 pair.1 }
-    ensures none { (table : List ℕ) → shared_pair table ≡ None → (order other : Order) → ¬ IsPair table order other }
+    ensures first { (table : List ℕ) (first second : Order) → (shared_pair table ≡ Some (first, second)) ↔ IsFirstPair table first second }
+    ensures none { (table : List ℕ) → (shared_pair table ≡ None) ↔ ((order other : Order) → ¬ IsPair table order other) }
+    ensures file { (value : Data) (first second : Order) → (codes_in (Some value) ≡ Err (SameCode first second))
+        ↔ ((table : List ℕ) × (order_numbers Codes code_entry (as_table value) ≡ Ok table) × IsFirstPair table first second) }
 {}
 
 /// A wrong value of an entry is told before a missing address.
@@ -42,13 +46,13 @@ pub fn wrong_value_is_told_before_a_missing_address()
     ensures missing { (which : Key) (once : Bool) → port_with which None (Some once) ≡ Err (MissingKey which) }
 {}
 
-/// An array gives registers only where each entry gives its own and no two have one address, and these are they; it has a
-/// fault only where an entry has one, its own or the address of an earlier one, and all entries before it have registers.
+/// An array gives registers exactly where each entry gives its own and no two have one address, and these are they; it has a
+/// fault exactly where an entry has one, its own or the address of an earlier one, and all entries before it have registers.
 pub fn array_gives_each_entry_its_register()
     ensures ports { (direction : Direction) (entries : List Data) (ports : List Port)
-        → ports_behind direction [] entries ≡ Ok ports → ArePorts direction entries ports }
+        → (ports_behind direction [] entries ≡ Ok ports) ↔ ArePorts direction entries ports }
     ensures fault { (direction : Direction) (entries : List Data) (fault : MachError)
-        → ports_behind direction [] entries ≡ Err fault → IsFirstBadEntry direction entries fault }
+        → (ports_behind direction [] entries ≡ Err fault) ↔ IsFirstBadEntry direction entries fault }
 {}
 
 /// A document gives a machine exactly where each of its parts gives its part of it; and its fault is the first of its

@@ -11,15 +11,12 @@ ghost use Rattle.ags_machfile.specs.PortTable.{direction_key, entry_key, once_gi
 use crate::keys::Key;
 use crate::mach_error::MachError;
 use crate::values::{address_given, value_at};
-use ags_ports::{Port, Ports};
+use ags_ports::{MOST_REGISTERS, Port, Ports};
 use arrayvec::ArrayVec;
 use toml::{Table, Value};
 
-/// How many registers there are at most in one direction.
-const MOST: usize = 32;
-
 /// The registers of one direction.
-type PortList = ArrayVec<Port, 32>;
+type PortList = ArrayVec<Port, MOST_REGISTERS>;
 
 /// A direction of registers.
 #[derive(Clone, Copy)]
@@ -97,7 +94,7 @@ impl Direction {
         let Some(array) = value.as_array() else {
             return Err(MachError::BadValue { which: self.key() });
         };
-        if array.len() > MOST {
+        if array.len() > MOST_REGISTERS {
             return Err(MachError::BadValue { which: self.key() });
         }
         self.ports_listed(array.as_slice())

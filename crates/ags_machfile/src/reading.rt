@@ -4,6 +4,7 @@ ghost use Rattle.std.specs.Prelude.{◌≡◌, ◌≤◌, length, IfOk, IfErr, O
 ghost use Rattle.toml.specs.View.{table_view};
 ghost use Rattle.ags_ports.specs.Machine.{IsMachine};
 ghost use Rattle.ags_machfile.specs.MachineFile.{machine_in, machine_of, IsRefused};
+ghost use Rattle.ags_machfile.specs.Limit.{machine_limit};
 
 use crate::code_tables::codes_in;
 use crate::keys::Key;
@@ -23,7 +24,7 @@ pub const MACHINE_LIMIT: usize = 65_536;
 /// times, registers and addresses that the file doesn't give are those of the standard machine. `NoMemory` may come at
 /// any file, and says nothing of it.
 pub fn read(alloc: Global, bytes: &[u8]) -> Result<Machine, MachError>
-    requires { length bytes.now ≤ MACHINE_LIMIT }
+    requires { length bytes.now ≤ machine_limit }
     ensures ready { IfOk result (λ machine. machine_of bytes.now ≡ Ok machine) }
     ensures tables { IfOk result IsMachine }
     ensures refused { IfErr result (IsRefused bytes.now) }

@@ -8,10 +8,8 @@ ghost use Rattle.ags_machfile.specs.MachineFile.{address_in};
 
 use crate::keys::Key;
 use crate::mach_error::MachError;
+use ags_word::LOCATIONS;
 use toml::{Table, Value};
-
-/// The greatest address.
-const LAST_ADDRESS: u32 = 4095;
 
 /// The value at a key of a table.
 pub(crate) fn value_at<'a>(table: &'a Table, key: &str) -> Option<&'a Value>
@@ -39,7 +37,7 @@ pub(crate) fn address_given(value: &Value) -> Option<u16>
     ensures address { result ≡ address_given (view value.now) }
     ensures below { IfSome result (λ address. address < 4096) }
 {
-    let address = whole_number(value, 0, LAST_ADDRESS)?;
+    let address = whole_number(value, 0, u32::from(LOCATIONS) - 1)?;
     Some(address as u16)
 }
 

@@ -6,7 +6,7 @@ ghost use Rattle.ags_ports.specs.State.{IsState};
 use crate::common::word;
 use ags_core::Core;
 use ags_image::Image;
-use ags_ports::{Event, Machine, Report, Stored};
+use ags_ports::{Done, Event, Machine, Stored};
 use std::alloc::Global;
 use std::process::Abort;
 
@@ -30,8 +30,8 @@ fn loaded(
 }
 
 /// The report of an order that ran, and did nothing that is told.
-fn ran(rt: &impl Abort, location: u16, number: u32) -> Report {
-    Report {
+fn ran(rt: &impl Abort, location: u16, number: u32) -> Done {
+    Done {
         ran: true,
         location,
         word: word(rt, number),
@@ -51,7 +51,7 @@ fn number_at(rt: &impl Abort, address: u16, number: u32) -> Option<Stored> {
 }
 
 /// Expects what one event is told to do.
-fn expect(rt: &impl Abort, machine: &Machine, core: &mut Core, event: Event, wanted: Report)
+fn expect(rt: &impl Abort, machine: &Machine, core: &mut Core, event: Event, wanted: Done)
     requires inputs { length core.old.inputs ≡ length machine.now.ports.inputs }
     requires outputs { length core.old.outputs ≡ length machine.now.ports.outputs }
     ensures inputs { length core.new.inputs ≡ length core.old.inputs }
@@ -72,7 +72,7 @@ enum Told {
 }
 
 /// The report of an order that ran, where what is stored or given is 400000.
-fn report(rt: &impl Abort, order: (u16, u32), told: Told) -> Report {
+fn report(rt: &impl Abort, order: (u16, u32), told: Told) -> Done {
     let mut report = ran(rt, order.0, order.1);
     match told {
         Told::Nothing => {}
@@ -140,8 +140,8 @@ const CELLS: [(u16, u32); 12] = [
 ];
 
 /// The report of an event that runs no order at a location with this word.
-fn idle(rt: &impl Abort, location: u16, number: u32) -> Report {
-    Report {
+fn idle(rt: &impl Abort, location: u16, number: u32) -> Done {
+    Done {
         ran: false,
         ..ran(rt, location, number)
     }

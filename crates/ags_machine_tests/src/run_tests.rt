@@ -2,9 +2,10 @@
 
 ghost use Rattle.std.specs.Prelude.{◌≤◌, length, None};
 ghost use Rattle.ags_script.specs.Script.{IsReadFor};
+ghost use Rattle.ags_script.specs.Limit.{script_limit};
 
 use crate::common::{expect_same, word};
-use ags_cert::{Cert, CertParts};
+use ags_certtype::{Cert, CertParts};
 use ags_domain::{Domain, Range, Value};
 use ags_image::Image;
 use ags_outside::{PutDone, Sink, SteadySink};
@@ -17,7 +18,7 @@ use std::process::Abort;
 
 /// The script of a text for a machine.
 fn script_of(rt: &impl Abort, alloc: Global, text: &str, machine: &Machine) -> Script
-    requires { length text.now ≤ SCRIPT_LIMIT }
+    requires { length text.now ≤ script_limit }
     ensures { IsReadFor machine.now result }
 {
     read(alloc, text.as_bytes(), machine)

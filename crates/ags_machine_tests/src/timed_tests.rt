@@ -5,7 +5,7 @@ ghost use Rattle.ags_ports.specs.State.{IsState};
 use crate::common::{expect_same, word};
 use ags_core::Core;
 use ags_image::Image;
-use ags_ports::{Machine, Phase, Report};
+use ags_ports::{Done, Machine, Phase};
 use ags_timed::{Watcher, laws, run_for};
 use std::alloc::Global;
 use std::process::Abort;
@@ -26,7 +26,7 @@ impl Watcher for Counter {
 
     ghost looks = { λ _ _ _. ⊤ };
 
-    fn saw(&mut self, report: &Report) {
+    fn saw(&mut self, report: &Done) {
         self.steps = self.steps.wrapping_add(1);
         if report.ran {
             self.ran = self.ran.wrapping_add(1);

@@ -1,5 +1,6 @@
 -- The cards of a source: its lines up to the first END, and what each of them is read as.
-use Rattle.std.specs.Prelude.{ℕ, Bool, true, false, if◌then◌else◌, List, [], ◌∷◌, Result, Ok, Err, None, map}
+use Rattle.std.specs.Prelude.{◌≡◌, ◌⊎◌, ℕ, Bool, true, false, if◌then◌else◌, List, [], ◌∷◌, ◌++◌, Result, Ok, Err, None, map}
+use Rattle.std.specs.List.{All}
 use Rattle.ags_text.specs.Line.{LineAt, lines_of}
 use Rattle.ags_card.specs.declared.cards.Body.{Body}
 use Rattle.ags_card.specs.declared.cards.Body.TheVariants.{Comment, Order, Org, Equ, Bss, Dec, Oct, End}
@@ -27,6 +28,20 @@ ends (Err fault) = false
 unfoldable pub deck : List LineAt → List LineAt
 deck [] = []
 deck (line ∷ lines) = line ∷ (if ends (reading line.bytes) then [] else deck lines)
+
+-- a line reads as END: it is a card, and that is one
+abbrev pub ReadsAsEnd : LineAt → Type 0
+ReadsAsEnd line = (card : Card) × (reading line.bytes ≡ Ok card) × (card.body ≡ End)
+
+-- it doesn't
+abbrev pub ReadsOn : LineAt → Type 0
+ReadsOn line = ReadsAsEnd line → ⊥
+
+-- The second list has the lines of the first up to and with the first one that reads as END, and all of them where none does.
+abbrev pub EndsAtFirstEnd : (lines cards : List LineAt) → Type 0
+EndsAtFirstEnd lines cards = ((cards ≡ lines) × All ReadsOn lines)
+    ⊎ ((front : List LineAt) × (last : LineAt) × (behind : List LineAt) × (lines ≡ front ++ last ∷ behind) × (cards ≡ front ++ last ∷ [])
+    × All ReadsOn front × ReadsAsEnd last)
 
 -- The lines of a source's cards. What stands behind an END is none of the source.
 abbrev pub card_lines : List ℕ → List LineAt

@@ -6,7 +6,7 @@ use Rattle.ags_card.specs.declared.cards.Body.TheVariants.{Comment, Order, Org, 
 use Rattle.ags_card.specs.declared.cards.Card.{Card}
 use Rattle.ags_card.specs.declared.cards.CardFault.{CardFault}
 use Rattle.ags_card.specs.declared.cards.CardFault.TheVariants as card
-use Rattle.ags_symbol.specs.declared.symbols.TheConstants.{VALUE_LIMIT}
+use Rattle.ags_symbol.specs.Limit.{value_limit}
 use Rattle.ags_symbol.specs.Symbol.{Entry, found, sum_of}
 use Rattle.ags_places.specs.declared.source_error.SourceKind.{SourceKind}
 use Rattle.ags_places.specs.declared.source_error.SourceKind.TheVariants.{BadByte, LongCard, BadSymbol, UnknownOperation, MissingOperand, ExtraOperand, BadExpression, BadDecimal, BadOctal, SymbolTwice, UndefinedEarly, PlaceRange}
@@ -54,7 +54,7 @@ is_place value = int_le (pos 0) value && int_le value (pos 4095)
 
 -- the value of an EQU is one that a symbol may have
 abbrev pub is_value : ℤ → Bool
-is_value value = int_le (neg_ℤ VALUE_LIMIT) value && int_le value VALUE_LIMIT
+is_value value = int_le (neg_ℤ value_limit) value && int_le value value_limit
 
 -- a BSS goes forward, to the memory's end at most
 abbrev pub fits_behind : ℕ → ℤ → Bool

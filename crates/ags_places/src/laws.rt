@@ -1,20 +1,31 @@
 //! Laws of places and symbols, over all cards. Behind each clause is a lemma of `proofs/`, which the crates above cite.
 
-ghost use Rattle.std.specs.Prelude.{◌≡◌, ℕ, ◌+◌, ◌++◌, [], ◌∷◌, ◌<◌, List, None, IfSome, All, false, length, unsigned_abs};
+ghost use Rattle.std.specs.Prelude.{◌≡◌, ℕ, ◌+◌, ◌++◌, [], ◌∷◌, ◌<◌, List, None, IfSome, All, codes, false, length, unsigned_abs};
+ghost use Rattle.std.specs.Fmt.{decimal};
 ghost use Rattle.std.specs.List.{filter_map, list_any};
-ghost use Rattle.ags_text.specs.Line.{Follow};
+ghost use Rattle.ags_text.specs.Line.{Follow, LineAt, lines_of};
 ghost use Rattle.ags_card.specs.declared.cards.Card.{Card};
 ghost use Rattle.ags_card.specs.declared.terms.Term.{Term};
 ghost use Rattle.ags_card.specs.declared.cards.Body.TheVariants.{Org};
 ghost use Rattle.ags_symbol.specs.Symbol.{Entry, EachNameOnce, names};
-ghost use Rattle.ags_places.specs.Deck.{card_lines, cards};
+ghost use Rattle.ags_places.specs.Deck.{EndsAtFirstEnd, card_lines, cards};
+ghost use Rattle.ags_places.specs.declared.source_error.SourceKind.{SourceKind};
 ghost use Rattle.ags_places.specs.Fault.{early_fault};
+ghost use Rattle.ags_places.specs.FaultText.{kind_text};
+ghost use Rattle.ags_places.specs.Faulty.{kind_number};
 ghost use Rattle.ags_places.specs.Place.{Fits, early, operand, place, places, is_org, sizes};
 
 /// Exactly one list of pairs fits the cards of a source, whichever they are.
 pub fn one_list_of_pairs_fits()
     ensures some { (cards : List Card) → (S : List Entry) × Fits S cards }
     ensures one { (cards : List Card) (one other : List Entry) → Fits one cards → Fits other cards → one ≡ other }
+{}
+
+/// The lines of a source's cards are those of its text up to and with the first that reads as END, and all where none does; and
+/// no other lines are that.
+pub fn source_ends_at_its_first_end()
+    ensures is { (text : List ℕ) → EndsAtFirstEnd (lines_of text) (card_lines text) }
+    ensures one { (lines cards other : List LineAt) → EndsAtFirstEnd lines cards → EndsAtFirstEnd lines other → cards ≡ other }
 {}
 
 /// The lines of a source's cards stand in its text where they say, one behind the other.
@@ -40,4 +51,9 @@ pub fn each_symbol_has_a_pair()
 pub fn words_stand_in_the_memory()
     ensures { (text : List ℕ) (S : List Entry) → Fits S (cards text) → early_fault S text ≡ None
         → All (λ at. IfSome at (λ place. place < 4096)) (places S (cards text)) }
+{}
+
+/// What is printed of a kind of fault begins with its number and a blank.
+pub fn kinds_are_printed_by_their_numbers()
+    ensures { (kind : SourceKind) → (name : List ℕ) × (kind_text kind ≡ decimal (kind_number kind) ++ codes " " ++ name) }
 {}

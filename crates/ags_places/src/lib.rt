@@ -10,10 +10,10 @@ mod source_error;
 mod sources;
 
 pub use laws::{
-    card_lines_follow, each_symbol_has_a_pair, one_list_of_pairs_fits, places_are_sums,
+    card_lines_follow, each_symbol_has_a_pair, kinds_are_printed_by_their_numbers,
+    one_list_of_pairs_fits, places_are_sums, source_ends_at_its_first_end,
     words_stand_in_the_memory,
 };
 pub use placed::Placed;
-pub use placing::MEMORY_WORDS;
 pub use source_error::{AssembleError, SourceError, SourceKind};
 pub use sources::{PlacedSource, SOURCE_LIMIT, place_all};

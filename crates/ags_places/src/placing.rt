@@ -8,10 +8,11 @@ ghost use Rattle.ags_places.specs.Place.{pair_of, place_after, symbol_value};
 
 use crate::source_error::SourceKind;
 use ags_card::{Body, Card, Name, Terms};
-use ags_symbol::{DefineError, Symbols, VALUE_LIMIT};
+use ags_symbol::{DefineError, Symbols};
+use ags_word::LOCATIONS;
 
-/// How many words the memory has.
-pub const MEMORY_WORDS: u16 = 4096;
+/// The greatest value of a symbol; the least is its negative.
+const VALUE_LIMIT: i32 = 262_143;
 
 /// What a card does: the value of its symbol, and where it leaves the place.
 #[derive(Clone, Copy)]
@@ -54,7 +55,7 @@ fn place_word(place: u16) -> Result<Effect, SourceKind>
     ensures small { IfOk result (λ effect. effect.next ≤ 4096) }
     ensures fault { IfErr result (λ kind. unless (nat_lt place 4096) ≡ Some kind) }
 {
-    if place < MEMORY_WORDS {
+    if place < LOCATIONS {
         Ok(Effect {
             value: i32::from(place),
             next: place + 1,
@@ -82,7 +83,7 @@ fn set_place(symbols: &Symbols, place: u16, terms: &Terms) -> Result<Effect, Sou
     ensures fault { IfErr result (λ kind. body_fault symbols.now place (Body.Org terms.now) ≡ Some kind) }
 {
     let value = read_operand(symbols, place, terms)?;
-    if value < 0 || value > 4095 {
+    if value < 0 || value >= i32::from(LOCATIONS) {
         return Err(SourceKind::PlaceRange);
     }
     let next = value as u16;
@@ -110,7 +111,7 @@ fn move_place(symbols: &Symbols, place: u16, terms: &Terms) -> Result<Effect, So
     ensures fault { IfErr result (λ kind. body_fault symbols.now place (Body.Bss terms.now) ≡ Some kind) }
 {
     let size = read_operand(symbols, place, terms)?;
-    if size < 0 || size > 4096 - i32::from(place) {
+    if size < 0 || size > i32::from(LOCATIONS) - i32::from(place) {
         return Err(SourceKind::PlaceRange);
     }
     let value = i32::from(place);

@@ -3,6 +3,7 @@
 ghost use Rattle.std.specs.Prelude.{◌≡◌, ◌≤◌, length, None, Some, IfSome, IfNone};
 ghost use Rattle.ags_places.specs.Deck.{is_end};
 ghost use Rattle.ags_places.specs.Fault.{kind_of, first_card_fault};
+ghost use Rattle.ags_places.specs.Limit.{source_limit};
 
 use crate::source_error::{SourceError, SourceKind};
 use crate::sources::SOURCE_LIMIT;
@@ -35,7 +36,7 @@ pub(crate) fn kind_of(fault: CardFault) -> SourceKind
 
 /// The first line of a source that is no card, with its fault.
 pub(crate) fn first_misread(bytes: &[u8]) -> Option<SourceError>
-    requires { length bytes.now ≤ SOURCE_LIMIT }
+    requires { length bytes.now ≤ source_limit }
     ensures found { IfSome result (λ error. first_card_fault bytes.now ≡ Some (error.card, error.kind)) }
     ensures none { IfNone result (first_card_fault bytes.now ≡ None) }
 {

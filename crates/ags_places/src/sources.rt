@@ -8,6 +8,7 @@ ghost use Rattle.ags_places.specs.declared.source_error.SourceError.{SourceError
 ghost use Rattle.ags_places.specs.Place.{has_word, place_of_word};
 ghost use Rattle.ags_places.specs.Source.{IsInMemory, IsMisplaced, IsPlaced, IsRefused, placed_at};
 ghost use Rattle.ags_places.specs.Stopping.{IsStopped, stopped_at};
+ghost use Rattle.ags_places.specs.Limit.{source_limit};
 
 use crate::placed::Placed;
 use crate::placing::{Stop, place_card};
@@ -86,7 +87,7 @@ fn stop_at(number: u32, stop: Stop) -> Stopped
 /// Places the cards of a source, of which none is placed yet, up to the first line that is no card, or the first card that can't
 /// be placed.
 fn place_lines(bytes: &[u8], symbols: &mut Symbols, cards: &mut Vec<Placed>) -> Result<(), Stopped>
-    requires limit { length bytes.now ≤ SOURCE_LIMIT }
+    requires limit { length bytes.now ≤ source_limit }
     requires symbols { symbols.old ≡ [] }
     requires cards { cards.old.items ≡ [] }
     ensures placed { OnOk result (IsPlaced bytes.now cards.new.items symbols.new) }
@@ -120,7 +121,7 @@ fn place_lines(bytes: &[u8], symbols: &mut Symbols, cards: &mut Vec<Placed>) -> 
 
 /// The cards of a source at their places, up to the first line that is no card, or the first card that can't be placed.
 fn place_cards(alloc: Global, bytes: &[u8]) -> Result<PlacedSource, Stopped>
-    requires { length bytes.now ≤ SOURCE_LIMIT }
+    requires { length bytes.now ≤ source_limit }
     ensures placed { IfOk result (λ source. IsPlaced bytes.now source.cards.items source.symbols) }
     ensures within { IfOk result (λ source. All IsInMemory source.cards.items) }
     ensures stopped { IfErr result (IsStopped bytes.now) }
@@ -133,7 +134,7 @@ fn place_cards(alloc: Global, bytes: &[u8]) -> Result<PlacedSource, Stopped>
 
 /// Why a source whose cards are stopped so is refused: a line that is no card comes first, wherever it stands.
 fn refusal(bytes: &[u8], stopped: Stopped) -> AssembleError
-    requires limit { length bytes.now ≤ SOURCE_LIMIT }
+    requires limit { length bytes.now ≤ source_limit }
     requires stopped { IsStopped bytes.now stopped }
     ensures { IsRefused bytes.now result }
 {
@@ -149,7 +150,7 @@ fn refusal(bytes: &[u8], stopped: Stopped) -> AssembleError
 
 /// The phases, one after the other.
 fn run_phases(alloc: Global, bytes: &[u8]) -> Result<PlacedSource, AssembleError>
-    requires { length bytes.now ≤ SOURCE_LIMIT }
+    requires { length bytes.now ≤ source_limit }
     ensures placed { IfOk result (λ source. IsPlaced bytes.now source.cards.items source.symbols) }
     ensures refused { IfErr result (IsRefused bytes.now) }
     ensures within { IfOk result (λ source. All IsInMemory source.cards.items) }
@@ -165,7 +166,7 @@ fn run_phases(alloc: Global, bytes: &[u8]) -> Result<PlacedSource, AssembleError
 /// source's first fault up to the phase of places (docs/SOURCE.md, Faults). A line that is no card comes before every card that
 /// can't be placed. `NoMemory` may come at any source, and says nothing of it.
 pub fn place_all(alloc: Global, bytes: &[u8]) -> Result<PlacedSource, AssembleError>
-    requires { length bytes.now ≤ SOURCE_LIMIT }
+    requires { length bytes.now ≤ source_limit }
     // It is a source without a fault up to the phase of places, and these are its cards and the one list of pairs that fits
     // them; or its first fault is this one.
     ensures placed { IfOk result (λ source. IsPlaced bytes.now source.cards.items source.symbols) }

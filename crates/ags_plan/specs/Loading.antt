@@ -5,7 +5,7 @@ use Rattle.ags_outside.specs.ToldFile.{ToldFile}
 use Rattle.ags_plan.specs.declared.unloaded.Unloaded.{Unloaded}
 use Rattle.ags_plan.specs.declared.unloaded.Unloaded.TheVariants.{Absent, TooLong, Refused, ReadFault}
 use Rattle.ags_plan.specs.Plan.{Definition, Plan, Read, End, AbsentAt, LongAt, RefusedAt, WorkAt}
-use Rattle.ags_plan.specs.Walk.{Told, Agrees, SeesValue, EndsHere, EndsAt}
+use Rattle.ags_plan.specs.Walk.{Told, Agrees, HoldsWithin, SeesValue, EndsAtBytes, EndsHere, EndsAt}
 
 -- how the walk ends where a file wasn't loaded, by the line and the status of a refusal; nothing, where the outside or memory
 -- stopped it
@@ -28,6 +28,13 @@ abbrev pub LoadsFile : {Status : Type 0} (D : Definition Status) (told : Told) (
 LoadsFile D told kind name (Ok value) = SeesValue D Agrees told kind name value
 LoadsFile D told kind name (Err None) = Unit {0}
 LoadsFile D told kind name (Err (Some end)) = (next : D.Value kind → Plan D) → EndsHere D Agrees told end (Read kind name next)
+
+-- A loader's answer for bytes that the program makes itself, of a kind and under a name of their own: the value that they hold, or how
+-- the walk ends at them.
+abbrev pub TakesBytes : {Status : Type 0} (D : Definition Status) (told : Told) (kind : D.Kind) (name bytes : List ℕ) → Result (D.Value kind) (Option (End D)) → Type 0
+TakesBytes D told kind name bytes (Ok value) = HoldsWithin D kind bytes value
+TakesBytes D told kind name bytes (Err None) = Unit {0}
+TakesBytes D told kind name bytes (Err (Some end)) = EndsAtBytes D Agrees told kind name bytes end
 
 -- A loader's answer for what is left of a plan.
 abbrev pub Loads : {Status : Type 0} (D : Definition Status) (told : Told) (plan : Plan D) → Result D.Work (Option (End D)) → Type 0

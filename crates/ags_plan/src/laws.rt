@@ -3,9 +3,9 @@
 
 ghost use Rattle.std.specs.Prelude.{◌≡◌, ◌↔◌, ℕ, List, Option, Result, Ok, Err};
 ghost use Rattle.ags_plan.specs.Answer.{IsAnswer, TellsFiles};
-ghost use Rattle.ags_plan.specs.Loading.{Loads, LoadsFile};
+ghost use Rattle.ags_plan.specs.Loading.{Loads, LoadsFile, TakesBytes};
 ghost use Rattle.ags_plan.specs.Outcome.{AbsentExactly, Ends, EndsExactly, LongExactly, RefusedExactly, WorkExactly};
-ghost use Rattle.ags_plan.specs.Plan.{End, Plan, Read, WorkAt};
+ghost use Rattle.ags_plan.specs.Plan.{End, Plan, Read, Take, WorkAt};
 ghost use Rattle.ags_plan.specs.Walk.{Agrees, EndsAt, LeadsTo, Tells, Told};
 
 use crate::program::Program;
@@ -45,7 +45,7 @@ pub fn content_decides<P: Program>()
 {}
 
 /// A plan is loaded file by file: where its first file isn't loaded, that is how the walk ends, and where it is, the rest of the
-/// plan goes on from its value.
+/// plan goes on from its value. The same holds of bytes that the program makes itself, which no shelf is asked for.
 pub fn plans_are_loaded_file_by_file<P: Program>()
     ensures stops { (told : Told) (kind : P.definition.Kind) (name : List ℕ) (next : P.definition.Value kind → Plan P.definition)
         (why : Option (End P.definition)) → LoadsFile P.definition told kind name (Err why) → Loads P.definition told (Read kind name next) (Err why) }
@@ -53,6 +53,13 @@ pub fn plans_are_loaded_file_by_file<P: Program>()
         (value : P.definition.Value kind) (result : Result P.definition.Work (Option (End P.definition)))
         → LoadsFile P.definition told kind name (Ok value) → Loads P.definition told (next value) result
         → Loads P.definition told (Read kind name next) result }
+    ensures own_stops { (told : Told) (kind : P.definition.Kind) (name bytes : List ℕ) (next : P.definition.Value kind → Plan P.definition)
+        (why : Option (End P.definition)) → TakesBytes P.definition told kind name bytes (Err why)
+        → Loads P.definition told (Take kind name bytes next) (Err why) }
+    ensures own_goes_on { (told : Told) (kind : P.definition.Kind) (name bytes : List ℕ) (next : P.definition.Value kind → Plan P.definition)
+        (value : P.definition.Value kind) (result : Result P.definition.Work (Option (End P.definition)))
+        → TakesBytes P.definition told kind name bytes (Ok value) → Loads P.definition told (next value) result
+        → Loads P.definition told (Take kind name bytes next) result }
 {}
 
 /// A walk ends in a work exactly where it comes past all files to it, over files that agree with what the shelf tells, and over

@@ -15,7 +15,7 @@ use Rattle.ags_safe.specs.Certificate.{Certificate}
 use Rattle.ags_script.specs.Command.{step_count}
 use Rattle.ags_script.specs.declared.commands.Command.{Command}
 use Rattle.ags_script.specs.declared.commands.Command.TheVariants as command
-use Rattle.ags_script.specs.declared.counting.TheConstants.{CYCLE_STEPS}
+use Rattle.ags_script.specs.Limit.{cycle_steps}
 use Rattle.ags_timed.proofs.TimedLemmas.{timed_few}
 use Rattle.ags_play.specs.Act.{Act, MakesSteps, Pulses, Puts, Presses, Feeds, FeedsWhereZero, RunsCycle, ShowsReg, ShowsCell, ShowsOut, ShowsDeda, cycles, acts_of, acts_of_command}
 use Rattle.ags_play.specs.Bench.{Bench}
@@ -29,7 +29,7 @@ use Rattle.ags_play.specs.Played.{Plays, PlaysOne}
 -- the most steps of an act
 abbrev step_weight : Act → ℕ
 step_weight (MakesSteps count) = count
-step_weight RunsCycle = CYCLE_STEPS
+step_weight RunsCycle = cycle_steps
 step_weight _ = 0
 
 -- the most puts of an act
@@ -66,7 +66,7 @@ one_act_steps : (machine : Machine) (b : Bench) (act : Act) (events : List Event
 one_act_steps machine b (MakesSteps count) events moments is p = subst (FewSteps count) (sym p) (omega (arith, steps_counted count))
 one_act_steps machine b Pulses events moments is p = subst (FewSteps 0) (sym p) (omega arith)
 one_act_steps machine b RunsCycle events moments is p =
-    subst (FewSteps CYCLE_STEPS) (sym p.steps) (omega (arith, steps_counted (length moments), timed_few machine (time_left b.carry) b.core moments p.spent is p.timed))
+    subst (FewSteps cycle_steps) (sym p.steps) (omega (arith, steps_counted (length moments), timed_few machine (time_left b.carry) b.core moments p.spent is p.timed))
 one_act_steps machine b (Puts address word) events moments is p = none_stepped (put_by machine b (Puts address word)) events p
 one_act_steps machine b (Presses key) events moments is p = none_stepped (put_by machine b (Presses key)) events p
 one_act_steps machine b Feeds events moments is p = none_stepped (put_by machine b Feeds) events p
@@ -135,7 +135,7 @@ of_cycle weight acts =
     sum_by-cons weight FeedsWhereZero (Pulses ∷ RunsCycle ∷ acts)
     ∙ ap (λ (n : ℕ). weight FeedsWhereZero + n) (sum_by-cons weight Pulses (RunsCycle ∷ acts) ∙ ap (λ (n : ℕ). weight Pulses + n) (sum_by-cons weight RunsCycle acts))
 
-steps_of_cycles : (count : ℕ) → sum_by step_weight (cycles count) ≡ CYCLE_STEPS * count
+steps_of_cycles : (count : ℕ) → sum_by step_weight (cycles count) ≡ cycle_steps * count
 steps_of_cycles zero = refl
 steps_of_cycles (suc count) = omega (arith, of_cycle step_weight (cycles count), steps_of_cycles count)
 

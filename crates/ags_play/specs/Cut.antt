@@ -1,12 +1,15 @@
--- A play that is cut in two.
+-- A play that is cut in two, and what a safe certificate promises of the state at a cut.
 use Rattle.std.specs.Prelude.{◌≡◌, ℕ, List, [], ◌++◌, Option, Some, None}
+use Rattle.ags_domain.specs.Value.{value_meaning}
 use Rattle.ags_domain.specs.declared.values.Value.{Value}
 use Rattle.ags_ports.specs.declared.events.Event.{Event}
 use Rattle.ags_ports.specs.declared.machines.Machine.{Machine}
 use Rattle.ags_ports.specs.Run.{Moment, Run, last_state}
 use Rattle.ags_safe.specs.Certificate.{Certificate}
-use Rattle.ags_play.specs.Act.{Act}
-use Rattle.ags_play.specs.Bench.{Bench}
+use Rattle.ags_safe.specs.Safe.{IsSafeState}
+use Rattle.ags_script.specs.declared.commands.Command.{Command}
+use Rattle.ags_play.specs.Act.{Act, acts_of}
+use Rattle.ags_play.specs.Bench.{Bench, start_bench}
 use Rattle.ags_play.specs.Doing.{PutWord}
 use Rattle.ags_play.specs.Played.{Plays}
 
@@ -32,3 +35,10 @@ pub record PlaysInTurn (machine : Machine) (guard : Option (Certificate Value)) 
   pub run : Run machine b.core early moments
   pub ends : mid.core ≡ last_state b.core moments
   pub goes_on : GoesOnFrom machine guard mid stopped second later rest after met
+
+-- Wherever a play of the commands under the certificate is cut, the state that it has come to is one on the way of a safe run: so is
+-- each state that the play shows.
+abbrev pub IsSafeWhereCut : Machine → (image : List (Option ℕ)) → Certificate Value → List Command → Type 0
+IsSafeWhereCut machine image cert commands = (first second : List Act) (events : List Event) (text : List ℕ) (mid : Bench) (stopped : Option PutWord)
+    → acts_of commands ≡ first ++ second → Plays machine (Some cert) (start_bench machine image (Some cert) commands) first events text mid stopped
+    → IsSafeState value_meaning machine image cert mid.core

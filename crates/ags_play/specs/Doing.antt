@@ -12,7 +12,7 @@ use Rattle.ags_ports.specs.Port.{place_of, register_at}
 use Rattle.ags_ports.specs.Run.{Moment, Run, last_state}
 use Rattle.ags_ports.specs.State.{State, cell}
 use Rattle.ags_play.specs.Shown.{reg_text, cell_text, output_text}
-use Rattle.ags_timed.specs.declared.timed_runs.TheConstants.{CYCLE_MICROS}
+use Rattle.ags_timed.specs.Limit.{cycle_micros}
 use Rattle.ags_timed.specs.Timed.{IsTimedRun, time_of_moments}
 use Rattle.ags_play.specs.Act.{Act, MakesSteps, Pulses, Puts, Presses, Feeds, FeedsWhereZero, RunsCycle, ShowsReg, ShowsCell, ShowsOut, ShowsDeda}
 use Rattle.ags_play.specs.Bench.{Bench}
@@ -62,7 +62,7 @@ put_events (Some put) = Put put.address put.word ∷ []
 
 -- what is left of a cycle's time once what the last one passed its end by is taken from it
 abbrev pub time_left : ℕ → ℕ
-time_left carry = CYCLE_MICROS - carry
+time_left carry = cycle_micros - carry
 
 -- steps for the time that is left of a cycle
 pub record IsCycle (machine : Machine) (b : Bench) (events : List Event) (moments : List Moment) : Type 0 where

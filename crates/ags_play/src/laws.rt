@@ -21,7 +21,7 @@ ghost use Rattle.ags_play.specs.Guard.{Outside};
 ghost use Rattle.ags_play.specs.Played.{Plays, Met, Nothing, OutsideStart, IsPlayOf};
 ghost use Rattle.ags_play.specs.Begun.{AreSettable, IsRunOf};
 ghost use Rattle.ags_play.specs.Counted.{is_step, is_put};
-ghost use Rattle.ags_play.specs.Cut.{PlaysInTurn};
+ghost use Rattle.ags_play.specs.Cut.{IsSafeWhereCut, PlaysInTurn};
 
 /// The events of a play are one run, from the state of the bench that it begins on to that of the bench that it leaves.
 pub fn events_of_a_play_are_one_run()
@@ -45,8 +45,8 @@ pub fn guarded_play_is_a_run_of_its_certificate()
         → IsPlayOf machine image (Some cert) commands events text (OutsideStart outside) → (events ≡ []) × (text ≡ []) }
 {}
 
-/// Where a certificate is safe, a play under it that meets no start outside begins in a safe state, and each step of the run of its
-/// events is safe.
+/// Where a certificate is safe, a play under it that meets no start outside begins in a safe state, each step of the run of its
+/// events is safe, and wherever the play is cut the state is a safe one: so is each state that it shows.
 pub fn guarded_play_is_safe()
     ensures start { (machine : Machine) (image : List (Option ℕ)) (cert : Certificate Value) (commands : List Command)
         (events : List Event) (text : List ℕ) (met : Met) → IsImage image → cert.start < 4096 → AreSettable commands
@@ -59,6 +59,10 @@ pub fn guarded_play_is_safe()
         → ((outside : Outside) → met ≡ OutsideStart outside → ⊥) → Safe value_meaning machine image cert
         → Run machine (begun_state machine image (Some cert) commands) events moments
         → AtEachStep (IsSafeStep value_meaning machine image cert) (begun_state machine image (Some cert) commands) events moments }
+    ensures cuts { (machine : Machine) (image : List (Option ℕ)) (cert : Certificate Value) (commands : List Command)
+        (events : List Event) (text : List ℕ) (met : Met) → IsImage image → cert.start < 4096 → AreSettable commands
+        → IsPlayOf machine image (Some cert) commands events text met → ((outside : Outside) → met ≡ OutsideStart outside → ⊥)
+        → Safe value_meaning machine image cert → IsSafeWhereCut machine image cert commands }
 {}
 
 /// From each bench the acts have one play: one list of events, one text, one bench that is left and one answer to what was met.

@@ -11,7 +11,7 @@ use Rattle.ags_ports.specs.declared.events.Phase.{Phase}
 use Rattle.ags_ports.specs.declared.events.Phase.TheVariants.{Running, Waiting, Halted}
 use Rattle.ags_ports.specs.declared.events.Event.{Event}
 use Rattle.ags_ports.specs.declared.events.Event.TheVariants.{Step, Pulse, Put}
-use Rattle.ags_ports.specs.declared.events.Report.{Report}
+use Rattle.ags_ports.specs.declared.events.Done.{Done}
 use Rattle.ags_ports.specs.declared.machines.Machine.{Machine}
 use Rattle.ags_ports.specs.State.{State, cell, cells_with_word}
 use Rattle.ags_ports.specs.Effect.{effect}
@@ -67,16 +67,16 @@ along : (t u : State) (at word : ℕ) → t ≡ u → cell u at ≡ word → cel
 along t u at word e is = ap (λ (v : State). cell v at) e ∙ is
 
 module _ (machine : Machine) (s : State) where
-  obeys_fixed : (named : Option Decoded) (report : Report) (after : State) (at : ℕ) → 2048 ≤ at → Obeys machine s named report after → cell after at ≡ cell s at
+  obeys_fixed : (named : Option Decoded) (report : Done) (after : State) (at : ℕ) → 2048 ≤ at → Obeys machine s named report after → cell after at ≡ cell s at
   obeys_fixed (Some d) report after at fixed p = along after _ at _ p.1 (effect_fixed machine s d.order _ d.address at fixed)
   obeys_fixed None report after at fixed p = along after _ at _ p.1 refl
 
-  step_in_fixed : (phase : Phase) (report : Report) (after : State) (at : ℕ) → 2048 ≤ at → StepsIn phase machine s report after → cell after at ≡ cell s at
+  step_in_fixed : (phase : Phase) (report : Done) (after : State) (at : ℕ) → 2048 ≤ at → StepsIn phase machine s report after → cell after at ≡ cell s at
   step_in_fixed Running report after at fixed p = obeys_fixed p.0 report after at fixed p.2
   step_in_fixed Waiting report after at fixed p = along after s at _ p.1 refl
   step_in_fixed Halted report after at fixed p = along after s at _ p.1 refl
 
-  pub step_fixed : (event : Event) (report : Report) (after : State) (at : ℕ) → 2048 ≤ at → Steps machine s event report after → cell after at ≡ cell s at
+  pub step_fixed : (event : Event) (report : Done) (after : State) (at : ℕ) → 2048 ≤ at → Steps machine s event report after → cell after at ≡ cell s at
   step_fixed Step report after at fixed p = step_in_fixed s.phase report after at fixed p
   step_fixed Pulse report after at fixed p = along after _ at _ p.1 refl
   step_fixed (Put address word) report after at fixed p = along after _ at _ p.1 refl

@@ -10,7 +10,7 @@ use Rattle.ags_ports.specs.declared.events.Phase.{Phase}
 use Rattle.ags_ports.specs.declared.events.Phase.TheVariants.{Running, Waiting, Halted}
 use Rattle.ags_ports.specs.declared.events.Event.{Event}
 use Rattle.ags_ports.specs.declared.events.Event.TheVariants.{Step, Pulse, Put}
-use Rattle.ags_ports.specs.declared.events.Report.{Report}
+use Rattle.ags_ports.specs.declared.events.Done.{Done}
 use Rattle.ags_ports.specs.declared.machines.Machine.{Machine}
 use Rattle.ags_ports.specs.State.{State, word_here}
 use Rattle.ags_ports.specs.Effect.{Effect, effect, effective, leaves}
@@ -63,7 +63,7 @@ effect_told machine s Dly e y = record { cells = refl; inputs = refl; outputs = 
 -- ---- and so does each step
 
 -- what is told and what is left are those of an effect that tells what it changes
-record Tells (machine : Machine) (s : State) (report : Report) (after : State) : Type 0 where
+record Tells (machine : Machine) (s : State) (report : Done) (after : State) : Type 0 where
   cells : after.cells ≡ cells_after_store s.cells report.stored
   inputs : after.inputs ≡ inputs_after_take machine.ports.inputs s.inputs report.took
   outputs : after.outputs ≡ outputs_after_give machine.ports.outputs s.outputs report.gave
@@ -73,12 +73,12 @@ record Tells (machine : Machine) (s : State) (report : Report) (after : State) :
 differ : true ≡ false → ⊥
 differ h = cc
 
-told_ran : (report told : Report) (ran : Bool) → report ≡ told → told.ran ≡ ran → report.ran ≡ ran
-told_ran report told ran same is = ap (λ (v : Report). v.ran) same ∙ is
+told_ran : (report told : Done) (ran : Bool) → report ≡ told → told.ran ≡ ran → report.ran ≡ ran
+told_ran report told ran same is = ap (λ (v : Done). v.ran) same ∙ is
 
 -- where nothing else is told than where the machine stands, no order ran
-idle_ran : (s : State) (report : Report) → report ≡ idle_report s → report.ran ≡ true → ⊥
-idle_ran s report told ran = differ (sym ran ∙ ap (λ (v : Report). v.ran) told)
+idle_ran : (s : State) (report : Done) → report ≡ idle_report s → report.ran ≡ true → ⊥
+idle_ran s report told ran = differ (sym ran ∙ ap (λ (v : Done). v.ran) told)
 
 waits_not : Running ≡ Waiting → ⊥
 waits_not h = cc
@@ -87,110 +87,110 @@ halts_not : Running ≡ Halted → ⊥
 halts_not h = cc
 
 -- the location and its word are told, as they were before the event
-abbrev TellsPlace : State → Report → Type 0
+abbrev TellsPlace : State → Done → Type 0
 TellsPlace s report = (report.location ≡ s.location) × (report.word ≡ word_here s)
 
 module _ (machine : Machine) (s : State) where
-  unchanged_told : (report : Report) (after : State) → report ≡ idle_report s → after.cells ≡ s.cells → after.inputs ≡ s.inputs
+  unchanged_told : (report : Done) (after : State) → report ≡ idle_report s → after.cells ≡ s.cells → after.inputs ≡ s.inputs
       → after.outputs ≡ s.outputs → Tells machine s report after
   unchanged_told report after told cells inputs outputs = record {
-    cells = cells ∙ sym (ap (λ (v : Report). cells_after_store s.cells v.stored) told);
-    inputs = inputs ∙ sym (ap (λ (v : Report). inputs_after_take machine.ports.inputs s.inputs v.took) told);
-    outputs = outputs ∙ sym (ap (λ (v : Report). outputs_after_give machine.ports.outputs s.outputs v.gave) told);
+    cells = cells ∙ sym (ap (λ (v : Done). cells_after_store s.cells v.stored) told);
+    inputs = inputs ∙ sym (ap (λ (v : Done). inputs_after_take machine.ports.inputs s.inputs v.took) told);
+    outputs = outputs ∙ sym (ap (λ (v : Done). outputs_after_give machine.ports.outputs s.outputs v.gave) told);
   }
 
-  obeys_told : (named : Option Decoded) (report : Report) (after : State) → Obeys machine s named report after → Tells machine s report after
+  obeys_told : (named : Option Decoded) (report : Done) (after : State) → Obeys machine s named report after → Tells machine s report after
   obeys_told (Some d) report after p =
       let told = effect_told machine s d.order (effective s d.order d.indexed d.address) d.address in
       record {
-        cells = ap (λ (v : State). v.cells) p.1 ∙ told.cells ∙ sym (ap (λ (v : Report). cells_after_store s.cells v.stored) p.0);
-        inputs = ap (λ (v : State). v.inputs) p.1 ∙ told.inputs ∙ sym (ap (λ (v : Report). inputs_after_take machine.ports.inputs s.inputs v.took) p.0);
-        outputs = ap (λ (v : State). v.outputs) p.1 ∙ told.outputs ∙ sym (ap (λ (v : Report). outputs_after_give machine.ports.outputs s.outputs v.gave) p.0);
+        cells = ap (λ (v : State). v.cells) p.1 ∙ told.cells ∙ sym (ap (λ (v : Done). cells_after_store s.cells v.stored) p.0);
+        inputs = ap (λ (v : State). v.inputs) p.1 ∙ told.inputs ∙ sym (ap (λ (v : Done). inputs_after_take machine.ports.inputs s.inputs v.took) p.0);
+        outputs = ap (λ (v : State). v.outputs) p.1 ∙ told.outputs ∙ sym (ap (λ (v : Done). outputs_after_give machine.ports.outputs s.outputs v.gave) p.0);
       }
   obeys_told None report after p = unchanged_told report after p.0 (ap (λ (v : State). v.cells) p.1) (ap (λ (v : State). v.inputs) p.1) (ap (λ (v : State). v.outputs) p.1)
 
-  step_in_told : (phase : Phase) (report : Report) (after : State) → StepsIn phase machine s report after → Tells machine s report after
+  step_in_told : (phase : Phase) (report : Done) (after : State) → StepsIn phase machine s report after → Tells machine s report after
   step_in_told Running report after p = obeys_told p.0 report after p.2
   step_in_told Waiting report after p = unchanged_told report after p.0 (ap (λ (v : State). v.cells) p.1) (ap (λ (v : State). v.inputs) p.1) (ap (λ (v : State). v.outputs) p.1)
   step_in_told Halted report after p = unchanged_told report after p.0 (ap (λ (v : State). v.cells) p.1) (ap (λ (v : State). v.inputs) p.1) (ap (λ (v : State). v.outputs) p.1)
 
-  pub cells_told : (event : Event) (report : Report) (after : State) → Steps machine s event report after
+  pub cells_told : (event : Event) (report : Done) (after : State) → Steps machine s event report after
       → after.cells ≡ cells_after_store s.cells report.stored
   cells_told Step report after p = (step_in_told s.phase report after p).cells
-  cells_told Pulse report after p = ap (λ (v : State). v.cells) p.1 ∙ sym (ap (λ (v : Report). cells_after_store s.cells v.stored) p.0)
-  cells_told (Put address word) report after p = ap (λ (v : State). v.cells) p.1 ∙ sym (ap (λ (v : Report). cells_after_store s.cells v.stored) p.0)
+  cells_told Pulse report after p = ap (λ (v : State). v.cells) p.1 ∙ sym (ap (λ (v : Done). cells_after_store s.cells v.stored) p.0)
+  cells_told (Put address word) report after p = ap (λ (v : State). v.cells) p.1 ∙ sym (ap (λ (v : Done). cells_after_store s.cells v.stored) p.0)
 
-  pub inputs_told : (report : Report) (after : State) → Steps machine s Step report after
+  pub inputs_told : (report : Done) (after : State) → Steps machine s Step report after
       → after.inputs ≡ inputs_after_take machine.ports.inputs s.inputs report.took
   inputs_told report after p = (step_in_told s.phase report after p).inputs
 
-  pub outputs_told : (event : Event) (report : Report) (after : State) → Steps machine s event report after
+  pub outputs_told : (event : Event) (report : Done) (after : State) → Steps machine s event report after
       → after.outputs ≡ outputs_after_give machine.ports.outputs s.outputs report.gave
   outputs_told Step report after p = (step_in_told s.phase report after p).outputs
-  outputs_told Pulse report after p = ap (λ (v : State). v.outputs) p.1 ∙ sym (ap (λ (v : Report). outputs_after_give machine.ports.outputs s.outputs v.gave) p.0)
-  outputs_told (Put address word) report after p = ap (λ (v : State). v.outputs) p.1 ∙ sym (ap (λ (v : Report). outputs_after_give machine.ports.outputs s.outputs v.gave) p.0)
+  outputs_told Pulse report after p = ap (λ (v : State). v.outputs) p.1 ∙ sym (ap (λ (v : Done). outputs_after_give machine.ports.outputs s.outputs v.gave) p.0)
+  outputs_told (Put address word) report after p = ap (λ (v : State). v.outputs) p.1 ∙ sym (ap (λ (v : Done). outputs_after_give machine.ports.outputs s.outputs v.gave) p.0)
 
-  obeys_reads : (named : Option Decoded) (report : Report) (after : State) → s.phase ≡ Running → IsDecoding machine.codes (word_here s) named
+  obeys_reads : (named : Option Decoded) (report : Done) (after : State) → s.phase ≡ Running → IsDecoding machine.codes (word_here s) named
       → Obeys machine s named report after → report.ran ≡ true → (order : Order) × Reads machine s order
   obeys_reads (Some d) report after running names p ran =
       (d.order, record { running = running; indexed = d.indexed; address = d.address; names = names })
   obeys_reads None report after running names p ran = absurd (idle_ran s report p.0 ran)
 
-  step_in_reads : (phase : Phase) (report : Report) (after : State) → s.phase ≡ phase → StepsIn phase machine s report after
+  step_in_reads : (phase : Phase) (report : Done) (after : State) → s.phase ≡ phase → StepsIn phase machine s report after
       → report.ran ≡ true → (order : Order) × Reads machine s order
   step_in_reads Running report after is p ran = obeys_reads p.0 report after is p.1 p.2 ran
   step_in_reads Waiting report after is p ran = absurd (idle_ran s report p.0 ran)
   step_in_reads Halted report after is p ran = absurd (idle_ran s report p.0 ran)
 
-  pub ran_reads : (event : Event) (report : Report) (after : State) → Steps machine s event report after
+  pub ran_reads : (event : Event) (report : Done) (after : State) → Steps machine s event report after
       → report.ran ≡ true → (event ≡ Step) × (order : Order) × Reads machine s order
   ran_reads Step report after p ran =
       let read = step_in_reads s.phase report after refl p ran in (refl, read.0, read.1)
   ran_reads Pulse report after p ran = absurd (idle_ran s report p.0 ran)
   ran_reads (Put address word) report after p ran = absurd (idle_ran s report p.0 ran)
 
-  obeys_ran : (named : Option Decoded) (report : Report) (after : State) (order : Order) → Reads machine s order
+  obeys_ran : (named : Option Decoded) (report : Done) (after : State) (order : Order) → Reads machine s order
       → IsDecoding machine.codes (word_here s) named → Obeys machine s named report after → report.ran ≡ true
-  obeys_ran (Some d) report after order reads names p = ap (λ (v : Report). v.ran) p.0
+  obeys_ran (Some d) report after order reads names p = ap (λ (v : Done). v.ran) p.0
   obeys_ran None report after order reads none p = absurd (none order reads.indexed reads.address reads.names)
 
-  step_in_ran : (phase : Phase) (report : Report) (after : State) (order : Order) → s.phase ≡ phase → Reads machine s order
+  step_in_ran : (phase : Phase) (report : Done) (after : State) (order : Order) → s.phase ≡ phase → Reads machine s order
       → StepsIn phase machine s report after → report.ran ≡ true
   step_in_ran Running report after order is reads p = obeys_ran p.0 report after order reads p.1 p.2
   step_in_ran Waiting report after order is reads p = absurd (waits_not (sym reads.running ∙ is))
   step_in_ran Halted report after order is reads p = absurd (halts_not (sym reads.running ∙ is))
 
-  pub reads_ran : (order : Order) (report : Report) (after : State) → Reads machine s order → Steps machine s Step report after
+  pub reads_ran : (order : Order) (report : Done) (after : State) → Reads machine s order → Steps machine s Step report after
       → report.ran ≡ true
   reads_ran order report after reads p = step_in_ran s.phase report after order refl reads p
 
   -- ---- what is told where none runs
 
-  obeys_idle : (named : Option Decoded) (report : Report) (after : State) → Obeys machine s named report after → report.ran ≡ false → report ≡ idle_report s
-  obeys_idle (Some d) report after p none = absurd (differ (sym (ap (λ (v : Report). v.ran) p.0) ∙ none))
+  obeys_idle : (named : Option Decoded) (report : Done) (after : State) → Obeys machine s named report after → report.ran ≡ false → report ≡ idle_report s
+  obeys_idle (Some d) report after p none = absurd (differ (sym (ap (λ (v : Done). v.ran) p.0) ∙ none))
   obeys_idle None report after p none = p.0
 
-  step_in_idle : (phase : Phase) (report : Report) (after : State) → StepsIn phase machine s report after → report.ran ≡ false → report ≡ idle_report s
+  step_in_idle : (phase : Phase) (report : Done) (after : State) → StepsIn phase machine s report after → report.ran ≡ false → report ≡ idle_report s
   step_in_idle Running report after p none = obeys_idle p.0 report after p.2 none
   step_in_idle Waiting report after p none = p.0
   step_in_idle Halted report after p none = p.0
 
-  pub idle_told : (event : Event) (report : Report) (after : State) → Steps machine s event report after → report.ran ≡ false → report ≡ idle_report s
+  pub idle_told : (event : Event) (report : Done) (after : State) → Steps machine s event report after → report.ran ≡ false → report ≡ idle_report s
   idle_told Step report after p none = step_in_idle s.phase report after p none
   idle_told Pulse report after p none = p.0
   idle_told (Put address word) report after p none = p.0
 
-  obeys_place : (named : Option Decoded) (report : Report) (after : State) → Obeys machine s named report after → TellsPlace s report
-  obeys_place (Some d) report after p = (ap (λ (v : Report). v.location) p.0, ap (λ (v : Report). v.word) p.0)
-  obeys_place None report after p = (ap (λ (v : Report). v.location) p.0, ap (λ (v : Report). v.word) p.0)
+  obeys_place : (named : Option Decoded) (report : Done) (after : State) → Obeys machine s named report after → TellsPlace s report
+  obeys_place (Some d) report after p = (ap (λ (v : Done). v.location) p.0, ap (λ (v : Done). v.word) p.0)
+  obeys_place None report after p = (ap (λ (v : Done). v.location) p.0, ap (λ (v : Done). v.word) p.0)
 
-  step_in_place : (phase : Phase) (report : Report) (after : State) → StepsIn phase machine s report after → TellsPlace s report
+  step_in_place : (phase : Phase) (report : Done) (after : State) → StepsIn phase machine s report after → TellsPlace s report
   step_in_place Running report after p = obeys_place p.0 report after p.2
-  step_in_place Waiting report after p = (ap (λ (v : Report). v.location) p.0, ap (λ (v : Report). v.word) p.0)
-  step_in_place Halted report after p = (ap (λ (v : Report). v.location) p.0, ap (λ (v : Report). v.word) p.0)
+  step_in_place Waiting report after p = (ap (λ (v : Done). v.location) p.0, ap (λ (v : Done). v.word) p.0)
+  step_in_place Halted report after p = (ap (λ (v : Done). v.location) p.0, ap (λ (v : Done). v.word) p.0)
 
-  pub place_told : (event : Event) (report : Report) (after : State) → Steps machine s event report after
+  pub place_told : (event : Event) (report : Done) (after : State) → Steps machine s event report after
       → (report.location ≡ s.location) × (report.word ≡ word_here s)
   place_told Step report after p = step_in_place s.phase report after p
-  place_told Pulse report after p = (ap (λ (v : Report). v.location) p.0, ap (λ (v : Report). v.word) p.0)
-  place_told (Put address word) report after p = (ap (λ (v : Report). v.location) p.0, ap (λ (v : Report). v.word) p.0)
+  place_told Pulse report after p = (ap (λ (v : Done). v.location) p.0, ap (λ (v : Done). v.word) p.0)
+  place_told (Put address word) report after p = (ap (λ (v : Done). v.location) p.0, ap (λ (v : Done). v.word) p.0)

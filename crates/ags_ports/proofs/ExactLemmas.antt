@@ -21,7 +21,7 @@ use Rattle.ags_isa.specs.declared.orders.Order.TheVariants.{Abs, Add, Adz, Als, 
 use Rattle.ags_isa.specs.declared.decoding.Decoded.{Decoded}
 use Rattle.ags_ports.specs.declared.events.Phase.{Phase}
 use Rattle.ags_ports.specs.declared.events.Event.TheVariants.{Step}
-use Rattle.ags_ports.specs.declared.events.Report.{Report}
+use Rattle.ags_ports.specs.declared.events.Done.{Done}
 use Rattle.ags_ports.specs.declared.machines.Machine.{Machine}
 use Rattle.ags_ports.specs.Machine.{IsMachine}
 use Rattle.ags_ports.specs.State.{State, IsState, cell}
@@ -244,32 +244,32 @@ effect_others machine s _ e y computing = refl
 -- ---- and so it is of a step that reads the order
 
 -- a step that reads an order obeys it
-obeyed : (machine : Machine) (s : State) (order : Order) (reads : Reads machine s order) (report : Report) (after : State) → IsMachine machine → Steps machine s Step report after
+obeyed : (machine : Machine) (s : State) (order : Order) (reads : Reads machine s order) (report : Done) (after : State) → IsMachine machine → Steps machine s Step report after
     → Obeys machine s (Some (record { order = order; indexed = reads.indexed; address = reads.address })) report after
 obeyed machine s order reads report after h p =
     let there = subst (λ (phase : Phase). StepsIn phase machine s report after) reads.running p in
     let same = decoding_same machine.codes h.codes _ there.0 (Some (record { order = order; indexed = reads.indexed; address = reads.address })) there.1 reads.names in
     subst (λ (named : Option Decoded). Obeys machine s named report after) same there.2
 
-pub exact_left : (machine : Machine) (s : State) (order : Order) (reads : Reads machine s order) (report : Report) (after : State) → IsMachine machine → IsState machine s
+pub exact_left : (machine : Machine) (s : State) (order : Order) (reads : Reads machine s order) (report : Done) (after : State) → IsMachine machine → IsState machine s
     → computes_number order ≡ true → Steps machine s Step report after → report.overflow ≡ false → IsResultHere machine s order reads (number_left order after)
 exact_left machine s order reads report after h is computing p none =
     let does = obeyed machine s order reads report after h p in
     let e = effective s order reads.indexed reads.address in
-    let left = effect_exact machine s is order e reads.address computing (sym (ap (λ (v : Report). v.overflow) does.0) ∙ none) in
+    let left = effect_exact machine s is order e reads.address computing (sym (ap (λ (v : Done). v.overflow) does.0) ∙ none) in
     subst (λ (v : State). IsExactResult order s.a s.q (cell s e) (reads.address % 64) (number_left order v)) (sym does.1) left
 
-pub room_fits : (machine : Machine) (s : State) (order : Order) (reads : Reads machine s order) (report : Report) (after : State) → IsMachine machine → IsState machine s
+pub room_fits : (machine : Machine) (s : State) (order : Order) (reads : Reads machine s order) (report : Done) (after : State) → IsMachine machine → IsState machine s
     → Steps machine s Step report after → (n : ℤ) → IsResultHere machine s order reads n → HasRoom order n → report.overflow ≡ false
 room_fits machine s order reads report after h is p n exact room =
     let does = obeyed machine s order reads report after h p in
-    ap (λ (v : Report). v.overflow) does.0 ∙ effect_room machine s is order (effective s order reads.indexed reads.address) reads.address n exact room
+    ap (λ (v : Done). v.overflow) does.0 ∙ effect_room machine s is order (effective s order reads.indexed reads.address) reads.address n exact room
 
-pub others_fit : (machine : Machine) (s : State) (order : Order) (report : Report) (after : State) → IsMachine machine → Reads machine s order
+pub others_fit : (machine : Machine) (s : State) (order : Order) (report : Done) (after : State) → IsMachine machine → Reads machine s order
     → computes_number order ≡ false → Steps machine s Step report after → report.overflow ≡ false
 others_fit machine s order report after h reads other p =
     let does = obeyed machine s order reads report after h p in
-    ap (λ (v : Report). v.overflow) does.0 ∙ effect_others machine s order (effective s order reads.indexed reads.address) reads.address other
+    ap (λ (v : Done). v.overflow) does.0 ∙ effect_others machine s order (effective s order reads.indexed reads.address) reads.address other
 
 -- what stands where a result goes has room there
 left_has_room : (order : Order) (s : State) → s.a < 2 ^ 18 → HasRoom order (number_left order s)
@@ -299,7 +299,7 @@ result_computes order a q m count n exact = by order exact
     by Dvp p = refl
     by _ p = absurd p
 
-pub no_room_over : (machine : Machine) (s : State) (order : Order) (reads : Reads machine s order) (report : Report) (after : State) → IsMachine machine → IsState machine s
+pub no_room_over : (machine : Machine) (s : State) (order : Order) (reads : Reads machine s order) (report : Done) (after : State) → IsMachine machine → IsState machine s
     → Steps machine s Step report after → (n : ℤ) → IsResultHere machine s order reads n → ¬ HasRoom order n → report.overflow ≡ true
 no_room_over machine s order reads report after h is p n exact none = by report.overflow refl
   where
@@ -311,7 +311,7 @@ no_room_over machine s order reads report after h is p n exact none = by report.
         let kept = step_keeps machine s Step report after h is tt p in
         absurd (none (subst (λ (k : ℤ). HasRoom order k) same (left_has_room order after kept.a)))
 
-pub no_result_over : (machine : Machine) (s : State) (order : Order) (reads : Reads machine s order) (report : Report) (after : State) → IsMachine machine → IsState machine s
+pub no_result_over : (machine : Machine) (s : State) (order : Order) (reads : Reads machine s order) (report : Done) (after : State) → IsMachine machine → IsState machine s
     → computes_number order ≡ true → Steps machine s Step report after → ((n : ℤ) → ¬ IsResultHere machine s order reads n) → report.overflow ≡ true
 no_result_over machine s order reads report after h is computing p none = by report.overflow refl
   where

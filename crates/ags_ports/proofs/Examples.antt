@@ -12,7 +12,7 @@ use Rattle.ags_isa.specs.Naming.{order_word, Names}
 use Rattle.ags_isa.proofs.OrderLemmas.{order_number-below}
 use Rattle.ags_ports.specs.declared.events.Phase.TheVariants.{Running, Waiting, Halted}
 use Rattle.ags_ports.specs.declared.events.Event.TheVariants.{Step, Pulse, Put}
-use Rattle.ags_ports.specs.declared.events.Report.{Report}
+use Rattle.ags_ports.specs.declared.events.Done.{Done}
 use Rattle.ags_ports.specs.declared.machines.Machine.{Machine}
 use Rattle.ags_ports.specs.Machine.{standard_machine}
 use Rattle.ags_ports.specs.State.{State}
@@ -263,10 +263,10 @@ put_absent cells inputs outputs = (refl, refl)
 -- ---- runs
 
 -- An order ran at a location, was read from a word, and overflowed or not; or no order ran.
-ran_at : ℕ → ℕ → Bool → Report
+ran_at : ℕ → ℕ → Bool → Done
 ran_at location word overflow = record { ran = true; location = location; word = word; overflow = overflow; stored = None; took = None; gave = None }
 
-idle_at : ℕ → ℕ → Report
+idle_at : ℕ → ℕ → Done
 idle_at location word = record { ran = false; location = location; word = word; overflow = false; stored = None; took = None; gave = None }
 
 -- The word 000000 is no order of the standard machine, since no order has the code 0.

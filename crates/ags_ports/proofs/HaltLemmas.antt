@@ -10,7 +10,7 @@ use Rattle.ags_ports.specs.declared.events.Phase.{Phase}
 use Rattle.ags_ports.specs.declared.events.Phase.TheVariants.{Running, Waiting, Halted}
 use Rattle.ags_ports.specs.declared.events.Event.{Event}
 use Rattle.ags_ports.specs.declared.events.Event.TheVariants.{Step, Pulse, Put}
-use Rattle.ags_ports.specs.declared.events.Report.{Report}
+use Rattle.ags_ports.specs.declared.events.Done.{Done}
 use Rattle.ags_ports.specs.declared.machines.Machine.{Machine}
 use Rattle.ags_ports.specs.State.{State, word_here}
 use Rattle.ags_ports.specs.Effect.{effect, effective}
@@ -76,7 +76,7 @@ pulsed_halts Halted h = refl
 module _ (machine : Machine) (s : State) where
   -- ---- DLY alone begins waiting
 
-  obeys_waits : (named : Option Decoded) (report : Report) (after : State) → s.phase ≡ Running → IsDecoding machine.codes (word_here s) named
+  obeys_waits : (named : Option Decoded) (report : Done) (after : State) → s.phase ≡ Running → IsDecoding machine.codes (word_here s) named
       → Obeys machine s named report after → after.phase ≡ Waiting → Reads machine s Dly
   obeys_waits (Some d) report after running names p waits = ⊎_elim
       (λ same. absurd (running_waits (sym running ∙ sym same ∙ sym (ap (λ (v : State). v.phase) p.1) ∙ waits)))
@@ -84,13 +84,13 @@ module _ (machine : Machine) (s : State) where
       (effect_phase machine s d.order (effective s d.order d.indexed d.address) d.address)
   obeys_waits None report after running names p waits = absurd (halted_waits (sym (ap (λ (v : State). v.phase) p.1) ∙ waits))
 
-  step_in_waits : (phase : Phase) (report : Report) (after : State) → s.phase ≡ phase → s.phase ≢ Waiting
+  step_in_waits : (phase : Phase) (report : Done) (after : State) → s.phase ≡ phase → s.phase ≢ Waiting
       → StepsIn phase machine s report after → after.phase ≡ Waiting → Reads machine s Dly
   step_in_waits Running report after is before p waits = obeys_waits p.0 report after is p.1 p.2 waits
   step_in_waits Waiting report after is before p waits = absurd (before is)
   step_in_waits Halted report after is before p waits = absurd (before (sym (ap (λ (v : State). v.phase) p.1) ∙ waits))
 
-  pub dly_waits : (event : Event) (report : Report) (after : State) → Steps machine s event report after
+  pub dly_waits : (event : Event) (report : Done) (after : State) → Steps machine s event report after
       → s.phase ≢ Waiting → after.phase ≡ Waiting → (event ≡ Step) × Reads machine s Dly
   dly_waits Step report after p before waits = (refl, step_in_waits s.phase report after refl before p waits)
   dly_waits Pulse report after p before waits = absurd (pulsed_waits s.phase (sym (ap (λ (v : State). v.phase) p.1) ∙ waits))
@@ -98,7 +98,7 @@ module _ (machine : Machine) (s : State) where
 
   -- ---- a word that is no order alone halts
 
-  obeys_halts : (named : Option Decoded) (report : Report) (after : State) → s.phase ≡ Running → IsDecoding machine.codes (word_here s) named
+  obeys_halts : (named : Option Decoded) (report : Done) (after : State) → s.phase ≡ Running → IsDecoding machine.codes (word_here s) named
       → Obeys machine s named report after → after.phase ≡ Halted → NamesNone machine s
   obeys_halts (Some d) report after running names p halts = ⊎_elim
       (λ same. absurd (running_halted (sym running ∙ sym same ∙ sym (ap (λ (v : State). v.phase) p.1) ∙ halts)))
@@ -106,13 +106,13 @@ module _ (machine : Machine) (s : State) where
       (effect_phase machine s d.order (effective s d.order d.indexed d.address) d.address)
   obeys_halts None report after running none p halts = none
 
-  step_in_halts : (phase : Phase) (report : Report) (after : State) → s.phase ≡ phase → s.phase ≢ Halted
+  step_in_halts : (phase : Phase) (report : Done) (after : State) → s.phase ≡ phase → s.phase ≢ Halted
       → StepsIn phase machine s report after → after.phase ≡ Halted → (s.phase ≡ Running) × NamesNone machine s
   step_in_halts Running report after is before p halts = (is, obeys_halts p.0 report after is p.1 p.2 halts)
   step_in_halts Waiting report after is before p halts = absurd (before (sym (ap (λ (v : State). v.phase) p.1) ∙ halts))
   step_in_halts Halted report after is before p halts = absurd (before is)
 
-  pub no_order_halts : (event : Event) (report : Report) (after : State) → Steps machine s event report after
+  pub no_order_halts : (event : Event) (report : Done) (after : State) → Steps machine s event report after
       → s.phase ≢ Halted → after.phase ≡ Halted → (event ≡ Step) × (s.phase ≡ Running) × NamesNone machine s
   no_order_halts Step report after p before halts =
       let there = step_in_halts s.phase report after refl before p halts in (refl, there.0, there.1)
@@ -121,12 +121,12 @@ module _ (machine : Machine) (s : State) where
 
   -- ---- and there nothing else changes
 
-  obeys_none : (named : Option Decoded) (report : Report) (after : State) → IsDecoding machine.codes (word_here s) named
+  obeys_none : (named : Option Decoded) (report : Done) (after : State) → IsDecoding machine.codes (word_here s) named
       → Obeys machine s named report after → NamesNone machine s → (report ≡ idle_report s) × (after ≡ record s { phase = Halted })
   obeys_none (Some d) report after names p none = absurd (none d.order d.indexed d.address names)
   obeys_none None report after names p none = p
 
-  pub halted_at_no_order : (report : Report) (after : State) → s.phase ≡ Running → NamesNone machine s
+  pub halted_at_no_order : (report : Done) (after : State) → s.phase ≡ Running → NamesNone machine s
       → Steps machine s Step report after → (report ≡ idle_report s) × (after ≡ record s { phase = Halted })
   halted_at_no_order report after running none p =
       let q = subst (λ (phase : Phase). StepsIn phase machine s report after) running p in

@@ -10,7 +10,7 @@ use Rattle.ags_ports.specs.declared.events.Phase.{Phase}
 use Rattle.ags_ports.specs.declared.events.Phase.TheVariants.{Running, Waiting, Halted}
 use Rattle.ags_ports.specs.declared.events.Event.{Event}
 use Rattle.ags_ports.specs.declared.events.Event.TheVariants.{Step, Pulse, Put}
-use Rattle.ags_ports.specs.declared.events.Report.{Report}
+use Rattle.ags_ports.specs.declared.events.Done.{Done}
 use Rattle.ags_ports.specs.declared.machines.Machine.{Machine}
 use Rattle.ags_ports.specs.State.{State, word_here}
 use Rattle.ags_ports.specs.Effect.{Effect, effect, effective}
@@ -124,22 +124,22 @@ still_clear : (s after : State) → s.indicator ≡ false → after.indicator �
 still_clear s after was now same = differ (sym was ∙ sym same ∙ now)
 
 module _ (machine : Machine) (s : State) where
-  obeys_sets : (named : Option Decoded) (report : Report) (after : State) → Obeys machine s named report after → report.overflow ≡ true → after.indicator ≡ true
+  obeys_sets : (named : Option Decoded) (report : Done) (after : State) → Obeys machine s named report after → report.overflow ≡ true → after.indicator ≡ true
   obeys_sets (Some d) report after p over =
-      ap (λ (v : State). v.indicator) p.1 ∙ effect_sets machine s d.order (effective s d.order d.indexed d.address) d.address (sym (ap (λ (v : Report). v.overflow) p.0) ∙ over)
-  obeys_sets None report after p over = absurd (differ (sym (ap (λ (v : Report). v.overflow) p.0) ∙ over))
+      ap (λ (v : State). v.indicator) p.1 ∙ effect_sets machine s d.order (effective s d.order d.indexed d.address) d.address (sym (ap (λ (v : Done). v.overflow) p.0) ∙ over)
+  obeys_sets None report after p over = absurd (differ (sym (ap (λ (v : Done). v.overflow) p.0) ∙ over))
 
-  step_in_sets : (phase : Phase) (report : Report) (after : State) → StepsIn phase machine s report after → report.overflow ≡ true → after.indicator ≡ true
+  step_in_sets : (phase : Phase) (report : Done) (after : State) → StepsIn phase machine s report after → report.overflow ≡ true → after.indicator ≡ true
   step_in_sets Running report after p over = obeys_sets p.0 report after p.2 over
-  step_in_sets Waiting report after p over = absurd (differ (sym (ap (λ (v : Report). v.overflow) p.0) ∙ over))
-  step_in_sets Halted report after p over = absurd (differ (sym (ap (λ (v : Report). v.overflow) p.0) ∙ over))
+  step_in_sets Waiting report after p over = absurd (differ (sym (ap (λ (v : Done). v.overflow) p.0) ∙ over))
+  step_in_sets Halted report after p over = absurd (differ (sym (ap (λ (v : Done). v.overflow) p.0) ∙ over))
 
-  pub overflow_sets : (event : Event) (report : Report) (after : State) → Steps machine s event report after → report.overflow ≡ true → after.indicator ≡ true
+  pub overflow_sets : (event : Event) (report : Done) (after : State) → Steps machine s event report after → report.overflow ≡ true → after.indicator ≡ true
   overflow_sets Step report after p over = step_in_sets s.phase report after p over
-  overflow_sets Pulse report after p over = absurd (differ (sym (ap (λ (v : Report). v.overflow) p.0) ∙ over))
-  overflow_sets (Put address word) report after p over = absurd (differ (sym (ap (λ (v : Report). v.overflow) p.0) ∙ over))
+  overflow_sets Pulse report after p over = absurd (differ (sym (ap (λ (v : Done). v.overflow) p.0) ∙ over))
+  overflow_sets (Put address word) report after p over = absurd (differ (sym (ap (λ (v : Done). v.overflow) p.0) ∙ over))
 
-  obeys_clears : (named : Option Decoded) (report : Report) (after : State) → s.phase ≡ Running → IsDecoding machine.codes (word_here s) named
+  obeys_clears : (named : Option Decoded) (report : Done) (after : State) → s.phase ≡ Running → IsDecoding machine.codes (word_here s) named
       → Obeys machine s named report after → s.indicator ≡ true → after.indicator ≡ false → Reads machine s Tov
   obeys_clears (Some d) report after running names p was now = ⊎_elim
       (λ tov. record { running = running; indexed = d.indexed; address = d.address; names = subst (λ (o : Order). Names machine.codes (word_here s) o d.indexed d.address) tov names })
@@ -150,13 +150,13 @@ module _ (machine : Machine) (s : State) where
       (tov_or_not d.order)
   obeys_clears None report after running names p was now = absurd (still_set s after was now (ap (λ (v : State). v.indicator) p.1))
 
-  step_in_clears : (phase : Phase) (report : Report) (after : State) → s.phase ≡ phase → StepsIn phase machine s report after
+  step_in_clears : (phase : Phase) (report : Done) (after : State) → s.phase ≡ phase → StepsIn phase machine s report after
       → s.indicator ≡ true → after.indicator ≡ false → Reads machine s Tov
   step_in_clears Running report after is p was now = obeys_clears p.0 report after is p.1 p.2 was now
   step_in_clears Waiting report after is p was now = absurd (still_set s after was now (ap (λ (v : State). v.indicator) p.1))
   step_in_clears Halted report after is p was now = absurd (still_set s after was now (ap (λ (v : State). v.indicator) p.1))
 
-  pub tov_clears : (event : Event) (report : Report) (after : State) → Steps machine s event report after
+  pub tov_clears : (event : Event) (report : Done) (after : State) → Steps machine s event report after
       → s.indicator ≡ true → after.indicator ≡ false → (event ≡ Step) × Reads machine s Tov
   tov_clears Step report after p was now = (refl, step_in_clears s.phase report after refl p was now)
   tov_clears Pulse report after p was now = absurd (still_set s after was now (ap (λ (v : State). v.indicator) p.1))
@@ -171,20 +171,20 @@ module _ (machine : Machine) (s : State) where
       (λ other. or_second s.indicator _ was (sym (effect_indicator machine s order e y other) ∙ now))
       (tov_or_not order)
 
-  obeys_set_by : (named : Option Decoded) (report : Report) (after : State) → Obeys machine s named report after
+  obeys_set_by : (named : Option Decoded) (report : Done) (after : State) → Obeys machine s named report after
       → s.indicator ≡ false → after.indicator ≡ true → report.overflow ≡ true
   obeys_set_by (Some d) report after p was now =
-      ap (λ (v : Report). v.overflow) p.0
+      ap (λ (v : Done). v.overflow) p.0
       ∙ effect_set_by d.order (effective s d.order d.indexed d.address) d.address was (sym (ap (λ (v : State). v.indicator) p.1) ∙ now)
   obeys_set_by None report after p was now = absurd (still_clear s after was now (ap (λ (v : State). v.indicator) p.1))
 
-  step_in_set_by : (phase : Phase) (report : Report) (after : State) → StepsIn phase machine s report after
+  step_in_set_by : (phase : Phase) (report : Done) (after : State) → StepsIn phase machine s report after
       → s.indicator ≡ false → after.indicator ≡ true → report.overflow ≡ true
   step_in_set_by Running report after p was now = obeys_set_by p.0 report after p.2 was now
   step_in_set_by Waiting report after p was now = absurd (still_clear s after was now (ap (λ (v : State). v.indicator) p.1))
   step_in_set_by Halted report after p was now = absurd (still_clear s after was now (ap (λ (v : State). v.indicator) p.1))
 
-  pub set_by_overflow : (event : Event) (report : Report) (after : State) → Steps machine s event report after
+  pub set_by_overflow : (event : Event) (report : Done) (after : State) → Steps machine s event report after
       → s.indicator ≡ false → after.indicator ≡ true → report.overflow ≡ true
   set_by_overflow Step report after p was now = step_in_set_by s.phase report after p was now
   set_by_overflow Pulse report after p was now = absurd (still_clear s after was now (ap (λ (v : State). v.indicator) p.1))

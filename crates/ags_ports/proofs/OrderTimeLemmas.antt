@@ -16,7 +16,7 @@ use Rattle.ags_isa.proofs.WordLemmas.{code_over}
 use Rattle.ags_ports.specs.declared.events.Phase.TheVariants.{Running, Halted}
 use Rattle.ags_ports.specs.declared.events.Event.{Event}
 use Rattle.ags_ports.specs.declared.events.Event.TheVariants.{Step}
-use Rattle.ags_ports.specs.declared.events.Report.{Report}
+use Rattle.ags_ports.specs.declared.events.Done.{Done}
 use Rattle.ags_ports.specs.declared.machines.Machine.{Machine}
 use Rattle.ags_ports.specs.Time.{AreTimes, time_of}
 use Rattle.ags_ports.specs.Machine.{IsMachine}
@@ -28,7 +28,7 @@ use Rattle.ags_ports.proofs.HaltLemmas.{no_order_halts}
 
 -- ---- by a report
 
-pub time-named : (machine : Machine) (report : Report) (order : Order) (indexed : Bool) (address : ℕ) → IsMachine machine → report.ran ≡ true
+pub time-named : (machine : Machine) (report : Done) (order : Order) (indexed : Bool) (address : ℕ) → IsMachine machine → report.ran ≡ true
     → Names machine.codes report.word order indexed address → order_time machine report ≡ time_of machine.times order
 unfolding order_time
 time-named machine report order indexed address is ran names =
@@ -36,7 +36,7 @@ time-named machine report order indexed address is ran names =
     let found = order_of-code machine.codes (report.word / 2 ^ 13) is.codes order (sym coded) in
     rw (ran, found) refl
 
-pub time-idle : (machine : Machine) (report : Report) → report.ran ≡ false → order_time machine report ≡ 0
+pub time-idle : (machine : Machine) (report : Done) → report.ran ≡ false → order_time machine report ≡ 0
 unfolding order_time
 time-idle machine report none = rw none refl
 
@@ -47,7 +47,7 @@ time_below times are (Some order) = are.most (order_number order) 0 (rw are.each
 time_above : (times : List ℕ) → AreTimes times → (order : Order) → 1 ≤ time_of times order
 time_above times are order = are.least (order_number order) 0 (rw are.each (order_number-below order))
 
-pub time-most : (machine : Machine) (report : Report) → IsMachine machine → order_time machine report ≤ 1000
+pub time-most : (machine : Machine) (report : Done) → IsMachine machine → order_time machine report ≤ 1000
 unfolding order_time
 time-most machine report is = elim (cases_Bool report.ran) [
   | inl ran ↦ rw ran (time_below machine.times is.times (order_of machine.codes (report.word / 2 ^ 13)))
@@ -55,7 +55,7 @@ time-most machine report is = elim (cases_Bool report.ran) [
 ]
 
 -- where no order can have run
-time_unless : (machine : Machine) (report : Report) → (report.ran ≡ true → ⊥) → order_time machine report ≡ 0
+time_unless : (machine : Machine) (report : Done) → (report.ran ≡ true → ⊥) → order_time machine report ≡ 0
 time_unless machine report never = elim (cases_Bool report.ran) [
   | inl ran ↦ absurd (never ran)
   | inr none ↦ time-idle machine report none
@@ -67,7 +67,7 @@ running_halted same = cc
 module _ (machine : Machine) (s : State) where
   -- ---- by a step
 
-  pub time-read : (order : Order) (report : Report) (after : State) → IsMachine machine → Reads machine s order → Steps machine s Step report after
+  pub time-read : (order : Order) (report : Done) (after : State) → IsMachine machine → Reads machine s order → Steps machine s Step report after
       → order_time machine report ≡ time_of machine.times order
   time-read order report after is reads step =
       let place = place_told machine s Step report after step in
@@ -75,19 +75,19 @@ module _ (machine : Machine) (s : State) where
       time-named machine report order reads.indexed reads.address is ran
       (subst (λ (word : ℕ). Names machine.codes word order reads.indexed reads.address) (sym place.1) reads.names)
 
-  pub time-least : (event : Event) (report : Report) (after : State) → IsMachine machine → Steps machine s event report after → report.ran ≡ true → 1 ≤ order_time machine report
+  pub time-least : (event : Event) (report : Done) (after : State) → IsMachine machine → Steps machine s event report after → report.ran ≡ true → 1 ≤ order_time machine report
   time-least event report after is step ran =
       let read = ran_reads machine s event report after step ran in
       let here : Steps machine s Step report after = subst (λ (e : Event). Steps machine s e report after) read.0 step in
       rw (time-read read.1 report after is read.2 here) (time_above machine.times is.times read.1)
 
-  pub time-other : (event : Event) (report : Report) (after : State) → Steps machine s event report after → event ≢ Step → order_time machine report ≡ 0
+  pub time-other : (event : Event) (report : Done) (after : State) → Steps machine s event report after → event ≢ Step → order_time machine report ≡ 0
   time-other event report after step other = time_unless machine report (λ ran. other (ran_reads machine s event report after step ran).0)
 
-  pub time-unread : (event : Event) (report : Report) (after : State) → Steps machine s event report after → ((order : Order) → ¬ Reads machine s order) → order_time machine report ≡ 0
+  pub time-unread : (event : Event) (report : Done) (after : State) → Steps machine s event report after → ((order : Order) → ¬ Reads machine s order) → order_time machine report ≡ 0
   time-unread event report after step none = time_unless machine report (λ ran. let read = ran_reads machine s event report after step ran in none read.1 read.2)
 
-  pub time-halts : (event : Event) (report : Report) (after : State) → Steps machine s event report after → after.phase ≡ Halted → order_time machine report ≡ 0
+  pub time-halts : (event : Event) (report : Done) (after : State) → Steps machine s event report after → after.phase ≡ Halted → order_time machine report ≡ 0
   time-halts event report after step halted = time_unless machine report (λ ran.
       let read = ran_reads machine s event report after step ran in
       let ran_on : s.phase ≢ Halted = λ was. running_halted (sym read.2.running ∙ was) in

@@ -11,7 +11,7 @@
 use Rattle.std.proofs.Common.{◌≡◌, ℕ, ◌≤◌, refl, sym, ap, subst, ◌∙◌, List, [], ◌∷◌, ◌++◌}
 use Rattle.ags_ports.specs.declared.events.Phase.TheVariants.{Halted}
 use Rattle.ags_ports.specs.declared.events.Event.{Event}
-use Rattle.ags_ports.specs.declared.events.Report.{Report}
+use Rattle.ags_ports.specs.declared.events.Done.{Done}
 use Rattle.ags_ports.specs.declared.machines.Machine.{Machine}
 use Rattle.ags_ports.specs.Machine.{IsMachine}
 use Rattle.ags_ports.specs.State.{State, IsState, cell}
@@ -26,7 +26,7 @@ same_moment : (m n : Moment) (ms ns : List Moment) → m.report ≡ n.report →
 same_moment m n ms ns e f g =
     let h : m ≡ n = made m.report n.report m.after n.after e f in cc
   where
-    made : (d e : Report) (a b : State) → d ≡ e → a ≡ b → ◌≡◌ {A = Moment} (record { report = d; after = a }) (record { report = e; after = b })
+    made : (d e : Done) (a b : State) → d ≡ e → a ≡ b → ◌≡◌ {A = Moment} (record { report = d; after = a }) (record { report = e; after = b })
     made d e a b p r = cc
 
 fixed_from : (at word : ℕ) → 2048 ≤ at → (machine : Machine) (s : State) (events : List Event) (moments : List Moment) → cell s at ≡ word → Run machine s events moments → AtEach (λ moment. cell moment.after at ≡ word) moments
@@ -174,7 +174,7 @@ module _ (machine : Machine) where
   pub end-nil : (s : State) → RunsTo machine s [] s
   end-nil s = record { moments = []; run = tt; ends = refl }
 
-  pub end-step : (s : State) (event : Event) (report : Report) (after : State) → Steps machine s event report after → RunsTo machine s (event ∷ []) after
+  pub end-step : (s : State) (event : Event) (report : Done) (after : State) → Steps machine s event report after → RunsTo machine s (event ∷ []) after
   end-step s event report after step = record { moments = record { report = report; after = after } ∷ []; run = (step, tt); ends = refl }
 
   pub end-append : (s mid after : State) (first second : List Event) → RunsTo machine s first mid → RunsTo machine mid second after → RunsTo machine s (first ++ second) after

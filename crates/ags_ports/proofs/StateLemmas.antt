@@ -23,7 +23,7 @@ use Rattle.ags_ports.specs.declared.events.Phase.{Phase}
 use Rattle.ags_ports.specs.declared.events.Phase.TheVariants.{Running, Waiting, Halted}
 use Rattle.ags_ports.specs.declared.events.Event.{Event}
 use Rattle.ags_ports.specs.declared.events.Event.TheVariants.{Step, Pulse, Put}
-use Rattle.ags_ports.specs.declared.events.Report.{Report}
+use Rattle.ags_ports.specs.declared.events.Done.{Done}
 use Rattle.ags_ports.specs.declared.machines.Machine.{Machine}
 use Rattle.ags_ports.specs.Machine.{IsMachine}
 use Rattle.ags_ports.specs.Port.{place_of, register_at, set_at, read_at, is_once}
@@ -177,18 +177,18 @@ effective_below machine s order indexed y is below =
 along : (machine : Machine) (t u : State) → t ≡ u → IsState machine u → IsState machine t
 along machine t u e is = subst (λ (v : State). IsState machine v) (sym e) is
 
-obeys_keeps : (machine : Machine) (s : State) (named : Option Decoded) (report : Report) (after : State) → IsMachine machine → IsState machine s
+obeys_keeps : (machine : Machine) (s : State) (named : Option Decoded) (report : Done) (after : State) → IsMachine machine → IsState machine s
     → IsDecoding machine.codes (word_here s) named → Obeys machine s named report after → IsState machine after
 obeys_keeps machine s (Some d) report after h is names does = along machine after _ does.1
     (effect_keeps machine s d.order (effective s d.order d.indexed d.address) d.address h is (effective_below machine s d.order d.indexed d.address is names.below) names.below)
 obeys_keeps machine s None report after h is names does = along machine after _ does.1 (holds machine s is s.a s.q s.index s.indicator s.location Halted is.a is.q is.index is.location)
 
-step_in_keeps : (phase : Phase) (machine : Machine) (s : State) (report : Report) (after : State) → IsMachine machine → IsState machine s → StepsIn phase machine s report after → IsState machine after
+step_in_keeps : (phase : Phase) (machine : Machine) (s : State) (report : Done) (after : State) → IsMachine machine → IsState machine s → StepsIn phase machine s report after → IsState machine after
 step_in_keeps Running machine s report after h is p = obeys_keeps machine s p.0 report after h is p.1 p.2
 step_in_keeps Waiting machine s report after h is p = along machine after s p.1 is
 step_in_keeps Halted machine s report after h is p = along machine after s p.1 is
 
-pub step_keeps : (machine : Machine) (s : State) (event : Event) (report : Report) (after : State) → IsMachine machine → IsState machine s → IsEvent event → Steps machine s event report after → IsState machine after
+pub step_keeps : (machine : Machine) (s : State) (event : Event) (report : Done) (after : State) → IsMachine machine → IsState machine s → IsEvent event → Steps machine s event report after → IsState machine after
 step_keeps machine s Step report after h is right p = step_in_keeps s.phase machine s report after h is p
 step_keeps machine s Pulse report after h is right p = along machine after _ p.1 (holds machine s is s.a s.q s.index s.indicator s.location (phase_after_pulse s.phase) is.a is.q is.index is.location)
 step_keeps machine s (Put address word) report after h is right p =

@@ -1,12 +1,12 @@
 -- Worked order times on the standard machine, from the times and the codes of its orders. The words are octal.
 use Rattle.std.proofs.Common.{◌≡◌, ℕ, Bool, true, false, refl, None}
 use Rattle.ags_isa.specs.Code.{order_of}
-use Rattle.ags_ports.specs.declared.events.Report.{Report}
+use Rattle.ags_ports.specs.declared.events.Done.{Done}
 use Rattle.ags_ports.specs.Machine.{standard_machine}
 use Rattle.ags_ports.specs.OrderTime.{order_time}
 
 -- the report of a step at a word, where an order ran or none did
-at_word : Bool → ℕ → Report
+at_word : Bool → ℕ → Done
 at_word ran word = record { ran = ran; location = 0; word = word; overflow = false; stored = None; took = None; gave = None }
 
 -- ADD with the index bit, a division, and the last order

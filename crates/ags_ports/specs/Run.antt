@@ -1,14 +1,14 @@
 -- Runs of the machine: a list of events, and what comes of them one after another.
 use Rattle.std.specs.Prelude.{◌≡◌, List, [], ◌∷◌, ◌++◌, ⊤}
 use Rattle.ags_ports.specs.declared.events.Event.{Event}
-use Rattle.ags_ports.specs.declared.events.Report.{Report}
+use Rattle.ags_ports.specs.declared.events.Done.{Done}
 use Rattle.ags_ports.specs.declared.machines.Machine.{Machine}
 use Rattle.ags_ports.specs.State.{State}
 use Rattle.ags_ports.specs.Step.{IsEvent, Steps}
 
 -- what comes of one event: what the step told, and the state after it
 pub record Moment : Type 0 where
-  pub report : Report
+  pub report : Done
   pub after : State
 
 -- From this state, these events give these moments, one step after another. There is no bound on their number.

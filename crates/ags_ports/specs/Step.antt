@@ -7,7 +7,7 @@ use Rattle.ags_ports.specs.declared.events.Phase.{Phase}
 use Rattle.ags_ports.specs.declared.events.Phase.TheVariants.{Running, Waiting, Halted}
 use Rattle.ags_ports.specs.declared.events.Event.{Event}
 use Rattle.ags_ports.specs.declared.events.Event.TheVariants.{Step, Pulse, Put}
-use Rattle.ags_ports.specs.declared.events.Report.{Report}
+use Rattle.ags_ports.specs.declared.events.Done.{Done}
 use Rattle.ags_ports.specs.declared.machines.Machine.{Machine}
 use Rattle.ags_ports.specs.Port.{place_of, set_at}
 use Rattle.ags_ports.specs.State.{State, word_here}
@@ -35,7 +35,7 @@ abbrev pub ChangesInputsAlone : State → State → Type 0
 ChangesInputsAlone s after = after ≡ record s { inputs = after.inputs }
 
 -- the report of an event that runs no order: the location and its word, and nothing else
-abbrev pub idle_report : State → Report
+abbrev pub idle_report : State → Done
 idle_report s = record {
   ran = false;
   location = s.location;
@@ -47,7 +47,7 @@ idle_report s = record {
 }
 
 -- the report of an order that ran: the location and the word that it was read from, and what it did
-abbrev pub order_report : State → Effect → Report
+abbrev pub order_report : State → Effect → Done
 order_report s made = record {
   ran = true;
   location = s.location;
@@ -59,7 +59,7 @@ order_report s made = record {
 }
 
 -- the order that was read runs, at its address; where none was read, the machine halts, and nothing else changes
-abbrev pub Obeys : Machine → State → Option Decoded → Report → State → Type 0
+abbrev pub Obeys : Machine → State → Option Decoded → Done → State → Type 0
 Obeys machine s (Some decoded) report after =
     let e = effective s decoded.order decoded.indexed decoded.address in
     let does = effect machine s decoded.order e decoded.address in
@@ -67,7 +67,7 @@ Obeys machine s (Some decoded) report after =
 Obeys machine s None report after = (report ≡ idle_report s) × (after ≡ record s { phase = Halted })
 
 -- a Step, by the phase: where orders run, the word at the location is read and obeyed; else nothing changes
-abbrev pub StepsIn : Phase → Machine → State → Report → State → Type 0
+abbrev pub StepsIn : Phase → Machine → State → Done → State → Type 0
 StepsIn Running machine s report after =
     (named : Option Decoded) × IsDecoding machine.codes (word_here s) named × Obeys machine s named report after
 StepsIn Waiting machine s report after = (report ≡ idle_report s) × (after ≡ s)
@@ -80,7 +80,7 @@ phase_after_pulse Running = Running
 phase_after_pulse Halted = Halted
 
 -- One step of the machine: in this state, the event makes this report, and leaves the state after.
-abbrev pub Steps : Machine → State → Event → Report → State → Type 0
+abbrev pub Steps : Machine → State → Event → Done → State → Type 0
 Steps machine s Step report after = StepsIn s.phase machine s report after
 Steps machine s Pulse report after = (report ≡ idle_report s) × (after ≡ record s { phase = phase_after_pulse s.phase })
 -- the input register at the address is set, in every phase; where there is none, nothing changes

@@ -40,7 +40,7 @@ pub struct Stored {
 
 /// What one event makes of the machine: the report of a step.
 #[derive(Clone, Copy, Debug, PartialEq, Eq)]
-pub struct Report {
+pub struct Done {
     /// Whether an order ran.
     pub ran: bool,
     /// The location before the event.

@@ -7,7 +7,7 @@ ghost use Rattle.ags_word.specs.Word.{val};
 ghost use Rattle.ags_isa.specs.declared.orders.Order.{Order};
 ghost use Rattle.ags_isa.specs.declared.orders.Order.TheVariants.{Dvp};
 ghost use Rattle.ags_ports.specs.declared.events.Event.TheVariants.{Step};
-ghost use Rattle.ags_ports.specs.declared.events.Report.{Report};
+ghost use Rattle.ags_ports.specs.declared.events.Done.{Done};
 ghost use Rattle.ags_ports.specs.Machine.{IsMachine};
 ghost use Rattle.ags_ports.specs.State.{State, IsState};
 ghost use Rattle.ags_ports.specs.Step.{Steps, Reads};
@@ -19,19 +19,19 @@ use crate::machines::Machine;
 /// goes: in A, or of MPY, LLS and LRS in the pair. It tells an overflow exactly where there is no exact result with room:
 /// where it has no room, and where there is none, as of a division by 0. The other orders never overflow.
 pub fn order_without_overflow_is_exact()
-    ensures exact { (machine : Machine) (s : State) (order : Order) (reads : Reads machine s order) (report : Report) (after : State)
+    ensures exact { (machine : Machine) (s : State) (order : Order) (reads : Reads machine s order) (report : Done) (after : State)
         → IsMachine machine → IsState machine s → computes_number order ≡ true → Steps machine s Step report after
         → report.overflow ≡ false → IsResultHere machine s order reads (number_left order after) }
-    ensures room { (machine : Machine) (s : State) (order : Order) (reads : Reads machine s order) (report : Report) (after : State)
+    ensures room { (machine : Machine) (s : State) (order : Order) (reads : Reads machine s order) (report : Done) (after : State)
         → IsMachine machine → IsState machine s → Steps machine s Step report after
         → (n : ℤ) → IsResultHere machine s order reads n → HasRoom order n → report.overflow ≡ false }
-    ensures no_room { (machine : Machine) (s : State) (order : Order) (reads : Reads machine s order) (report : Report) (after : State)
+    ensures no_room { (machine : Machine) (s : State) (order : Order) (reads : Reads machine s order) (report : Done) (after : State)
         → IsMachine machine → IsState machine s → Steps machine s Step report after
         → (n : ℤ) → IsResultHere machine s order reads n → ¬ HasRoom order n → report.overflow ≡ true }
-    ensures no_result { (machine : Machine) (s : State) (order : Order) (reads : Reads machine s order) (report : Report) (after : State)
+    ensures no_result { (machine : Machine) (s : State) (order : Order) (reads : Reads machine s order) (report : Done) (after : State)
         → IsMachine machine → IsState machine s → computes_number order ≡ true → Steps machine s Step report after
         → ((n : ℤ) → ¬ IsResultHere machine s order reads n) → report.overflow ≡ true }
-    ensures others { (machine : Machine) (s : State) (order : Order) (report : Report) (after : State)
+    ensures others { (machine : Machine) (s : State) (order : Order) (report : Done) (after : State)
         → IsMachine machine → Reads machine s order → computes_number order ≡ false → Steps machine s Step report after
         → report.overflow ≡ false }
 {}

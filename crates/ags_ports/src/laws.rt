@@ -9,7 +9,7 @@ ghost use Rattle.ags_isa.specs.Naming.{Names};
 ghost use Rattle.ags_ports.specs.declared.events.Phase.TheVariants.{Running, Waiting, Halted};
 ghost use Rattle.ags_ports.specs.declared.events.Event.{Event};
 ghost use Rattle.ags_ports.specs.declared.events.Event.TheVariants.{Step, Pulse};
-ghost use Rattle.ags_ports.specs.declared.events.Report.{Report};
+ghost use Rattle.ags_ports.specs.declared.events.Done.{Done};
 ghost use Rattle.ags_ports.specs.declared.registers.Port.{Port};
 ghost use Rattle.ags_ports.specs.Port.{AreRegisters, place_of};
 ghost use Rattle.ags_ports.specs.Time.{AreTimes, time_of, standard_time, standard_times};
@@ -58,20 +58,20 @@ pub fn index_adds_its_bits()
 /// From each state, each event tells one thing and leaves one state.
 pub fn each_event_has_one_step()
     ensures some { (machine : Machine) (s : State) (event : Event)
-        → (report : Report) × (after : State) × Steps machine s event report after }
-    ensures one { (machine : Machine) (s : State) (event : Event) (report told : Report) (after left : State) → IsMachine machine
+        → (report : Done) × (after : State) × Steps machine s event report after }
+    ensures one { (machine : Machine) (s : State) (event : Event) (report told : Done) (after left : State) → IsMachine machine
         → Steps machine s event report after → Steps machine s event told left → (report ≡ told) × (after ≡ left) }
 {}
 
 /// A step of a machine keeps each part of a state in its range, and how many registers and cells there are.
 pub fn step_keeps_a_state()
-    ensures { (machine : Machine) (s : State) (event : Event) (report : Report) (after : State) → IsMachine machine
+    ensures { (machine : Machine) (s : State) (event : Event) (report : Done) (after : State) → IsMachine machine
         → IsState machine s → IsEvent event → Steps machine s event report after → IsState machine after }
 {}
 
 /// No event changes a fixed cell, one from 4000 octal on, and so no run of any length does.
 pub fn fixed_cells_stay()
-    ensures step { (machine : Machine) (s : State) (event : Event) (report : Report) (after : State) (address : ℕ)
+    ensures step { (machine : Machine) (s : State) (event : Event) (report : Done) (after : State) (address : ℕ)
         → 2048 ≤ address → Steps machine s event report after → cell after address ≡ cell s address }
     ensures run { (machine : Machine) (s : State) (events : List Event) (moments : List Moment) (address : ℕ)
         → 2048 ≤ address → Run machine s events moments → AtEach (λ moment. cell moment.after address ≡ cell s address) moments }
@@ -79,15 +79,15 @@ pub fn fixed_cells_stay()
 
 /// Only a pulse ends waiting: any other event changes input registers at most, and a pulse sets the phase alone.
 pub fn only_a_pulse_ends_waiting()
-    ensures waits { (machine : Machine) (s : State) (event : Event) (report : Report) (after : State)
+    ensures waits { (machine : Machine) (s : State) (event : Event) (report : Done) (after : State)
         → s.phase ≡ Waiting → event ≢ Pulse → Steps machine s event report after → ChangesInputsAlone s after }
-    ensures wakes { (machine : Machine) (s : State) (report : Report) (after : State)
+    ensures wakes { (machine : Machine) (s : State) (report : Done) (after : State)
         → s.phase ≡ Waiting → Steps machine s Pulse report after → after ≡ record s { phase = Running } }
 {}
 
 /// Nothing leaves a halt: each event, and a run of any length, changes input registers at most and stays halted.
 pub fn nothing_leaves_a_halt()
-    ensures step { (machine : Machine) (s : State) (event : Event) (report : Report) (after : State)
+    ensures step { (machine : Machine) (s : State) (event : Event) (report : Done) (after : State)
         → s.phase ≡ Halted → Steps machine s event report after → ChangesInputsAlone s after }
     ensures run { (machine : Machine) (s : State) (events : List Event) (moments : List Moment)
         → s.phase ≡ Halted → Run machine s events moments → AtEach (λ moment. moment.after.phase ≡ Halted) moments }
@@ -99,12 +99,12 @@ pub fn nothing_leaves_a_halt()
 /// Waiting begins where a step runs DLY and nowhere else, and a halt where a step meets a word that is no order and
 /// nowhere else; there it is all that changes.
 pub fn only_dly_waits_and_only_no_order_halts()
-    ensures waits { (machine : Machine) (s : State) (event : Event) (report : Report) (after : State)
+    ensures waits { (machine : Machine) (s : State) (event : Event) (report : Done) (after : State)
         → Steps machine s event report after → s.phase ≢ Waiting → after.phase ≡ Waiting → (event ≡ Step) × Reads machine s Dly }
-    ensures halts { (machine : Machine) (s : State) (event : Event) (report : Report) (after : State)
+    ensures halts { (machine : Machine) (s : State) (event : Event) (report : Done) (after : State)
         → Steps machine s event report after → s.phase ≢ Halted → after.phase ≡ Halted
         → (event ≡ Step) × (s.phase ≡ Running) × NamesNone machine s }
-    ensures alone { (machine : Machine) (s : State) (report : Report) (after : State)
+    ensures alone { (machine : Machine) (s : State) (report : Done) (after : State)
         → s.phase ≡ Running → NamesNone machine s → Steps machine s Step report after
         → (report ≡ idle_report s) × (after ≡ record s { phase = Halted }) }
 {}
@@ -112,34 +112,34 @@ pub fn only_dly_waits_and_only_no_order_halts()
 /// What is told says what changed: of the cells the one of the store that is told, of the output registers the one that
 /// a word is told to be given to, and by a step, of the input registers the one that a word is told to be taken from.
 pub fn changes_are_told()
-    ensures cells { (machine : Machine) (s : State) (event : Event) (report : Report) (after : State)
+    ensures cells { (machine : Machine) (s : State) (event : Event) (report : Done) (after : State)
         → Steps machine s event report after → after.cells ≡ cells_after_store s.cells report.stored }
-    ensures inputs { (machine : Machine) (s : State) (report : Report) (after : State)
+    ensures inputs { (machine : Machine) (s : State) (report : Done) (after : State)
         → Steps machine s Step report after → after.inputs ≡ inputs_after_take machine.ports.inputs s.inputs report.took }
-    ensures outputs { (machine : Machine) (s : State) (event : Event) (report : Report) (after : State)
+    ensures outputs { (machine : Machine) (s : State) (event : Event) (report : Done) (after : State)
         → Steps machine s event report after → after.outputs ≡ outputs_after_give machine.ports.outputs s.outputs report.gave }
 {}
 
 /// An order is told to have run exactly where a step reads one; where none ran, nothing is told but the location and
 /// its word, and these are told of every event, as they were before it.
 pub fn order_that_is_read_runs()
-    ensures only { (machine : Machine) (s : State) (event : Event) (report : Report) (after : State)
+    ensures only { (machine : Machine) (s : State) (event : Event) (report : Done) (after : State)
         → Steps machine s event report after → report.ran ≡ true → (event ≡ Step) × (order : Order) × Reads machine s order }
-    ensures runs { (machine : Machine) (s : State) (order : Order) (report : Report) (after : State)
+    ensures runs { (machine : Machine) (s : State) (order : Order) (report : Done) (after : State)
         → Reads machine s order → Steps machine s Step report after → report.ran ≡ true }
-    ensures idle_report { (machine : Machine) (s : State) (event : Event) (report : Report) (after : State)
+    ensures idle_report { (machine : Machine) (s : State) (event : Event) (report : Done) (after : State)
         → Steps machine s event report after → report.ran ≡ false → report ≡ idle_report s }
-    ensures here { (machine : Machine) (s : State) (event : Event) (report : Report) (after : State)
+    ensures here { (machine : Machine) (s : State) (event : Event) (report : Done) (after : State)
         → Steps machine s event report after → (report.location ≡ s.location) × (report.word ≡ word_here s) }
 {}
 
 /// An order that overflows sets the indicator, nothing else does, and only a step that runs TOV clears it.
 pub fn only_tov_clears_the_indicator()
-    ensures sets { (machine : Machine) (s : State) (event : Event) (report : Report) (after : State)
+    ensures sets { (machine : Machine) (s : State) (event : Event) (report : Done) (after : State)
         → Steps machine s event report after → report.overflow ≡ true → after.indicator ≡ true }
-    ensures set_by { (machine : Machine) (s : State) (event : Event) (report : Report) (after : State)
+    ensures set_by { (machine : Machine) (s : State) (event : Event) (report : Done) (after : State)
         → Steps machine s event report after → s.indicator ≡ false → after.indicator ≡ true → report.overflow ≡ true }
-    ensures clears { (machine : Machine) (s : State) (event : Event) (report : Report) (after : State)
+    ensures clears { (machine : Machine) (s : State) (event : Event) (report : Done) (after : State)
         → Steps machine s event report after → s.indicator ≡ true → after.indicator ≡ false → (event ≡ Step) × Reads machine s Tov }
 {}
 

@@ -16,7 +16,7 @@ pub mod time_laws;
 mod time_tables;
 
 pub use addressing::effective_address;
-pub use events::{Event, Phase, Report, Stored};
+pub use events::{Done, Event, Phase, Stored};
 pub use machines::Machine;
-pub use registers::{Port, Ports};
+pub use registers::{MOST_REGISTERS, Port, Ports};
 pub use time_tables::Times;

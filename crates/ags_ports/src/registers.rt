@@ -3,14 +3,12 @@
 ghost use Rattle.std.specs.Prelude.{◌≡◌, ◌≢◌, ◌<◌, ◌≤◌, ◌↔◌, ◌==◌, IsTrue, All, Any, AllPairs, length, slice_get, IfSome, Some, None, false};
 ghost use Rattle.ags_ports.specs.Port.{AreRegisters, place_of, is_once, standard_inputs, standard_outputs};
 
+use ags_word::LOCATIONS;
 use arrayvec::ArrayVec;
 use std::marker::Model;
 
 /// How many registers there are at most in one direction.
-const MOST: usize = 32;
-
-/// The number of addresses.
-const ADDRESSES: u16 = 4096;
+pub const MOST_REGISTERS: usize = 32;
 
 /// A register.
 #[derive(Clone, Copy, Default, PartialEq, Eq)]
@@ -24,8 +22,8 @@ pub struct Port {
 /// A machine's registers in each direction: at most 32, at distinct addresses below 4096.
 #[derive(Drop)]
 pub struct Ports {
-    inputs: ArrayVec<Port, 32>,
-    outputs: ArrayVec<Port, 32>,
+    inputs: ArrayVec<Port, MOST_REGISTERS>,
+    outputs: ArrayVec<Port, MOST_REGISTERS>,
 }
 
 impl Model for Ports {
@@ -150,11 +148,11 @@ fn held_port(address: u16) -> Port
 }
 
 /// A list of registers in place.
-fn table(ports: &[Port]) -> ArrayVec<Port, 32>
+fn table(ports: &[Port]) -> ArrayVec<Port, MOST_REGISTERS>
     requires { length ports.now ≤ 32 }
     ensures { result.items ≡ ports.now }
 {
-    let mut table: ArrayVec<Port, 32> = ArrayVec::new();
+    let mut table: ArrayVec<Port, MOST_REGISTERS> = ArrayVec::new();
     let _ = table.try_extend_from_slice(ports);
     table
 }
@@ -163,14 +161,14 @@ fn table(ports: &[Port]) -> ArrayVec<Port, 32>
 fn are_registers(ports: &[Port]) -> bool
     ensures { IsTrue result ↔ AreRegisters ports.now }
 {
-    ports.len() <= MOST && all_below(ports) && all_distinct(ports)
+    ports.len() <= MOST_REGISTERS && all_below(ports) && all_distinct(ports)
 }
 
 /// Each address is below 4096.
 fn all_below(ports: &[Port]) -> bool
     ensures { IsTrue result ↔ All (λ port. port.address < 4096) ports.now }
 {
-    ports.iter().all(|port| port.address < ADDRESSES)
+    ports.iter().all(|port| port.address < LOCATIONS)
 }
 
 /// No two addresses are equal.

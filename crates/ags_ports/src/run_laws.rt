@@ -3,7 +3,7 @@
 
 ghost use Rattle.std.specs.Prelude.{◌≡◌, ◌↔◌, List, [], ◌∷◌, ◌++◌};
 ghost use Rattle.ags_ports.specs.declared.events.Event.{Event};
-ghost use Rattle.ags_ports.specs.declared.events.Report.{Report};
+ghost use Rattle.ags_ports.specs.declared.events.Done.{Done};
 ghost use Rattle.ags_ports.specs.declared.machines.Machine.{Machine};
 ghost use Rattle.ags_ports.specs.Machine.{IsMachine};
 ghost use Rattle.ags_ports.specs.State.{State, IsState};
@@ -48,7 +48,7 @@ pub fn events_lead_to_one_state()
     ensures one { (machine : Machine) (s : State) (events : List Event) (after left : State) → IsMachine machine
         → RunsTo machine s events after → RunsTo machine s events left → after ≡ left }
     ensures none { (machine : Machine) (s : State) → RunsTo machine s [] s }
-    ensures step { (machine : Machine) (s : State) (event : Event) (report : Report) (after : State)
+    ensures step { (machine : Machine) (s : State) (event : Event) (report : Done) (after : State)
         → Steps machine s event report after → RunsTo machine s (event ∷ []) after }
     ensures join { (machine : Machine) (s mid after : State) (first second : List Event)
         → RunsTo machine s first mid → RunsTo machine mid second after → RunsTo machine s (first ++ second) after }

@@ -5,7 +5,7 @@ use Rattle.std.proofs.lemmas.Bool.{eq-eqb, eqb-true}
 use Rattle.std.proofs.lemmas.List.{get_or-set_same, get_or-set_other}
 use Rattle.ags_domain.specs.Domain.{Meaning}
 use Rattle.ags_ports.specs.declared.events.Event.TheVariants.{Step}
-use Rattle.ags_ports.specs.declared.events.Report.{Report}
+use Rattle.ags_ports.specs.declared.events.Done.{Done}
 use Rattle.ags_ports.specs.declared.events.Stored.{Stored}
 use Rattle.ags_ports.specs.declared.machines.Machine.{Machine}
 use Rattle.ags_ports.specs.State.{State, IsState, cell}
@@ -97,7 +97,7 @@ module _ {D : Type 0} (meaning : Meaning D) where
           false_true : false ≡ true → ⊥
           false_true h = cc
 
-  pub kept_in_limits : (c : Case D) (s : State) (report : Report) (after : State) (pair : PostPair D) → IsState c.machine s
+  pub kept_in_limits : (c : Case D) (s : State) (report : Done) (after : State) (pair : PostPair D) → IsState c.machine s
       → Steps c.machine s Step report after → Follows meaning c pair report after
       → AreCellsInLimits meaning c.limits s → AreCellsInLimits meaning c.limits after
   kept_in_limits c s report after pair is step follows before address below =

@@ -7,7 +7,7 @@ use Rattle.ags_isa.specs.Naming.{IsDecoding}
 use Rattle.ags_domain.specs.Domain.{Meaning, IsMeaning}
 use Rattle.ags_ports.specs.declared.events.Phase.{Phase}
 use Rattle.ags_ports.specs.declared.events.Event.TheVariants.{Step}
-use Rattle.ags_ports.specs.declared.events.Report.{Report}
+use Rattle.ags_ports.specs.declared.events.Done.{Done}
 use Rattle.ags_ports.specs.Port.{place_of}
 use Rattle.ags_ports.specs.Machine.{IsMachine}
 use Rattle.ags_ports.specs.State.{State, IsState, word_here}
@@ -38,21 +38,21 @@ module _ {D : Type 0} (meaning : Meaning D) (lawful : IsMeaning D meaning) (c : 
       subst (λ (phase : Phase). StepsIn phase c.machine s (order_report s does) does.after) (sym in_case.running) (Some d, names_here, (refl, refl))
 
   -- what is told and left is what the order does
-  sound_follows : (d : Decoded) (pair : PostPair D) (report : Report) (after : State) → Steps c.machine s Step report after
+  sound_follows : (d : Decoded) (pair : PostPair D) (report : Done) (after : State) → Steps c.machine s Step report after
       → (does : _) → report ≡ order_report s does → after ≡ does.after → IsSound meaning c pair does → Follows meaning c pair report after
   sound_follows d pair report after step does told left sound = record {
-    ran = ap (λ (r : Report). r.ran) told;
+    ran = ap (λ (r : Done). r.ran) told;
     agrees = subst (λ (t : State). AgreesWithOne meaning c.limits c.row pair t) (sym left) sound.agrees;
     fixed = λ address from below. step_fixed c.machine s Step report after address from step ∙ in_case.in_row.fixed address from below;
-    overflow = λ over. ap (λ (r : Report). is_named c.limits r.location) told
+    overflow = λ over. ap (λ (r : Done). is_named c.limits r.location) told
         ∙ ap (λ (n : ℕ). is_named c.limits n) in_case.in_row.location
-        ∙ sound.overflow (sym (ap (λ (r : Report). r.overflow) told) ∙ over);
-    stored = subst (λ (r : Report). IfSome r.stored (IsStoreInLimit meaning c.limits)) (sym told) sound.stored;
-    took = subst (λ (r : Report). IfSome r.took (λ address. IsSome (place_of c.machine.ports.inputs address))) (sym told) sound.took;
-    gave = subst (λ (r : Report). IfSome r.gave (IsGivenInLimit meaning c)) (sym told) sound.gave;
+        ∙ sound.overflow (sym (ap (λ (r : Done). r.overflow) told) ∙ over);
+    stored = subst (λ (r : Done). IfSome r.stored (IsStoreInLimit meaning c.limits)) (sym told) sound.stored;
+    took = subst (λ (r : Done). IfSome r.took (λ address. IsSome (place_of c.machine.ports.inputs address))) (sym told) sound.took;
+    gave = subst (λ (r : Done). IfSome r.gave (IsGivenInLimit meaning c)) (sym told) sound.gave;
   }
 
-  word_follows : (named : Option Decoded) (pair : PostPair D) (report : Report) (after : State) → IsDecoding c.machine.codes c.word named
+  word_follows : (named : Option Decoded) (pair : PostPair D) (report : Done) (after : State) → IsDecoding c.machine.codes c.word named
       → IsPostsOfWord meaning c named (Ok pair) → Steps c.machine s Step report after → Follows meaning c pair report after
   word_follows None pair report after names posts step = absurd cc
   word_follows (Some d) pair report after names posts step =
@@ -66,7 +66,7 @@ module _ {D : Type 0} (meaning : Meaning D) (lawful : IsMeaning D meaning) (c : 
       (order_sound meaning lawful c s is in_case d.order e d.address pair (effective_below c.machine s d.order d.indexed d.address is names.below)
       posts_here (step_keeps c.machine s Step (order_report s does) does.after machine_is is tt taken))
 
-pub one_step : {D : Type 0} (meaning : Meaning D) (lawful : IsMeaning D meaning) (c : Case D) (s : State) (report : Report) (after : State) (pair : PostPair D)
+pub one_step : {D : Type 0} (meaning : Meaning D) (lawful : IsMeaning D meaning) (c : Case D) (s : State) (report : Done) (after : State) (pair : PostPair D)
     → IsMachine c.machine → IsState c.machine s → IsInCase meaning c s → IsPostsOfCase meaning c (Ok pair) → Steps c.machine s Step report after
     → Follows meaning c pair report after
 one_step meaning lawful c s report after pair machine_is is in_case posts step =

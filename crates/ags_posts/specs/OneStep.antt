@@ -1,7 +1,7 @@
 -- What one step from a state of a case tells and leaves, by the case's posts.
 use Rattle.std.specs.Prelude.{◌≡◌, ℕ, ◌<◌, true, false, Option, Some, None, ◌⊎◌, IsSome, IfSome}
 use Rattle.ags_domain.specs.Domain.{Meaning}
-use Rattle.ags_ports.specs.declared.events.Report.{Report}
+use Rattle.ags_ports.specs.declared.events.Done.{Done}
 use Rattle.ags_ports.specs.declared.events.Stored.{Stored}
 use Rattle.ags_ports.specs.Port.{place_of}
 use Rattle.ags_ports.specs.State.{State, cell}
@@ -44,7 +44,7 @@ IsGivenInLimit meaning c gave =
 -- One step follows a case's posts: an order ran; the state that it leaves agrees with one of the posts, and its fixed cells hold the
 -- image's words; it overflows at a named place only; it stores to no fixed cell; a word is taken from a register and given to one;
 -- and the word that is stored, or given, is one of the limit there.
-pub record Follows {D : Type 0} (meaning : Meaning D) (c : Case D) (pair : PostPair D) (report : Report) (after : State) : Type 0 where
+pub record Follows {D : Type 0} (meaning : Meaning D) (c : Case D) (pair : PostPair D) (report : Done) (after : State) : Type 0 where
   pub ran : report.ran ≡ true
   pub agrees : AgreesWithOne meaning c.limits c.row pair after
   pub fixed : HasFixedWords c.image after

@@ -4,7 +4,7 @@ ghost use Rattle.std.specs.Prelude.{◌≡◌, ℕ, true, List, Option, Some, Ok
 ghost use Rattle.ags_domain.specs.WordSet.{lists};
 ghost use Rattle.ags_domain.specs.declared.word_sets.WordSet.{WordSet};
 ghost use Rattle.ags_ports.specs.declared.events.Event.TheVariants.{Step};
-ghost use Rattle.ags_ports.specs.declared.events.Report.{Report};
+ghost use Rattle.ags_ports.specs.declared.events.Done.{Done};
 ghost use Rattle.ags_ports.specs.Machine.{IsMachine};
 ghost use Rattle.ags_ports.specs.State.{State, IsState, word_here};
 ghost use Rattle.ags_ports.specs.Step.{Steps};
@@ -23,7 +23,7 @@ use ags_ports::Machine;
 
 /// Where a case has posts, the step from each state of the case runs an order, and follows them.
 pub fn one_step_follows_the_posts<D: Domain>()
-    ensures { (c : Case D) (s : State) (report : Report) (after : State) (pair : PostPair D) → IsMachine c.machine
+    ensures { (c : Case D) (s : State) (report : Done) (after : State) (pair : PostPair D) → IsMachine c.machine
         → IsState c.machine s → IsInCase D.meaning c s → IsPostsOfCase D.meaning c (Ok pair)
         → Steps c.machine s Step report after → Follows D.meaning c pair report after }
 {}
@@ -38,7 +38,7 @@ pub fn covering_row_holds_what_agrees<D: Domain>()
 
 /// A step that follows the posts of its case keeps the cells in their limits.
 pub fn step_that_follows_keeps_cells_in_limits<D: Domain>()
-    ensures { (c : Case D) (s : State) (report : Report) (after : State) (pair : PostPair D) → IsState c.machine s
+    ensures { (c : Case D) (s : State) (report : Done) (after : State) (pair : PostPair D) → IsState c.machine s
         → Steps c.machine s Step report after → Follows D.meaning c pair report after
         → AreCellsInLimits D.meaning c.limits s → AreCellsInLimits D.meaning c.limits after }
 {}

@@ -1,7 +1,7 @@
 -- What standard error says of a status, behind the program's name.
 use Rattle.std.specs.Prelude.{ℕ, Bool, true, false, List, [], ◌++◌, codes, Option, Some, None}
-use Rattle.ags_load.specs.declared.status.Status.{Status}
-use Rattle.ags_load.specs.declared.status.Status.TheVariants.{BadWords, ReadFault, WriteFault, NoMemory}
+use Rattle.ags_program.specs.declared.status.Status.{Status}
+use Rattle.ags_program.specs.declared.status.Status.TheVariants.{BadWords, ReadFault, WriteFault, NoMemory}
 
 -- a file that couldn't be read, by its name where it is known
 abbrev pub unread_text : Option (List ℕ) → List ℕ

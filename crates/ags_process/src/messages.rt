@@ -6,7 +6,6 @@ ghost use Rattle.ags_process.specs.MessageText.{is_told};
 
 use ags_top::Status;
 use std::fmt;
-use std::io::{self, ErrorKind};
 
 /// What is said of a run that ended with a status.
 #[derive(Clone, Copy)]
@@ -55,23 +54,5 @@ fn is_told(status: Status) -> bool
 pub(crate) fn tell<R: Eprint>(rt: &R, message: Message<'_>) {
     if is_told(message.status) {
         let _ = eprintln!(rt; "ags: {message}");
-    }
-}
-
-/// Says why a run couldn't be begun, in one line, where it couldn't: for want of memory, or since an argument isn't UTF-8.
-pub(crate) fn tell_unrun<R: Eprint>(rt: &R, ended: &io::Result<Status>) {
-    if let Err(error) = ended {
-        let status = if error.kind() == ErrorKind::OutOfMemory {
-            Status::NoMemory
-        } else {
-            Status::BadWords
-        };
-        tell(
-            rt,
-            Message {
-                status,
-                unread: None,
-            },
-        );
     }
 }

@@ -5,7 +5,7 @@ use Rattle.std.specs.Prelude.{replicate}
 use Rattle.std.proofs.lemmas.Bool.{cases_lt}
 use Rattle.std.proofs.lemmas.List.{get_or-set_same, get_or-set_other, get_or_past, get_or-replicate, length-replicate}
 use Rattle.ags_domain.specs.Domain.{Meaning, IsFull}
-use Rattle.ags_row.specs.Limit.{Limiting, AreLimits, cell_limit, input_limit, output_limit, is_named, SetsOne, SetsCell, SetsInput, SetsOutput, NamesPlace, AreFullLimits}
+use Rattle.ags_row.specs.Limit.{Limiting, AreLimits, AreWholeLimits, cell_limit, input_limit, output_limit, is_named, SetsOne, SetsCell, SetsInput, SetsOutput, NamesPlace, AreFullLimits}
 
 -- a list with one entry set, read at each place
 pub entry_set : {E : Type 0} (list : List E) (place : ℕ) (entry default : E) → place < length list
@@ -52,4 +52,17 @@ full_limits {D} meaning every limits full is cells inputs outputs places = recor
   inputs = λ address. subst (λ (d : D). IsFull meaning d) (sym (rw (inputs, is) (each_same 4096 every address))) full;
   outputs = λ address. subst (λ (d : D). IsFull meaning d) (sym (rw (outputs, is) (each_same 4096 every address))) full;
   places = λ location. rw places (each_same 4096 false location);
+}
+
+pub whole_limits : {D : Type 0} (meaning : Meaning D) (every : D) (limits : Limiting D) → IsFull meaning every
+    → limits.every ≡ every → limits.cells ≡ replicate 2048 every → limits.inputs ≡ replicate 4096 every
+    → limits.outputs ≡ replicate 4096 every → limits.places ≡ replicate 4096 false → AreWholeLimits meaning limits
+whole_limits {D} meaning every limits full is cells inputs outputs places = record {
+  tables = record {
+    cells = rw cells (length-replicate 2048 every);
+    inputs = rw inputs (length-replicate 4096 every);
+    outputs = rw outputs (length-replicate 4096 every);
+    places = rw places (length-replicate 4096 false);
+  };
+  every = subst (λ (d : D). IsFull meaning d) (sym is) full;
 }

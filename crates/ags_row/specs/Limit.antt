@@ -18,6 +18,11 @@ pub record AreLimits {D : Type 0} (limits : Limiting D) : Type 0 where
   pub outputs : length limits.outputs ≡ 4096
   pub places : length limits.places ≡ 4096
 
+-- so it is, and the set that stands where no other was set holds every word
+pub record AreWholeLimits {D : Type 0} (meaning : Meaning D) (limits : Limiting D) : Type 0 where
+  pub tables : AreLimits limits
+  pub every : IsFull meaning limits.every
+
 -- what the erasable cell at an address may hold
 unfoldable pub cell_limit : {D : Type 0} → Limiting D → ℕ → D
 cell_limit limits address = get_or limits.cells address limits.every

@@ -4,6 +4,7 @@ ghost use Rattle.std.specs.Prelude.{◌≡◌, ◌<◌, true};
 ghost use Rattle.ags_row.specs.Cell.{cells_ascend, value_among};
 
 use crate::ats::At;
+use ags_word::ERASABLE;
 use std::marker::Model;
 
 /// A list of cells with what each may hold.
@@ -43,7 +44,7 @@ pub(crate) fn ascend<D>(cells: &[At<D>]) -> bool
 {
     let mut from = 0;
     for cell in cells {
-        if cell.address < from || 2048 <= cell.address {
+        if cell.address < from || ERASABLE <= cell.address {
             return false;
         }
         from = cell.address + 1;

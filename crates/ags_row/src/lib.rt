@@ -15,4 +15,4 @@ pub use ats::At;
 pub use coverage::{cell_of, covers};
 pub use limits::Limits;
 pub use posts::Post;
-pub use rows::{Row, RowParts};
+pub use rows::{MOST_CELLS, Row, RowParts};

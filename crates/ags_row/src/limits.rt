@@ -1,22 +1,17 @@
 //! Limits: what each cell and each port may hold wherever the machine stands.
 
 ghost use Rattle.std.specs.Prelude.{◌≡◌, ◌<◌, IfOk, replicate};
-ghost use Rattle.ags_row.specs.Limit.{AreLimits, AreFullLimits, cell_limit, input_limit, output_limit, is_named, SetsCell, SetsInput, SetsOutput, NamesPlace};
+ghost use Rattle.ags_row.specs.Limit.{AreFullLimits, AreWholeLimits, cell_limit, input_limit, output_limit, is_named, SetsCell, SetsInput, SetsOutput, NamesPlace};
 
 use ags_domain::Domain;
+use ags_word::{ERASABLE, LOCATIONS};
 use std::alloc::{AllocError, Global};
 use std::marker::Model;
-
-/// How many erasable cells there are.
-const ERASABLE: usize = 2048;
-
-/// How many addresses there are.
-const ADDRESSES: usize = 4096;
 
 /// What each erasable cell, each input register and each output register may hold, and the locations that are named as places
 /// of an overflow.
 #[derive(Drop)]
-pub struct Limits<D> {
+pub struct Limits<D: Domain> {
     cells: Vec<D>,
     inputs: Vec<D>,
     outputs: Vec<D>,
@@ -24,8 +19,8 @@ pub struct Limits<D> {
     every: D,
 }
 
-impl<D> Model for Limits<D> {
-    ghost use Rattle.ags_row.specs.Limit.{Limiting, AreLimits};
+impl<D: Domain> Model for Limits<D> {
+    ghost use Rattle.ags_row.specs.Limit.{Limiting, AreWholeLimits};
 
     ghost Value = { Limiting D };
 
@@ -37,7 +32,7 @@ impl<D> Model for Limits<D> {
       every = limits.every;
     } };
 
-    ghost invariant = { λ limits. AreLimits (record {
+    ghost invariant = { λ limits. AreWholeLimits D.meaning (record {
       cells = limits.cells.items;
       inputs = limits.inputs.items;
       outputs = limits.outputs.items;
@@ -53,10 +48,10 @@ impl<D: Domain> Limits<D> {
     {
         let every = D::full();
         Ok(Limits {
-            cells: repeated(alloc, every, ERASABLE)?,
-            inputs: repeated(alloc, every, ADDRESSES)?,
-            outputs: repeated(alloc, every, ADDRESSES)?,
-            places: repeated(alloc, false, ADDRESSES)?,
+            cells: repeated(alloc, every, ERASABLE as usize)?,
+            inputs: repeated(alloc, every, LOCATIONS as usize)?,
+            outputs: repeated(alloc, every, LOCATIONS as usize)?,
+            places: repeated(alloc, false, LOCATIONS as usize)?,
             every,
         })
     }
@@ -64,7 +59,7 @@ impl<D: Domain> Limits<D> {
     /// The set of every word, which stands where no other was set. There is a limit for each erasable cell and for each address.
     pub fn every(&self) -> D
         ensures every { result ≡ self.now.every }
-        ensures tables { AreLimits self.now }
+        ensures whole { AreWholeLimits D.meaning self.now }
     {
         self.every
     }

@@ -6,12 +6,10 @@ ghost use Rattle.ags_row.specs.Flag.{some_flag};
 
 use crate::ats::At;
 use crate::cells::{Cells, ascend};
+use ags_word::LOCATIONS;
 
 /// How many cells a row names at most.
-const MOST_CELLS: usize = 64;
-
-/// How many locations the memory has.
-const LOCATIONS: u16 = 4096;
+pub const MOST_CELLS: usize = 64;
 
 /// The parts that a row is made of.
 #[derive(Drop)]

@@ -16,7 +16,7 @@ use Rattle.ags_play.specs.Counted.{is_step, is_put}
 use Rattle.ags_play.specs.Doing.{digit_given, panel_along, with_shown, time_left, carry_in}
 use Rattle.ags_ports.specs.declared.events.Event.{Event}
 use Rattle.ags_ports.specs.declared.events.Event.TheVariants as event
-use Rattle.ags_ports.specs.declared.events.Report.{Report}
+use Rattle.ags_ports.specs.declared.events.Done.{Done}
 use Rattle.ags_ports.specs.declared.events.Stored.{Stored}
 use Rattle.ags_ports.specs.declared.machines.Machine.{Machine}
 use Rattle.ags_ports.specs.Port.{place_of}
@@ -144,11 +144,11 @@ cycle_made machine spent before after at fit run carry puts b stands = at_stood 
 })
 
 -- an event that runs no order: the panel hears nothing
-pub idle_panel : (machine : Machine) (s : State) (report : Report) (after : State) (happenings : List Happening) → report ≡ idle_report s
+pub idle_panel : (machine : Machine) (s : State) (report : Done) (after : State) (happenings : List Happening) → report ≡ idle_report s
     → panel_along machine happenings (record { report = report; after = after } ∷ []) ≡ happenings
-idle_panel machine s report after happenings idle = ap (λ (r : Report). with_shown happenings (digit_given machine r.gave)) idle
+idle_panel machine s report after happenings idle = ap (λ (r : Done). with_shown happenings (digit_given machine r.gave)) idle
 
-pub pulse_made : (machine : Machine) (report : Report) (before after : Bench) → CountsFit before → Steps machine before.core event.Pulse report after.core
+pub pulse_made : (machine : Machine) (report : Done) (before after : Bench) → CountsFit before → Steps machine before.core event.Pulse report after.core
     → after.listener ≡ before.listener → after.carry ≡ before.carry → after.puts ≡ before.puts
     → (b : play.Bench) → StandsAs before b → ActMade machine b Pulses before after
 pulse_made machine report before after fit step listener carry puts b stands = at_stood (λ (x : play.Bench). ActMade machine x Pulses before after) before b stands (record {

@@ -13,7 +13,7 @@ use Rattle.ags_ports.specs.declared.machines.Machine.{Machine}
 use Rattle.ags_ports.specs.Machine.{IsMachine}
 use Rattle.ags_safe.specs.Certificate.{Certificate}
 use Rattle.ags_script.specs.declared.commands.Command.{Command}
-use Rattle.ags_script.specs.declared.counting.TheConstants.{STEP_LIMIT}
+use Rattle.ags_script.specs.Limit.{step_limit}
 use Rattle.ags_script.specs.Command.{step_count}
 use Rattle.ags_run.specs.Acted.{ActsMade, AreUnmade}
 use Rattle.ags_run.specs.declared.benches.Bench.{Bench}
@@ -32,7 +32,7 @@ module _ (machine : Machine) (image : List (Option ℕ)) (guard : Option (Certif
   IsInside = IsFound machine image guard (begun_state machine image guard commands) None
 
   -- acts that were made from the start are the script's play
-  pub played_whole : (before after : Bench) (old new : Option (List ℕ)) → IsMachine machine → IsInside → sum_by step_count commands ≤ STEP_LIMIT → length commands < 2 ^ 63
+  pub played_whole : (before after : Bench) (old new : Option (List ℕ)) → IsMachine machine → IsInside → sum_by step_count commands ≤ step_limit → length commands < 2 ^ 63
       → before.listener.steps ≡ 0 → before.puts ≡ 0 → ActsMade machine guard (start_bench machine image guard commands) (acts_of commands) old new before after
       → PlayedWhole machine image guard commands old new (record { steps = after.listener.steps; puts = after.puts })
   played_whole before after old new is inside few_in_all few no_steps no_puts made =

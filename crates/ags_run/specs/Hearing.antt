@@ -3,7 +3,7 @@ use Rattle.std.specs.Prelude.{◌≡◌, ℕ, ◌+◌, ◌%◌, ◌^◌, ◌==�
 use Rattle.ags_deda.specs.Happening.{Happening}
 use Rattle.ags_deda.specs.Standing.{StandsFor}
 use Rattle.ags_play.specs.Doing.{with_shown}
-use Rattle.ags_ports.specs.declared.events.Report.{Report}
+use Rattle.ags_ports.specs.declared.events.Done.{Done}
 use Rattle.ags_ports.specs.declared.events.Stored.{Stored}
 use Rattle.ags_ports.specs.declared.machines.Machine.{Machine}
 use Rattle.ags_ports.specs.Port.{place_of}
@@ -20,7 +20,7 @@ heard (Some address) None = None
 heard (Some address) (Some gave) = if gave.address == address then Some (gave.word % 16) else None
 
 -- A listener heard a report: the step is counted, and the panel was shown the digit, where there was one.
-pub record Hears (old : Listener) (report : Report) (new : Listener) : Type 0 where
+pub record Hears (old : Listener) (report : Done) (new : Listener) : Type 0 where
   pub address : new.address ≡ old.address
   pub steps : new.steps ≡ (old.steps + 1) % 2 ^ 64
   pub panel : (happenings : List Happening) → StandsFor old.panel happenings → StandsFor new.panel (with_shown happenings (heard old.address report.gave))

@@ -7,7 +7,7 @@ use Rattle.ags_play.specs.Bench as play
 use Rattle.ags_play.specs.Doing.{PutWord, put_by}
 use Rattle.ags_play.specs.Guard.{stopped_by}
 use Rattle.ags_ports.specs.declared.events.Event.TheVariants.{Put}
-use Rattle.ags_ports.specs.declared.events.Report.{Report}
+use Rattle.ags_ports.specs.declared.events.Done.{Done}
 use Rattle.ags_ports.specs.declared.machines.Machine.{Machine}
 use Rattle.ags_ports.specs.Step.{Steps}
 use Rattle.ags_safe.specs.Certificate.{Certificate}
@@ -27,7 +27,7 @@ pub record CountsFit (bench : Bench) : Type 0 where
 -- a word was put that the guard lets through, and nothing else of the bench changed but the count
 pub record WordPut (machine : Machine) (guard : Option (Certificate Value)) (address word : ℕ) (before after : Bench) : Type 0 where
   pub through : stopped_by machine guard (Some (record { address = address; word = word })) ≡ None
-  pub report : Report
+  pub report : Done
   pub steps : Steps machine before.core (Put address word) report after.core
   pub listener : after.listener ≡ before.listener
   pub carry : after.carry ≡ before.carry

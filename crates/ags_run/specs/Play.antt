@@ -1,6 +1,6 @@
 -- What `play` answers: how far a script was played, and what it met.
 use Rattle.std.specs.Prelude.{◌≡◌, ℕ, Bool, true, false, List, count_by, Option, Result, Err, option_map}
-use Rattle.ags_cert.specs.Cert.{Stated, certificate_of}
+use Rattle.ags_certtype.specs.Cert.{Stated, certificate_of}
 use Rattle.ags_domain.specs.declared.values.Value.{Value}
 use Rattle.ags_outside.specs.Sink.{appended, WroteFront}
 use Rattle.ags_play.specs.Counted.{is_step, is_put}

@@ -14,7 +14,7 @@ use crate::cycling::run_cycles;
 use crate::play_error::PlayError;
 use crate::putting::{feed, set};
 use crate::showing::{show_cell, show_deda, show_out, show_reg};
-use ags_cert::Cert;
+use ags_certtype::Cert;
 use ags_outside::Sink;
 use ags_ports::Machine;
 use ags_script::Command;

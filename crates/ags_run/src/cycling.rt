@@ -9,7 +9,7 @@ ghost use Rattle.ags_run.specs.Standing.{IsBenchOf};
 use crate::benches::Bench;
 use crate::play_error::PlayError;
 use crate::putting::feed_where_zero;
-use ags_cert::Cert;
+use ags_certtype::Cert;
 use ags_ports::Machine;
 use ags_ports::laws::machine_is_made_of_tables;
 

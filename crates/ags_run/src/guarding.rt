@@ -1,7 +1,7 @@
 //! The first thing of a start that a certificate doesn't declare.
 
 ghost use Rattle.std.specs.Prelude.{◌≡◌, ◌<◌, ◌↔◌, ℕ, IsTrue, IfSome, None, length, option_map, slice_index_or};
-ghost use Rattle.ags_cert.specs.Cert.{certificate_of};
+ghost use Rattle.ags_certtype.specs.Cert.{certificate_of};
 ghost use Rattle.ags_domain.specs.Value.{value_meaning};
 ghost use Rattle.ags_play.specs.Guard.{AreInputsInside, IsInputInside, IsFirstOutside, IsFound};
 ghost use Rattle.ags_ports.specs.Port.{held_port};
@@ -11,12 +11,12 @@ ghost use Rattle.ags_safe.specs.Start.{IsFirstWord, IsStartWord};
 ghost use Rattle.ags_run.specs.Play.{guard_of, outside_of};
 
 use crate::outside::Outside;
-use ags_cert::Cert;
+use ags_certtype::Cert;
 use ags_core::Core;
 use ags_domain::{Domain, Value};
 use ags_image::Image;
 use ags_ports::Machine;
-use ags_word::Word;
+use ags_word::{ERASABLE, Word};
 
 /// Whether a cell may hold a word at the start, by the image's entry and what is stated of the start.
 fn is_first_word(entry: Option<Word>, stated: Option<Value>, word: Word) -> bool
@@ -48,7 +48,7 @@ fn find_cell(image: &Image, cert: &Cert, core: &Core) -> Option<u16>
     ensures none { result ≡ None → (address : ℕ) → address < 2048
         → IsStartWord value_meaning image.now (certificate_of cert.now) address (cell core.now address) }
 {
-    for address in 0..2048 {
+    for address in 0..ERASABLE {
         if !is_cell_inside(image, cert, core, address) {
             return Some(address);
         }

@@ -4,7 +4,7 @@ ghost use Rattle.std.specs.Prelude.{◌≡◌, ◌≤◌, IfSome};
 ghost use Rattle.ags_run.specs.Hearing.{heard};
 
 use ags_deda::Panel;
-use ags_ports::Report;
+use ags_ports::Done;
 use ags_timed::Watcher;
 
 /// The panel, which is told of each step.
@@ -20,7 +20,7 @@ pub(crate) struct Listener {
 
 impl Listener {
     /// The digit that a report shows to the panel.
-    fn heard(&self, report: &Report) -> Option<u8>
+    fn heard(&self, report: &Done) -> Option<u8>
         ensures digit { result ≡ heard self.now.address report.now.gave }
         ensures most { IfSome result (λ digit. digit ≤ 15) }
     {
@@ -40,7 +40,7 @@ impl Watcher for Listener {
 
     ghost looks = { Hears };
 
-    fn saw(&mut self, report: &Report) {
+    fn saw(&mut self, report: &Done) {
         self.steps = self.steps.wrapping_add(1);
         if let Some(digit) = self.heard(report) {
             // it is at most 15

@@ -1,16 +1,19 @@
 //! The play of a script.
 
 ghost use Rattle.std.specs.Prelude.{◌≡◌, ◌<◌, ◌^◌, ℕ, List, Option, Some, length, option_map, IfOk, IfErr, IsErrOf};
+ghost use Rattle.ags_domain.specs.Value.{value_meaning};
 ghost use Rattle.ags_domain.specs.declared.values.Value.{Value};
 ghost use Rattle.ags_image.specs.Image.{IsImage};
 ghost use Rattle.ags_outside.specs.Count.{HasCause, Rose};
 ghost use Rattle.ags_play.specs.Begun.{IsRunOf};
 ghost use Rattle.ags_play.specs.Bench.{usual_location, begun_state};
+ghost use Rattle.ags_play.specs.Cut.{IsSafeWhereCut};
 ghost use Rattle.ags_play.specs.Guard as outside_start;
 ghost use Rattle.ags_play.specs.Played.{IsPlayOf, Met, OutsideStart};
 ghost use Rattle.ags_ports.specs.declared.events.Event.{Event};
 ghost use Rattle.ags_ports.specs.Machine.{IsMachine};
 ghost use Rattle.ags_safe.specs.Certificate.{Certificate};
+ghost use Rattle.ags_safe.specs.Safe.{Safe};
 ghost use Rattle.ags_script.specs.Script.{IsReadFor};
 ghost use Rattle.ags_script.specs.Suiting.{Suits};
 ghost use Rattle.ags_run.specs.Play.{guard_of, IsUnplayed, PlayedWhole, is_play_fault};
@@ -18,7 +21,7 @@ ghost use Rattle.ags_run.specs.Play.{guard_of, IsUnplayed, PlayedWhole, is_play_
 use crate::play_error::PlayError;
 use crate::script_play::play_commands;
 use crate::starting::{begin, usual_location};
-use ags_cert::Cert;
+use ags_certtype::Cert;
 use ags_image::Image;
 use ags_outside::Sink;
 use ags_ports::Machine;
@@ -58,6 +61,10 @@ fn plays_are_sound(machine: &Machine, image: &Image, script: &Script, guard: Opt
         → guard_of (option_map (λ cert. cert.now) guard.entry) ≡ Some cert → IsPlayOf machine.now image.now (Some cert) script.now events text met
         → ((outside : outside_start.Outside) → met ≡ OutsideStart outside → ⊥)
         → IsRunOf machine.now image.now cert (begun_state machine.now image.now (Some cert) script.now) events }
+    ensures safe { (cert : Certificate Value) (events : List Event) (text : List ℕ) (met : Met)
+        → guard_of (option_map (λ cert. cert.now) guard.entry) ≡ Some cert → IsPlayOf machine.now image.now (Some cert) script.now events text met
+        → ((outside : outside_start.Outside) → met ≡ OutsideStart outside → ⊥) → Safe value_meaning machine.now image.now cert
+        → IsSafeWhereCut machine.now image.now cert script.now }
 {
     machine_is_made_of_tables(machine);
     scripts_suit_their_machine();
@@ -85,6 +92,11 @@ pub fn play<K: Sink>(
         → guard_of (option_map (λ cert. cert.now) guard.entry) ≡ Some cert → IsPlayOf machine.now image.now (Some cert) script.now events text met
         → ((outside : outside_start.Outside) → met ≡ OutsideStart outside → ⊥)
         → IsRunOf machine.now image.now cert (begun_state machine.now image.now (Some cert) script.now) events }
+    // Where the certificate is safe, each state that such a play comes to is, wherever it is cut: so is each that is shown.
+    ensures safe { (cert : Certificate Value) (events : List Event) (text : List ℕ) (met : Met)
+        → guard_of (option_map (λ cert. cert.now) guard.entry) ≡ Some cert → IsPlayOf machine.now image.now (Some cert) script.now events text met
+        → ((outside : outside_start.Outside) → met ≡ OutsideStart outside → ⊥) → Safe value_meaning machine.now image.now cert
+        → IsSafeWhereCut machine.now image.now cert script.now }
     ensures write_fault { IsErrOf result PlayError.WriteFault → Rose (K.faults out.old) (K.faults out.new) }
     ensures faults { HasCause (K.faults out.old) (K.faults out.new) (is_play_fault result) }
 {

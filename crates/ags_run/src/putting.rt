@@ -1,7 +1,7 @@
 //! Words that are put into input registers, where the guard lets them through.
 
 ghost use Rattle.std.specs.Prelude.{◌≡◌, ◌+◌, ◌<◌, false, length, IsTrue, IfOk, IfErr, Some, None, option_map};
-ghost use Rattle.ags_cert.specs.Cert.{certificate_of};
+ghost use Rattle.ags_certtype.specs.Cert.{certificate_of};
 ghost use Rattle.ags_play.specs.Act as act;
 ghost use Rattle.ags_play.specs.Bench as play;
 ghost use Rattle.ags_play.specs.Doing as doing;
@@ -12,7 +12,7 @@ ghost use Rattle.ags_run.specs.Standing.{IsBenchOf, StandsAs};
 
 use crate::benches::Bench;
 use crate::play_error::PlayError;
-use ags_cert::Cert;
+use ags_certtype::Cert;
 use ags_core::Core;
 use ags_domain::Domain;
 use ags_ports::laws::machine_is_made_of_tables;

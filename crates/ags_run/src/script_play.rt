@@ -12,7 +12,7 @@ ghost use Rattle.ags_script.specs.Suiting.{Suits};
 use crate::benches::Bench;
 use crate::commands::play_command;
 use crate::play_error::PlayError;
-use ags_cert::Cert;
+use ags_certtype::Cert;
 use ags_outside::Sink;
 use ags_ports::Machine;
 use ags_ports::laws::machine_is_made_of_tables;

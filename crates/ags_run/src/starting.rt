@@ -17,7 +17,7 @@ use crate::benches::Bench;
 use crate::guarding::find_under_guard;
 use crate::listeners::Listener;
 use crate::play_error::PlayError;
-use ags_cert::Cert;
+use ags_certtype::Cert;
 use ags_core::Core;
 use ags_deda::Panel;
 use ags_image::Image;

@@ -6,7 +6,7 @@ use Rattle.ags_ports.specs.declared.events.Phase.{Phase}
 use Rattle.ags_ports.specs.declared.events.Phase.TheVariants.{Running, Waiting, Halted}
 use Rattle.ags_ports.specs.declared.events.Event.{Event}
 use Rattle.ags_ports.specs.declared.events.Event.TheVariants.{Step, Pulse, Put}
-use Rattle.ags_ports.specs.declared.events.Report.{Report}
+use Rattle.ags_ports.specs.declared.events.Done.{Done}
 use Rattle.ags_ports.specs.declared.events.Stored.{Stored}
 use Rattle.ags_ports.specs.declared.machines.Machine.{Machine}
 use Rattle.ags_ports.specs.Machine.{IsMachine}
@@ -90,24 +90,24 @@ module _ {D : Type 0} (meaning : Meaning D) (machine : Machine) (image : List (O
   idle_step : (s : State) (event : Event) (moment : Moment) → moment.report ≡ idle_report s → (event ≡ Step → s.phase ≡ Running → ⊥)
       → IsSafeState meaning machine image cert moment.after → IsSafeStep meaning machine image cert s event moment
   idle_step s event moment told never after = record {
-    overflow = λ over. absurd (differ (sym (ap (λ (r : Report). r.overflow) told) ∙ over));
-    ran = λ ran. absurd (differ (sym (ap (λ (r : Report). r.ran) told) ∙ ran));
+    overflow = λ over. absurd (differ (sym (ap (λ (r : Done). r.overflow) told) ∙ over));
+    ran = λ ran. absurd (differ (sym (ap (λ (r : Done). r.ran) told) ∙ ran));
     order = λ is running none. never is running;
-    stored = subst (λ (r : Report). IfSome r.stored (λ stored. stored.address < 2048)) (sym told) tt;
-    took = subst (λ (r : Report). IfSome r.took (λ address. IsSome (place_of machine.ports.inputs address))) (sym told) tt;
-    gave = subst (λ (r : Report). IfSome r.gave (λ gave. IsSome (place_of machine.ports.outputs gave.address)
+    stored = subst (λ (r : Done). IfSome r.stored (λ stored. stored.address < 2048)) (sym told) tt;
+    took = subst (λ (r : Done). IfSome r.took (λ address. IsSome (place_of machine.ports.inputs address))) (sym told) tt;
+    gave = subst (λ (r : Done). IfSome r.gave (λ gave. IsSome (place_of machine.ports.outputs gave.address)
         × (meaning.held (output_limit cert.limits gave.address) gave.word ≡ true))) (sym told) tt;
     after = after;
   }
 
-  stays_awake : (s : State) (event : Event) (report : Report) (after : State) → (event ≡ Step → ⊥) → Steps machine s event report after
+  stays_awake : (s : State) (event : Event) (report : Done) (after : State) → (event ≡ Step → ⊥) → Steps machine s event report after
       → s.phase ≢ Halted → after.phase ≢ Halted
   stays_awake s event report after other step awake halts = other (no_order_halts machine s event report after step awake halts).0
 
   -- ---- an order that runs
 
   module _ (lawful : IsMeaning D meaning) (machine_is : IsMachine machine) (suits : Suits meaning machine cert)
-      (accepted : Accepted meaning machine image cert) (s : State) (kept : IsKept meaning machine image cert s) (report : Report) (after : State)
+      (accepted : Accepted meaning machine image cert) (s : State) (kept : IsKept meaning machine image cert s) (report : Done) (after : State)
       (running : s.phase ≡ Running) (step : Steps machine s Step report after) where
     -- what is taken leaves the inputs in their limits, and what is given the outputs
     taken : (took : Option ℕ) → HoldsOfEach machine.ports.inputs (inputs_after_take machine.ports.inputs s.inputs took) IsInput
@@ -168,7 +168,7 @@ module _ {D : Type 0} (meaning : Meaning D) (machine : Machine) (image : List (O
       names_some : ¬ NamesNone machine s
       names_some none =
           let idle = halted_at_no_order machine s report after running none step in
-          differ (sym (ap (λ (r : Report). r.ran) idle.0) ∙ follows.ran)
+          differ (sym (ap (λ (r : Done). r.ran) idle.0) ∙ follows.ran)
 
       row_ran : HasRowAt cert report.location → IsSafeStep meaning machine image cert s Step (record { report = report; after = after })
       row_ran at = record {
@@ -202,11 +202,11 @@ module _ {D : Type 0} (meaning : Meaning D) (machine : Machine) (image : List (O
   module _ (lawful : IsMeaning D meaning) (machine_is : IsMachine machine) (suits : Suits meaning machine cert)
       (accepted : Accepted meaning machine image cert) (s : State) (kept : IsKept meaning machine image cert s) where
     -- the step is safe, and what is kept is kept
-    abbrev IsGood : Event → Report → State → Type 0
+    abbrev IsGood : Event → Done → State → Type 0
     IsGood event report after = IsSafeStep meaning machine image cert s event (record { report = report; after = after }) × IsKept meaning machine image cert after
 
     -- an event that runs no order leaves the phase, or another one, and inputs in their limits
-    idle_event : (event : Event) (report : Report) (after : State) (phase : Phase) (inputs : List ℕ) → IsEvent event → (event ≡ Step → ⊥)
+    idle_event : (event : Event) (report : Done) (after : State) (phase : Phase) (inputs : List ℕ) → IsEvent event → (event ≡ Step → ⊥)
         → Steps machine s event report after → report ≡ idle_report s → after ≡ record s { phase = phase; inputs = inputs }
         → HoldsOfEach machine.ports.inputs inputs IsInput → IsGood event report after
     idle_event event report after phase inputs is_event other step told left held =
@@ -220,7 +220,7 @@ module _ {D : Type 0} (meaning : Meaning D) (machine : Machine) (image : List (O
           },
         )
 
-    step_good : (phase : Phase) (report : Report) (after : State) → s.phase ≡ phase → Steps machine s Step report after → IsGood Step report after
+    step_good : (phase : Phase) (report : Done) (after : State) → s.phase ≡ phase → Steps machine s Step report after → IsGood Step report after
     step_good Running report after is step = running_step lawful machine_is suits accepted s kept report after is step
     step_good Waiting report after is step =
         let stays = subst (λ (phase : Phase). StepsIn phase machine s report after) is step in
@@ -228,7 +228,7 @@ module _ {D : Type 0} (meaning : Meaning D) (machine : Machine) (image : List (O
         (idle_step s Step (record { report = report; after = after }) stays.0 (λ same running. waiting_running (sym is ∙ running)) kept_after.safe, kept_after)
     step_good Halted report after is step = absurd (kept.awake is)
 
-    pub event_good : (event : Event) (report : Report) (after : State) → IsEvent event → IsDeclared meaning machine cert event
+    pub event_good : (event : Event) (report : Done) (after : State) → IsEvent event → IsDeclared meaning machine cert event
         → Steps machine s event report after → IsGood event report after
     event_good Step report after is_event declared step = step_good s.phase report after refl step
     event_good Pulse report after is_event declared step =

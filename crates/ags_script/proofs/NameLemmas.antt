@@ -4,6 +4,7 @@ use Rattle.std.specs.Prelude.{IfSome, nat_lt}
 use Rattle.std.specs.List.{find, list_all}
 use Rattle.std.specs.Cmp.Lexicographic.{pointwise, same_text}
 use Rattle.std.proofs.lemmas.Bool.{cases_Bool, and_parts, ltb-true}
+use Rattle.ags_text.proofs.Deciding.{same_answer}
 use Rattle.ags_deda.specs.declared.keys.Key.{Key}
 use Rattle.ags_deda.specs.declared.keys.Key.TheVariants as key
 use Rattle.ags_script.specs.declared.verbs.Verb.{Verb}
@@ -12,14 +13,6 @@ use Rattle.ags_script.specs.declared.verbs.Subject.{Subject}
 use Rattle.ags_script.specs.declared.verbs.Subject.TheVariants as subject
 use Rattle.ags_script.specs.Operand.{named, verb_name, all_verbs, verb_named, subject_name, all_subjects, subject_named, key_name, all_keys, key_named}
 use Rattle.ags_script.specs.Spelling.{IsKeyName}
-
--- two answers are one where what is found of each is found of the other
-pub same_answer : {A : Type 0} (P : A → Type 0) (one other : Option A) → IfSome one P → ((x : A) → P x → one ≡ Some x)
-    → ((x : A) → other ≡ Some x → P x) → ((x : A) → P x → other ≡ Some x) → one ≡ other
-same_answer P None None found only tells finds = refl
-same_answer P None (Some y) found only tells finds = only y (tells y refl)
-same_answer P (Some x) None found only tells finds = sym (finds x found)
-same_answer P (Some x) (Some y) found only tells finds = sym (finds x found)
 
 -- what is found passes the test
 found_passes : {X : Type 0} (p : X → Bool) (xs : List X) (x : X) → find p xs ≡ Some x → p x ≡ true

@@ -5,6 +5,7 @@ use Rattle.std.specs.Option.{option_map}
 use Rattle.std.proofs.lemmas.Bool.{cases_Bool, cases_lt, eqb-true, lt-ltb, le-ltb}
 use Rattle.ags_text.specs.Field.{is_blank, AreBlanks, AreFields, AreSome, HasFields, next_field, behind_field, AreCut}
 use Rattle.ags_text.proofs.FieldLaws.{standing_cut, cut_standing, blanks_none, none_blank, first_byte}
+use Rattle.ags_text.proofs.NumberLaws.{number_told, number_written}
 use Rattle.ags_deda.specs.declared.keys.Key.{Key}
 use Rattle.ags_script.specs.declared.commands.Command.{Command}
 use Rattle.ags_script.specs.declared.commands.Command.TheVariants.{Start, Cell, Port, Step, Pulse, Set, Press, Feed, Cycle, ShowReg, ShowCell, ShowOut, ShowDeda}
@@ -17,7 +18,7 @@ use Rattle.ags_script.specs.Reading.{has_no_field, only_field, read_field, addre
 use Rattle.ags_script.specs.Spelling.{LineReading, Skipped, One, Keys, Malformed, AreKeyNames, States, StatesKeys, IsSkipped, HasForm, Spells}
 use Rattle.ags_script.proofs.FieldLemmas.{list_cases, none_short, nothing_next, behind_shorter, fields_none, fields_more, blanks_cut}
 use Rattle.ags_script.proofs.NameLemmas.{verb_tells, verb_finds, subject_tells, subject_finds, key_tells, key_finds}
-use Rattle.ags_script.proofs.NumberLemmas.{count_tells, count_finds, octal_tells, octal_finds}
+use Rattle.ags_script.proofs.NumberLemmas.{octal_tells, octal_finds}
 
 -- ---- the fields that are cut are those that stand in a line
 
@@ -156,7 +157,7 @@ command_told verb.Port operands command is =
 command_told verb.Step operands command is =
     let told = some_mapped Step (count_operand operands) command is in
     let one = one_told count_of operands told.0 told.1 in
-    rw (told.2) (one.field, count_tells one.field told.0 one.is, behind (codes "STEP") operands (one.field ∷ []) one.are)
+    rw (told.2) (one.field, number_told 10 9 one.field told.0 one.is, behind (codes "STEP") operands (one.field ∷ []) one.are)
 command_told verb.Pulse operands command is = let told = bare_told Pulse command operands is in rw (told.1, told.0) refl
 command_told verb.Set operands command is =
     let told = some_mapped (λ numbers. Set numbers.0 numbers.1) (word_operands operands) command is in
@@ -167,7 +168,7 @@ command_told verb.Feed operands command is = let told = bare_told Feed command o
 command_told verb.Cycle operands command is =
     let told = some_mapped Cycle (count_operand operands) command is in
     let one = one_told count_of operands told.0 told.1 in
-    rw (told.2) (one.field, count_tells one.field told.0 one.is, behind (codes "CYCLE") operands (one.field ∷ []) one.are)
+    rw (told.2) (one.field, number_told 10 9 one.field told.0 one.is, behind (codes "CYCLE") operands (one.field ∷ []) one.are)
 command_told verb.Show operands command is = show_told operands command is
 
 -- ---- what is stated is read
@@ -181,49 +182,49 @@ record Found (fields : List (List ℕ)) (command : Command) : Type 0 where
 
 command_found : (fields : List (List ℕ)) (command : Command) → States fields command → Found fields command
 command_found fields (Start address) states =
-    record { first = verb.Start; operands = states.0 ∷ []; are = states.2; no_key = refl; is = ap (option_map Start) (octal_finds 4 states.0 address states.1) }
+    record { first = verb.Start; operands = states.0 ∷ []; are = states.2; no_key = refl; is = ap (option_map Start) (octal_finds 4 states.0 address (omega arith) states.1) }
 command_found fields (Cell address word) states = record {
   first = verb.Cell;
   operands = states.0 ∷ states.1 ∷ [];
   are = states.5;
   no_key = refl;
-  is = rw (octal_finds 4 states.0 address states.2, octal_finds 6 states.1 word states.4, lt-ltb address 2048 states.3) refl;
+  is = rw (octal_finds 4 states.0 address (omega arith) states.2, octal_finds 6 states.1 word (omega arith) states.4, lt-ltb address 2048 states.3) refl;
 }
 command_found fields (Port address word) states = record {
   first = verb.Port;
   operands = states.0 ∷ states.1 ∷ [];
   are = states.4;
   no_key = refl;
-  is = rw (octal_finds 4 states.0 address states.2, octal_finds 6 states.1 word states.3) refl;
+  is = rw (octal_finds 4 states.0 address (omega arith) states.2, octal_finds 6 states.1 word (omega arith) states.3) refl;
 }
 command_found fields (Step count) states =
-    record { first = verb.Step; operands = states.0 ∷ []; are = states.2; no_key = refl; is = ap (option_map Step) (count_finds states.0 count states.1) }
+    record { first = verb.Step; operands = states.0 ∷ []; are = states.2; no_key = refl; is = ap (option_map Step) (number_written 10 9 states.0 count states.1) }
 command_found fields Pulse states = record { first = verb.Pulse; operands = []; are = states; no_key = refl; is = refl }
 command_found fields (Set address word) states = record {
   first = verb.Set;
   operands = states.0 ∷ states.1 ∷ [];
   are = states.4;
   no_key = refl;
-  is = rw (octal_finds 4 states.0 address states.2, octal_finds 6 states.1 word states.3) refl;
+  is = rw (octal_finds 4 states.0 address (omega arith) states.2, octal_finds 6 states.1 word (omega arith) states.3) refl;
 }
 command_found fields (Press pressed) states = absurd states
 command_found fields Feed states = record { first = verb.Feed; operands = []; are = states; no_key = refl; is = refl }
 command_found fields (Cycle count) states =
-    record { first = verb.Cycle; operands = states.0 ∷ []; are = states.2; no_key = refl; is = ap (option_map Cycle) (count_finds states.0 count states.1) }
+    record { first = verb.Cycle; operands = states.0 ∷ []; are = states.2; no_key = refl; is = ap (option_map Cycle) (number_written 10 9 states.0 count states.1) }
 command_found fields ShowReg states = record { first = verb.Show; operands = codes "REG" ∷ []; are = states; no_key = refl; is = rw (subject_finds subject.Reg) refl }
 command_found fields (ShowCell address) states = record {
   first = verb.Show;
   operands = codes "CELL" ∷ states.0 ∷ [];
   are = states.2;
   no_key = refl;
-  is = rw (subject_finds subject.Cell, octal_finds 4 states.0 address states.1) refl;
+  is = rw (subject_finds subject.Cell, octal_finds 4 states.0 address (omega arith) states.1) refl;
 }
 command_found fields (ShowOut address) states = record {
   first = verb.Show;
   operands = codes "OUT" ∷ states.0 ∷ [];
   are = states.2;
   no_key = refl;
-  is = rw (subject_finds subject.Out, octal_finds 4 states.0 address states.1) refl;
+  is = rw (subject_finds subject.Out, octal_finds 4 states.0 address (omega arith) states.1) refl;
 }
 command_found fields ShowDeda states = record { first = verb.Show; operands = codes "DEDA" ∷ []; are = states; no_key = refl; is = rw (subject_finds subject.Deda) refl }
 

@@ -13,7 +13,7 @@ use Rattle.ags_ports.specs.declared.machines.Machine.{Machine}
 use Rattle.ags_deda.specs.declared.keys.Key.{Key}
 use Rattle.ags_script.specs.declared.commands.Command.{Command}
 use Rattle.ags_script.specs.declared.commands.Command.TheVariants.{Start, Cell, Port, Step, Pulse, Set, Press, Feed, Cycle, ShowReg, ShowCell, ShowOut, ShowDeda}
-use Rattle.ags_script.specs.declared.counting.TheConstants.{STEP_LIMIT}
+use Rattle.ags_script.specs.Limit.{step_limit}
 use Rattle.ags_script.specs.declared.script_errors.ScriptKind.{ScriptKind}
 use Rattle.ags_script.specs.Command.{is_start, is_setting, step_count, lacks_port}
 use Rattle.ags_script.specs.Reading.{reading}
@@ -30,7 +30,7 @@ use Rattle.ags_script.proofs.SpellingLaws.{read_spelled}
 record IsFine (machine : Machine) (earlier : List Command) (command : Command) : Type 0 where
   placed : is_misplaced earlier command ≡ false
   port : lacks_port machine command ≡ false
-  room : sum_by step_count earlier + step_count command ≤ STEP_LIMIT
+  room : sum_by step_count earlier + step_count command ≤ step_limit
 
 fine : (machine : Machine) (earlier : List Command) (command : Command) → command_fault machine earlier command ≡ None → IsFine machine earlier command
 fine machine earlier command none =
@@ -42,8 +42,8 @@ fine machine earlier command none =
             | inl lacks ↦ let some = rw lacks at next in absurd (cc)
             | inr has ↦
                 let last = rw has at next in
-                elim (cases_lt STEP_LIMIT (sum_by step_count earlier + step_count command)) [
-                  | inl many ↦ let some = rw (lt-ltb STEP_LIMIT (sum_by step_count earlier + step_count command) many) at last in absurd (cc)
+                elim (cases_lt step_limit (sum_by step_count earlier + step_count command)) [
+                  | inl many ↦ let some = rw (lt-ltb step_limit (sum_by step_count earlier + step_count command) many) at last in absurd (cc)
                   | inr few ↦ record { placed = placed; port = has; room = few }
                 ]
           ]
@@ -140,7 +140,7 @@ suits_more machine earlier command suits location word is = record {
 suits_keys : (machine : Machine) (earlier : List Command) (keys : List Key) → Suits machine earlier → Suits machine (earlier ++ map Press keys)
 suits_keys machine earlier [] suits = rw (append-nil earlier) suits
 suits_keys machine earlier (pressed ∷ keys) suits =
-    let room : sum_by step_count earlier + step_count (Press pressed) ≤ STEP_LIMIT = omega (arith, suits.steps) in
+    let room : sum_by step_count earlier + step_count (Press pressed) ≤ step_limit = omega (arith, suits.steps) in
     let next : Suits machine (earlier ++ Press pressed ∷ []) = suits_more machine earlier (Press pressed) suits tt tt (record { placed = refl; port = refl; room = room }) in
     let all : Suits machine ((earlier ++ Press pressed ∷ []) ++ map Press keys) = suits_keys machine (earlier ++ Press pressed ∷ []) keys next in
     rw (append_assoc earlier (Press pressed ∷ []) (map Press keys)) at all

@@ -4,7 +4,7 @@ use Rattle.ags_ports.specs.declared.machines.Machine.{Machine}
 use Rattle.ags_ports.specs.Port.{place_of}
 use Rattle.ags_script.specs.declared.commands.Command.{Command}
 use Rattle.ags_script.specs.declared.commands.Command.TheVariants.{Start, Cell, Port, Step, Set, Feed, Cycle, ShowOut}
-use Rattle.ags_script.specs.declared.counting.TheConstants.{CYCLE_STEPS}
+use Rattle.ags_script.specs.Limit.{cycle_steps}
 
 -- START
 abbrev pub is_start : Command → Bool
@@ -21,7 +21,7 @@ is_setting _ = false
 -- how many steps a command counts for: a cycle for 20,000
 abbrev pub step_count : Command → ℕ
 step_count (Step count) = count
-step_count (Cycle count) = CYCLE_STEPS * count
+step_count (Cycle count) = cycle_steps * count
 step_count _ = 0
 
 -- The machine lacks the register that the command names: an input register for PORT and SET, an output register for

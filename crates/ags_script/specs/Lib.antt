@@ -1,4 +1,5 @@
 -- what the public contracts cite
+pub mod Limit
 pub mod Command
 pub mod FaultText
 pub mod Operand

@@ -1,10 +1,9 @@
 -- The fields that are cut from a text, and what numbers, verbs, subjects and keys they name.
-use Rattle.std.specs.Prelude.{ℕ, ◌+◌, zero, suc, ◌&&◌, ◌==◌, nat_lt, nat_eq, List, [], ◌∷◌, length, Option, Some, None, if◌then◌else◌, codes}
-use Rattle.std.specs.Char.{digit_value}
+use Rattle.std.specs.Prelude.{ℕ, ◌+◌, zero, suc, ◌==◌, nat_eq, List, [], ◌∷◌, length, Option, Some, None, if◌then◌else◌, codes}
 use Rattle.std.specs.Cmp.Lexicographic.{pointwise}
-use Rattle.std.specs.List.{list_all, find}
-use Rattle.std.specs.Str.Parse.{digits_value}
+use Rattle.std.specs.List.{find}
 use Rattle.ags_text.specs.Field.{next_field, behind_field}
+use Rattle.ags_text.specs.Numeral.{number_of}
 use Rattle.ags_deda.specs.declared.keys.Key.{Key}
 use Rattle.ags_deda.specs.declared.keys.Key.TheVariants as key
 use Rattle.ags_script.specs.declared.verbs.Verb.{Verb}
@@ -23,11 +22,11 @@ fields_of text = fields_up_to (length text) text
 
 -- the number that so many octal digits write, and nothing for any other text
 unfoldable pub octal_of : (width : ℕ) → List ℕ → Option ℕ
-octal_of width text = if list_all (λ b. nat_lt (digit_value b) 8) text && (length text == width) then Some (digits_value 8 text) else None
+octal_of width text = if length text == width then number_of 8 width text else None
 
 -- the number that one to nine decimal digits write, and nothing for any other text
-unfoldable pub count_of : List ℕ → Option ℕ
-count_of text = if list_all (λ b. nat_lt (digit_value b) 10) text && (nat_lt 0 (length text) && nat_lt (length text) 10) then Some (digits_value 10 text) else None
+abbrev pub count_of : List ℕ → Option ℕ
+count_of text = number_of 10 9 text
 
 -- what a line's first field is
 abbrev pub verb_name : Verb → List ℕ

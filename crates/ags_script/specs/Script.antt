@@ -4,7 +4,7 @@ use Rattle.std.specs.List.{list_any, flat_map}
 use Rattle.ags_text.specs.Fault.{first_fault}
 use Rattle.ags_text.specs.Line.{LineAt, lines_of}
 use Rattle.ags_ports.specs.declared.machines.Machine.{Machine}
-use Rattle.ags_script.specs.declared.counting.TheConstants.{STEP_LIMIT}
+use Rattle.ags_script.specs.Limit.{step_limit}
 use Rattle.ags_script.specs.declared.commands.Command.{Command}
 use Rattle.ags_script.specs.declared.commands.Command.TheVariants.{Press}
 use Rattle.ags_script.specs.declared.script_errors.ScriptKind.{ScriptKind}
@@ -32,7 +32,7 @@ is_misplaced earlier command = (is_setting command && list_any (λ other. not (i
 
 -- with this command the steps of all so far are too many
 abbrev pub exceeds_steps : (earlier : List Command) → Command → Bool
-exceeds_steps earlier command = nat_lt STEP_LIMIT (sum_by step_count earlier + step_count command)
+exceeds_steps earlier command = nat_lt step_limit (sum_by step_count earlier + step_count command)
 
 -- the fault of a command behind these earlier ones: the first of the three that it has
 abbrev pub command_fault : Machine → (earlier : List Command) → Command → Option ScriptKind

@@ -3,7 +3,7 @@ use Rattle.std.specs.Prelude.{◌≡◌, ◌<◌, ◌≤◌, ◌^◌, true, fals
 use Rattle.ags_ports.specs.declared.machines.Machine.{Machine}
 use Rattle.ags_script.specs.declared.commands.Command.{Command}
 use Rattle.ags_script.specs.declared.commands.Command.TheVariants.{Start, Cell, Port, Set, ShowCell, ShowOut}
-use Rattle.ags_script.specs.declared.counting.TheConstants.{STEP_LIMIT}
+use Rattle.ags_script.specs.Limit.{step_limit}
 use Rattle.ags_script.specs.Command.{is_start, is_setting, step_count, lacks_port}
 
 -- the address that a command names is that of a location, of an erasable cell for CELL
@@ -35,6 +35,6 @@ pub record Suits (machine : Machine) (commands : List Command) : Type 0 where
   pub ports : All (λ command. lacks_port machine command ≡ false) commands
   pub locations : All NamesLocation commands
   pub words : All NamesWord commands
-  pub steps : sum_by step_count commands ≤ STEP_LIMIT
+  pub steps : sum_by step_count commands ≤ step_limit
   pub ordered : AreOrdered commands
   pub starts : count_by is_start commands ≤ 1

@@ -2,7 +2,7 @@
 use Rattle.std.specs.Prelude.{◌≡◌, ℕ, ◌≤◌, not, List, Some, sum_by}
 use Rattle.std.specs.List.{list_any}
 use Rattle.ags_ports.specs.declared.machines.Machine.{Machine}
-use Rattle.ags_script.specs.declared.counting.TheConstants.{STEP_LIMIT}
+use Rattle.ags_script.specs.Limit.{step_limit}
 use Rattle.ags_script.specs.declared.commands.Command.{Command}
 use Rattle.ags_script.specs.declared.reader.Reader.{Reader}
 use Rattle.ags_script.specs.declared.script_errors.ScriptError.{ScriptError}
@@ -16,7 +16,7 @@ pub record IsTally (reader : Reader) : Type 0 where
   pub steps : reader.steps ≡ sum_by step_count reader.commands.items
   pub started : reader.started ≡ list_any is_start reader.commands.items
   pub begun : reader.begun ≡ list_any (λ command. not (is_setting command)) reader.commands.items
-  pub most : reader.steps ≤ STEP_LIMIT
+  pub most : reader.steps ≤ step_limit
 
 -- the error tells the fault of a line's reading behind these commands, where it isn't want of memory
 abbrev pub TellsFault : Machine → (number : ℕ) → List Command → LineReading → ScriptError → Type 0

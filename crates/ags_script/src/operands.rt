@@ -1,7 +1,7 @@
 //! The fields behind a line's verb.
 
 ghost use Rattle.std.specs.Prelude.{◌≡◌, IfSome, IfNone, Some, None};
-ghost use Rattle.ags_script.specs.Operand.{fields_of, octal_of, count_of};
+ghost use Rattle.ags_script.specs.Operand.{fields_of, octal_of};
 ghost use Rattle.ags_script.specs.Reading.{has_no_field, only_field, address_operand, count_operand, word_operand, word_operands};
 
 use crate::numbers::{read_address, read_word};
@@ -20,13 +20,6 @@ fn word_of(text: &[u8]) -> Option<Word>
     ensures { result ≡ octal_of 6 text.now }
 {
     read_word(text)
-}
-
-/// The count that one to nine decimal digits write.
-fn count_of(text: &[u8]) -> Option<u32>
-    ensures { result ≡ count_of text.now }
-{
-    read_decimal(text)
 }
 
 /// Whether a text has no field.
@@ -67,7 +60,7 @@ pub(crate) fn count_operand(text: &[u8]) -> Option<u32>
     ensures { result ≡ count_operand (fields_of text.now) }
 {
     match only_field(text) {
-        Some(field) => count_of(field),
+        Some(field) => read_decimal(field),
         None => None,
     }
 }

@@ -5,7 +5,7 @@ ghost use Rattle.std.specs.List.{list_all};
 ghost use Rattle.ags_text.specs.Field.{is_blank};
 ghost use Rattle.ags_deda.specs.declared.keys.Key.{Key};
 ghost use Rattle.ags_script.specs.declared.commands.Command.TheVariants.{Press};
-ghost use Rattle.ags_script.specs.declared.counting.TheConstants.{STEP_LIMIT};
+ghost use Rattle.ags_script.specs.Limit.{step_limit};
 ghost use Rattle.ags_script.specs.Command.{step_count};
 ghost use Rattle.ags_script.specs.Operand.{fields_of, keys_named};
 ghost use Rattle.ags_script.specs.Reading.{reading, some_keys};
@@ -21,11 +21,8 @@ use crate::script_errors::{ScriptError, ScriptKind};
 use crate::verb_commands::{is_key, verb_command};
 use crate::verbs::verb_named;
 use ags_ports::Machine;
-use ags_text::{are_blanks, split_field};
+use ags_text::{MOST_LINE_BYTES, are_blanks, split_field};
 use std::alloc::Global;
-
-/// The most bytes of a line.
-const MOST_BYTES: usize = 512;
 
 /// What is read of a script so far.
 #[derive(Drop)]
@@ -85,7 +82,7 @@ impl Reader {
     /// Adds a command whose steps have room.
     fn push(&mut self, command: Command) -> Result<(), ScriptError>
         requires tally { IsTally self.old }
-        requires room { self.old.steps + step_count command ≤ STEP_LIMIT }
+        requires room { self.old.steps + step_count command ≤ step_limit }
         ensures added { IfOk result (λ _. IsTally self.new × (self.new.commands.items ≡ self.old.commands.items ++ command ∷ [])) }
         ensures memory { IfErr result (λ error. error ≡ ScriptError.NoMemory) }
     {
@@ -167,7 +164,7 @@ impl Reader {
             × IsTally self.new × (self.new.commands.items ≡ self.old.commands.items ++ commands_in (reading bytes.now))) }
         ensures faulty { IfErr result (TellsFault machine.now line self.old.commands.items (reading bytes.now)) }
     {
-        if bytes.len() > MOST_BYTES {
+        if bytes.len() > MOST_LINE_BYTES {
             return Err(bad_line(line));
         }
         if is_skipped(bytes) {

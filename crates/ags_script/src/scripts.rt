@@ -4,6 +4,7 @@ ghost use Rattle.std.specs.Prelude.{◌≡◌, ◌≤◌, ◌<◌, ◌^◌, ◌�
 ghost use Rattle.ags_script.specs.declared.commands.Command.{Command};
 ghost use Rattle.ags_script.specs.declared.script_errors.ScriptKind.{ScriptKind};
 ghost use Rattle.ags_script.specs.Script.{IsScript, IsFaultyScript, IsRefused};
+ghost use Rattle.ags_script.specs.Limit.{script_limit};
 
 use crate::commands::Command;
 use crate::reader::Reader;
@@ -51,7 +52,7 @@ impl Script {
 
 /// Reads the lines of a script, one after the other.
 fn read_lines(alloc: Global, bytes: &[u8], machine: &Machine) -> Result<Script, ScriptError>
-    requires { length bytes.now ≤ SCRIPT_LIMIT }
+    requires { length bytes.now ≤ script_limit }
     ensures read { IfOk result (λ script. IsScript machine.now bytes.now script) }
     ensures refused { IfErr result (IsRefused machine.now bytes.now) }
 {
@@ -70,7 +71,7 @@ fn read_lines(alloc: Global, bytes: &[u8], machine: &Machine) -> Result<Script, 
 /// fault (docs/SCRIPT.md). A line's number counts every line, skipped ones too. On one line the fault of the least number
 /// comes. `NoMemory` may come at any script, and says nothing of it.
 pub fn read(alloc: Global, bytes: &[u8], machine: &Machine) -> Result<Script, ScriptError>
-    requires { length bytes.now ≤ SCRIPT_LIMIT }
+    requires { length bytes.now ≤ script_limit }
     // It is a script without a fault, and these are its commands; or its first fault is this one.
     ensures read { IfOk result (λ script. IsScript machine.now bytes.now script) }
     ensures refused { IfErr result (IsRefused machine.now bytes.now) }

@@ -11,9 +11,7 @@ use crate::commands::Command;
 use crate::operands::{address_operand, count_operand, has_no_field, word_operands};
 use crate::verbs::{Subject, Verb, subject_named};
 use ags_text::split_field;
-
-/// The number of erasable cells, whose addresses come first.
-const ERASABLE_CELLS: u16 = 2048;
+use ags_word::ERASABLE;
 
 /// Whether a verb is KEY.
 pub(crate) fn is_key(verb: Verb) -> bool
@@ -49,7 +47,7 @@ fn cell_command(fields: &[u8]) -> Option<Command>
 {
     match word_operands(fields) {
         Some((address, word)) => {
-            if address < ERASABLE_CELLS {
+            if address < ERASABLE {
                 Some(Command::Cell { address, word })
             } else {
                 None

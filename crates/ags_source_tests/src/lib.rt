@@ -4,8 +4,6 @@
 #![tactic(auto)]
 
 #[cfg(test)]
-mod adapters_tests;
-#[cfg(test)]
 mod asm_tests;
 #[cfg(test)]
 mod card_tests;
@@ -15,6 +13,8 @@ mod common;
 mod compare_tests;
 #[cfg(test)]
 mod decimal_tests;
+#[cfg(test)]
+mod edge_tests;
 #[cfg(test)]
 mod image_tests;
 #[cfg(test)]

@@ -31,13 +31,14 @@ fn is_nth(symbols: &Symbols, position: usize, text: &[u8], wanted: Defined) -> b
     held.bytes() == text && defined == wanted
 }
 
-/// The symbols AB, of card 1, and A, of card 3. AB is defined a second time in vain.
+/// The symbols AB, of card 1, and A, of card 3. AB is defined a second time in vain, on card 2 and on card 4.
 fn two_symbols(rt: &impl Abort, alloc: Global) -> Symbols {
     let mut symbols = Symbols::new(alloc);
     assert!(rt; symbols.len() == 0);
     expect_found(rt, &symbols, b"A", None);
     define(rt, &mut symbols, b"AB", -262_143, 1);
     expect_found(rt, &symbols, b"A", None);
+    assert!(rt; symbols.define(name(rt, b"AB"), 5, 2) == Err(DefineError::Twice { first: 1 }));
     define(rt, &mut symbols, b"A", 262_143, 3);
     assert!(rt; symbols.define(name(rt, b"AB"), 5, 4) == Err(DefineError::Twice { first: 1 }));
     symbols

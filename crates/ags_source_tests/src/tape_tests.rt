@@ -1,9 +1,8 @@
 //! Tapes: what is sent of an image, and what is read of a tape.
 
 use crate::common::expect_same;
-use ags_image::Image;
+use ags_image::{Image, TapeError, read_tape, send_tape, written_tape_reads_back};
 use ags_outside::SteadySink;
-use ags_tape::{TapeError, read_tape, send_tape, written_tape_reads_back};
 use ags_word::Word;
 use std::alloc::Global;
 use std::process::Abort;

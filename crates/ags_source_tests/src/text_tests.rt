@@ -3,9 +3,10 @@
 use crate::common::expect_same;
 use ags_text::{
     Lines, SevenDigits, are_blanks, blanks_have_no_field, bytes_tell_fields, cut_fields_stand,
-    decimal7, first_fault_is_first, lines_follow, lines_make_up_the_text, no_fault_is_faultless,
-    numbers_are_fields, numeral_writes, octal4, octal6, read_decimal, read_octal, split_field,
-    split_leading_field, standing_fields_are_cut, text_is_cut_in_one_way,
+    decimal7, digits_of_a_width_are_a_number, first_fault_is_first, lines_follow,
+    lines_make_up_the_text, no_fault_is_faultless, number_has_so_many_digits,
+    number_is_what_digits_write, numbers_are_fields, numeral_writes, octal4, octal6, read_decimal,
+    read_octal, split_field, split_leading_field, standing_fields_are_cut, text_is_cut_in_one_way,
 };
 use std::alloc::{AllocError, Global};
 use std::test::Fail;
@@ -154,6 +155,9 @@ fn laws_can_be_called() {
     first_fault_is_first::<u8, u16>();
     no_fault_is_faultless::<u8, u16>();
     numeral_writes();
+    number_is_what_digits_write();
+    number_has_so_many_digits();
+    digits_of_a_width_are_a_number();
     standing_fields_are_cut();
     cut_fields_stand();
     blanks_have_no_field();

@@ -1,5 +1,5 @@
 -- What is found of a symbol among pairs. The crates above cite `found_some` and `found_none`, which stand behind the law
--- `pairs_are_found_by_name`.
+-- `pairs_are_found_by_name`, and of elements of lists `Contains-cons`, `Contains-first` and `Contains-later`.
 use Rattle.std.proofs.Common.{◌≡◌, ◌≢◌, ◌⊎◌, ℕ, suc, Bool, true, false, cond, List, [], ◌∷◌, get_or, Some, None, refl, sym, ap, subst, ◌∙◌, inl, inr, arith, nat_eq}
 use Rattle.std.specs.Cmp.Lexicographic.{pointwise, same_text, other_text}
 use Rattle.std.specs.List.{Contains, AllPairs}

@@ -1,4 +1,5 @@
 -- what the public contracts cite
+pub mod Limit
 pub mod Refusal
 pub mod Symbol
 pub mod View

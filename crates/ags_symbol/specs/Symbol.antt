@@ -1,11 +1,11 @@
 -- What the symbols of a source stand for, and what a sum of terms comes to.
-use Rattle.std.specs.Prelude.{◌≢◌, ℕ, Bool, if◌then◌else◌, List, [], ◌∷◌, Option, Some, None, option_map, map, ℤ, pos, neg_ℤ, ◌+ℤ◌, ◌≤ℤ◌, nat_eq}
+use Rattle.std.specs.Prelude.{◌≡◌, ◌≢◌, ℕ, Bool, if◌then◌else◌, List, [], ◌∷◌, Option, Some, None, option_map, map, ℤ, pos, neg_ℤ, ◌+ℤ◌, ◌≤ℤ◌, nat_eq}
 use Rattle.std.specs.Cmp.Lexicographic.{pointwise}
-use Rattle.std.specs.List.{AllPairs}
+use Rattle.std.specs.List.{AllPairs, AllZip, Contains}
 use Rattle.ags_card.specs.declared.terms.Term.{Term}
 use Rattle.ags_card.specs.declared.terms.Atom.{Atom}
 use Rattle.ags_card.specs.declared.terms.Atom.TheVariants.{Number, Here, Symbol}
-use Rattle.ags_symbol.specs.declared.symbols.TheConstants.{VALUE_LIMIT}
+use Rattle.ags_symbol.specs.Limit.{value_limit}
 
 -- A pair of a symbol and its value, with the number of the card that defines it.
 pub record Entry : Type 0 where
@@ -15,8 +15,8 @@ pub record Entry : Type 0 where
 
 -- a number that a symbol may stand for
 pub record IsValue (value : ℤ) : Type 0 where
-  pub least : neg_ℤ VALUE_LIMIT ≤ℤ value
-  pub most : value ≤ℤ VALUE_LIMIT
+  pub least : neg_ℤ value_limit ≤ℤ value
+  pub most : value ≤ℤ value_limit
 
 -- the symbols that pairs are of, in order
 abbrev pub names : List Entry → List (List ℕ)
@@ -59,3 +59,29 @@ plus (Some one) (Some other) = Some (one +ℤ other)
 abbrev pub sum_of : List Entry → (here : ℕ) → List Term → Option ℤ
 sum_of symbols here [] = Some (pos 0)
 sum_of symbols here (term ∷ terms) = plus (term_value symbols here term) (sum_of symbols here terms)
+
+-- ---- a sum in the subject's words
+
+-- the number that an atom is: a number itself, an asterisk the place, and a symbol the value of the pair that is found of it
+abbrev pub IsSizeOf : List Entry → (here : ℕ) → Atom → ℤ → Type 0
+IsSizeOf symbols here (Number number) size = size ≡ pos number
+IsSizeOf symbols here Here size = size ≡ pos here
+IsSizeOf symbols here (Symbol name) size = (entry : Entry) × (found name symbols ≡ Some entry) × (size ≡ entry.value)
+
+-- the value of a term: that number, and its negative where the term has a minus sign
+abbrev pub IsValueOf : List Entry → (here : ℕ) → Term → ℤ → Type 0
+IsValueOf symbols here term value = (size : ℤ) × IsSizeOf symbols here term.atom size × (value ≡ (if term.minus then neg_ℤ size else size))
+
+-- the list has the value of each of the terms, in their order
+abbrev pub AreValuesOf : List Entry → (here : ℕ) → List Term → List ℤ → Type 0
+AreValuesOf symbols here terms values = AllZip (IsValueOf symbols here) terms values
+
+-- the sum of numbers
+abbrev pub total : List ℤ → ℤ
+total [] = pos 0
+total (value ∷ values) = value +ℤ total values
+
+-- among the terms is a symbol that has no pair
+abbrev pub NamesUnknown : List Entry → List Term → Type 0
+NamesUnknown symbols terms = (term : Term) × (name : List ℕ) × Contains terms term × (term.atom ≡ Symbol name)
+    × ((entry : Entry) → Contains symbols entry → entry.name ≢ name)

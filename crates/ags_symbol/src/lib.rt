@@ -6,5 +6,5 @@ mod laws;
 mod sums;
 mod symbols;
 
-pub use laws::pairs_are_found_by_name;
-pub use symbols::{DefineError, Defined, Symbols, VALUE_LIMIT};
+pub use laws::{pairs_are_found_by_name, sums_are_of_the_terms_values};
+pub use symbols::{DefineError, Defined, Symbols};

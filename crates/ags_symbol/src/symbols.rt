@@ -11,9 +11,6 @@ use std::alloc::Global;
 use std::marker::Model;
 use thiserror::Error;
 
-/// The greatest size of a symbol's value.
-pub const VALUE_LIMIT: i32 = 262_143;
-
 /// What a symbol stands for.
 #[derive(Clone, Copy, PartialEq, Eq)]
 pub struct Defined {

@@ -9,7 +9,8 @@ use ags_top::{Status, ags_main};
 use std::alloc::Global;
 use std::process::Abort;
 
-/// A good source S, a source B with a fault, a script P, and a source T with its certificate C, on a shelf that tells nothing and
+/// A good source S with its listing L, a source W of two words and symbols, a source B with a fault, a script P, and a source T
+/// with its certificate C, on a shelf that tells nothing and
 /// whose file of one name can't be read.
 #[derive(Drop)]
 struct FailingShelf {
@@ -43,6 +44,8 @@ fn add_file(rt: &impl Abort, held: &mut SteadyShelf, name: &str, bytes: &[u8]) {
 fn held_files(rt: &impl Abort, alloc: Global) -> SteadyShelf {
     let mut held = SteadyShelf::new(alloc);
     add_file(rt, &mut held, "S", b"* FIRST\n ORG /4000\nA OCT 7\n");
+    add_file(rt, &mut held, "L", b"0000003 4000 000007 A OCT 7\n");
+    add_file(rt, &mut held, "W", b" ORG /4000\nA OCT 7\nB OCT 5\n");
     add_file(rt, &mut held, "B", b" HLT 1\n");
     add_file(rt, &mut held, "P", b"SHOW REG\nSHOW CELL 4000\n");
     add_file(rt, &mut held, "T", b" ORG /4000\n TRA /4000\n");
@@ -145,11 +148,24 @@ fn count_puts(rt: &(impl AllocGlobal + Abort), line: &str, at: u64, status: Stat
 }
 
 /// A command line, the put that fails, the status, and how many puts were made.
-const WRITE_FAULTS: [(&str, u64, Status, u64); 15] = [
+const WRITE_FAULTS: [(&str, u64, Status, u64); 27] = [
     ("assemble S", 1, Status::WriteFault, 1),
     ("assemble S", 2, Status::WriteFault, 2),
     ("assemble S", 3, Status::WriteFault, 3),
     ("assemble S", 4, Status::Done, 3),
+    ("tape W", 1, Status::WriteFault, 1),
+    ("tape W", 2, Status::WriteFault, 2),
+    ("tape W", 3, Status::Done, 2),
+    ("xref W", 1, Status::WriteFault, 1),
+    ("xref W", 2, Status::WriteFault, 2),
+    ("xref W", 3, Status::Done, 2),
+    ("compare S L", 1, Status::WriteFault, 1),
+    ("compare S L", 2, Status::Done, 1),
+    // the two lines of the listing, and the verdict
+    ("certify T C", 1, Status::WriteFault, 1),
+    ("certify T C", 2, Status::WriteFault, 2),
+    ("certify T C", 3, Status::WriteFault, 3),
+    ("certify T C", 4, Status::Done, 3),
     ("run S P", 1, Status::WriteFault, 1),
     ("run S P", 2, Status::WriteFault, 2),
     ("run S P", 3, Status::Done, 2),

@@ -19,7 +19,7 @@ const COMPARES_LISTINGS: [(&str, &str, Status, &str); 9] = [
     // a further line, and one whose word is another
     (
         FIRST,
-        "0000003 4000 000007 A OCT 7\n0000004 4001 000005 X\n",
+        "0000001             * FIRST\n0000002              ORG /4000\n0000003 4000 000007 A OCT 7\n0000004 4001 000005 X\n",
         Status::No,
         "DIFFERS 4001 ------ 000005\n",
     ),

@@ -1,7 +1,9 @@
--- What can be decided: facts of texts and numbers that hold or do not, and numbers that a text writes or does not.
+-- What can be decided: facts of texts and numbers that hold or do not, and numbers that a text writes or does not; and
+-- that two answers are one.
 --
--- The crates above cite these to show that each line has a reading.
-use Rattle.std.proofs.Common.{◌≡◌, ℕ, ◌<◌, ◌≤◌, Bool, true, ◌⊎◌, List, [], ◌∷◌, length, refl, sym, ◌∙◌, inl, inr, arith}
+-- The crates above cite these to show that each line has a reading, and that what is read is that reading.
+use Rattle.std.proofs.Common.{◌≡◌, ℕ, ◌<◌, ◌≤◌, Bool, true, ◌⊎◌, List, [], ◌∷◌, length, Option, Some, None, refl, sym, ◌∙◌, inl, inr, arith}
+use Rattle.std.specs.Prelude.{IfSome}
 use Rattle.std.specs.Str.Parse.{AllDigits, digits_value}
 use Rattle.std.specs.Char.{digit_value}
 use Rattle.std.proofs.lemmas.Bool.{cases_Bool, cases_lt, cases_eq, true≢false}
@@ -14,6 +16,14 @@ Decided P = P ⊎ (P → ⊥)
 -- something is found of which a fact holds, or it holds of nothing
 abbrev pub Found : (A : Type 0) → (A → Type 0) → Type 0
 Found A P = ((x : A) × P x) ⊎ ((x : A) → P x → ⊥)
+
+-- two answers are one where what is found of each is found of the other
+pub same_answer : {A : Type 0} (P : A → Type 0) (one other : Option A) → IfSome one P → ((x : A) → P x → one ≡ Some x)
+    → ((x : A) → other ≡ Some x → P x) → ((x : A) → P x → other ≡ Some x) → one ≡ other
+same_answer P None None found only tells finds = refl
+same_answer P None (Some y) found only tells finds = only y (tells y refl)
+same_answer P (Some x) None found only tells finds = sym (finds x found)
+same_answer P (Some x) (Some y) found only tells finds = sym (finds x found)
 
 -- a number is not below one that it reaches
 pub not_both : (m n : ℕ) → m < n → n ≤ m → ⊥

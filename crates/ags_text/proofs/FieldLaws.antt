@@ -8,11 +8,12 @@ use Rattle.std.specs.Prelude.{nat_lt}
 use Rattle.std.specs.Char.{digit_value}
 use Rattle.std.specs.List.{position_or_len, prefix_len, list_all}
 use Rattle.std.specs.Str.Parse.{AllDigits}
-use Rattle.std.proofs.lemmas.Bool.{cases_Bool, and_parts, and_from, or_cases, eqb-true, lt-ltb, le-ltb, true≢false}
+use Rattle.std.proofs.lemmas.Bool.{cases_Bool, and_parts, and_from, or_cases, eqb-true, le-ltb, true≢false}
 use Rattle.std.proofs.lemmas.List.{take_at, drop_at, take-append-drop, append-nil}
 use Rattle.ags_text.specs.Field.{is_blank, AreBlanks, HasNoBlank, IsGap, IsField, AreFields, AreSome, Behind, HasFields, leading_field, behind_leading_field, behind_blanks, next_field, behind_field, AreCut}
 use Rattle.ags_text.specs.Numeral.{IsNumber, Writes}
 use Rattle.ags_text.proofs.FrontLemmas.{first_passes, front_passes, rest_stops, prefix_len_cut, first_of_front, no_front}
+use Rattle.ags_text.proofs.NumberLaws.{digits_pass}
 
 -- Fields and gaps.
 
@@ -211,15 +212,10 @@ no_blank_text p space tab (b ∷ text) all =
     let parts = and_parts (p b) (list_all p text) all in
     and_from _ _ (no_blank_byte p space tab b parts.0) (no_blank_text p space tab text parts.1)
 
--- digits are tested digits
-all_digits : (base : ℕ) (text : List ℕ) → AllDigits base text → list_all (λ b. nat_lt (digit_value b) base) text ≡ true
-all_digits base [] digits = refl
-all_digits base (b ∷ text) digits = and_from _ _ (lt-ltb (digit_value b) base digits.0) (all_digits base text digits.1)
-
 -- digits have no blank
 digits_no_blank : (base : ℕ) (text : List ℕ) → base ≤ 36 → AllDigits base text → HasNoBlank text
 digits_no_blank base text most digits =
-    no_blank_text (λ b. nat_lt (digit_value b) base) (le-ltb 36 base most) (le-ltb 36 base most) text (all_digits base text digits)
+    no_blank_text (λ b. nat_lt (digit_value b) base) (le-ltb 36 base most) (le-ltb 36 base most) text (digits_pass base text digits)
 
 -- so those of a number are a field
 pub number_field : (base most : ℕ) (text : List ℕ) (number : ℕ) → base ≤ 36 → IsNumber base most text number → IsField text

@@ -6,5 +6,6 @@ pub mod FieldLaws
 pub mod FollowLemmas
 pub mod FrontLemmas
 pub mod LineLemmas
+pub mod NumberLaws
 pub mod NumeralLemmas
 pub mod ReadingLemmas

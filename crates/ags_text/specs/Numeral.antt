@@ -1,6 +1,8 @@
 -- Numbers as digits: the texts of a fixed width that are printed, and what the digits of a text write.
-use Rattle.std.specs.Prelude.{◌≡◌, ℕ, ◌+◌, ◌/◌, ◌%◌, ◌≤◌, List, [], ◌∷◌, ◌++◌, length}
+use Rattle.std.specs.Prelude.{◌≡◌, ℕ, ◌+◌, ◌/◌, ◌%◌, ◌≤◌, ◌&&◌, nat_lt, List, [], ◌∷◌, ◌++◌, length, Option, Some, None, if◌then◌else◌}
 use Rattle.std.proofs.Common.{zero, suc}
+use Rattle.std.specs.Char.{digit_value}
+use Rattle.std.specs.List.{list_all}
 use Rattle.std.specs.Str.Parse.{AllDigits, IsNumeral, digits_value}
 
 -- the last `width` digits of a number in a base of at most ten, the most significant first
@@ -33,6 +35,10 @@ IsOctal most text number = IsNumber 8 most text number
 -- and with decimal ones
 abbrev pub IsDecimal : (most : ℕ) → List ℕ → ℕ → Type 0
 IsDecimal most text number = IsNumber 10 most text number
+
+-- the number that such a text writes, and nothing for any other text
+unfoldable pub number_of : (base most : ℕ) → List ℕ → Option ℕ
+number_of base most text = if list_all (λ b. nat_lt (digit_value b) base) text && (nat_lt 0 (length text) && nat_lt (length text) (most + 1)) then Some (digits_value base text) else None
 
 -- the text is so many digits of the base, and they write the number
 pub record Writes (base width : ℕ) (text : List ℕ) (number : ℕ) : Type 0 where

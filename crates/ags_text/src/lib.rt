@@ -8,6 +8,7 @@ mod fields;
 mod four_digits;
 mod line_laws;
 mod lines;
+mod number_laws;
 mod numerals;
 mod seven_digits;
 
@@ -19,6 +20,9 @@ pub use field_laws::{
 pub use fields::{are_blanks, split_field, split_leading_field};
 pub use four_digits::FourDigits;
 pub use line_laws::{lines_follow, lines_make_up_the_text, text_is_cut_in_one_way};
-pub use lines::{Line, Lines};
+pub use lines::{Line, Lines, MOST_LINE_BYTES};
+pub use number_laws::{
+    digits_of_a_width_are_a_number, number_has_so_many_digits, number_is_what_digits_write,
+};
 pub use numerals::{decimal7, numeral_writes, octal4, octal6, read_decimal, read_octal};
 pub use seven_digits::SevenDigits;

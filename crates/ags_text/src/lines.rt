@@ -7,6 +7,9 @@ ghost use Rattle.std.specs.Str.Lines.{strip_carriage_return};
 
 use std::marker::Model;
 
+/// How many bytes a line of a certificate or of a script has at most, its end not counted.
+pub const MOST_LINE_BYTES: usize = 512;
+
 /// One line of a text, without its line's end.
 #[derive(Clone, Copy)]
 pub struct Line<'a> {

@@ -1,7 +1,7 @@
 //! Numbers as digits of a fixed width, and octal and decimal digits as numbers.
 
 ghost use Rattle.std.specs.Prelude.{◌≡◌, ℕ, ◌+◌, ◌%◌, ◌<◌, ◌^◌, ◌≤◌, IfSome, Some};
-ghost use Rattle.ags_text.specs.Numeral.{numeral, decimal7_text, octal4_text, octal6_text, IsNumber, IsOctal, IsDecimal, Writes};
+ghost use Rattle.ags_text.specs.Numeral.{numeral, decimal7_text, octal4_text, octal6_text, IsNumber, IsOctal, IsDecimal, Writes, number_of};
 
 /// The most octal digits that are read: those of one word.
 const MOST_OCTAL_DIGITS: usize = 6;
@@ -107,6 +107,7 @@ pub fn read_octal(text: &[u8]) -> Option<u32>
     ensures found { IfSome result (λ number. IsOctal 6 text.now number) }
     ensures only { (number : ℕ) → IsOctal 6 text.now number → result ≡ Some number }
     ensures below { IfSome result (λ number. number < 2 ^ 18) }
+    ensures same { result ≡ number_of 8 6 text.now }
 {
     read_digits(8, MOST_OCTAL_DIGITS, text)
 }
@@ -116,6 +117,7 @@ pub fn read_octal(text: &[u8]) -> Option<u32>
 pub fn read_decimal(text: &[u8]) -> Option<u32>
     ensures found { IfSome result (λ number. IsDecimal 9 text.now number) }
     ensures only { (number : ℕ) → IsDecimal 9 text.now number → result ≡ Some number }
+    ensures same { result ≡ number_of 10 9 text.now }
 {
     read_digits(10, MOST_DECIMAL_DIGITS, text)
 }

@@ -21,7 +21,7 @@ use Rattle.ags_ports.specs.declared.events.Phase.{Phase}
 use Rattle.ags_ports.specs.declared.events.Phase.TheVariants.{Running, Waiting, Halted}
 use Rattle.ags_ports.specs.declared.events.Event.{Event}
 use Rattle.ags_ports.specs.declared.events.Event.TheVariants.{Step}
-use Rattle.ags_ports.specs.declared.events.Report.{Report}
+use Rattle.ags_ports.specs.declared.events.Done.{Done}
 use Rattle.ags_ports.specs.declared.machines.Machine.{Machine}
 use Rattle.ags_ports.specs.Machine.{IsMachine}
 use Rattle.ags_ports.specs.State.{State}
@@ -43,7 +43,7 @@ pub record IsSoFar (machine : Machine) (limit : ℕ) (s : State) (moments : List
   pub least : (count : ℕ) → count < length moments → GoesOn machine limit s (take count moments)
 
 -- so it is, and a watcher saw each report
-pub record IsSeenSoFar {W : Type 0} (looks : W → Report → W → Type 0) (machine : Machine) (limit : ℕ) (s : State) (watcher : W) (here : State) (watcher_here : W) (spent : ℕ) : Type 0 where
+pub record IsSeenSoFar {W : Type 0} (looks : W → Done → W → Type 0) (machine : Machine) (limit : ℕ) (s : State) (watcher : W) (here : State) (watcher_here : W) (spent : ℕ) : Type 0 where
   pub moments : List Moment
   pub so_far : IsSoFar machine limit s moments here spent
   pub seen : LooksAt looks watcher moments watcher_here
@@ -78,15 +78,15 @@ so_far_more machine limit s moments here spent moment so_far time_left running s
   ];
 }
 
-looks_more : {W : Type 0} (looks : W → Report → W → Type 0) (moments : List Moment) (moment : Moment) (watcher between after : W) → LooksAt looks watcher moments between → looks between moment.report after
+looks_more : {W : Type 0} (looks : W → Done → W → Type 0) (moments : List Moment) (moment : Moment) (watcher between after : W) → LooksAt looks watcher moments between → looks between moment.report after
     → LooksAt looks watcher (moments ++ moment ∷ []) after
 looks_more looks [] moment watcher between after seen look = (after, rw (← seen) look, refl)
 looks_more looks (m ∷ moments) moment watcher between after seen look = (seen.0, seen.1, looks_more looks moments moment seen.0 between after seen.2 look)
 
-pub seen_none : {W : Type 0} (looks : W → Report → W → Type 0) (machine : Machine) (limit : ℕ) (s : State) (watcher : W) → IsSeenSoFar looks machine limit s watcher s watcher 0
+pub seen_none : {W : Type 0} (looks : W → Done → W → Type 0) (machine : Machine) (limit : ℕ) (s : State) (watcher : W) → IsSeenSoFar looks machine limit s watcher s watcher 0
 seen_none looks machine limit s watcher = record { moments = []; so_far = so_far_none machine limit s; seen = refl }
 
-pub seen_more : {W : Type 0} (looks : W → Report → W → Type 0) (machine : Machine) (limit : ℕ) (s : State) (watcher : W) (here : State) (watcher_here : W) (spent : ℕ) (report : Report)
+pub seen_more : {W : Type 0} (looks : W → Done → W → Type 0) (machine : Machine) (limit : ℕ) (s : State) (watcher : W) (here : State) (watcher_here : W) (spent : ℕ) (report : Done)
     (after : State) (watcher_after : W) → IsSeenSoFar looks machine limit s watcher here watcher_here spent → spent < limit → here.phase ≡ Running → Steps machine here Step report after
     → looks watcher_here report watcher_after → IsSeenSoFar looks machine limit s watcher after watcher_after (spent + order_time machine report)
 seen_more looks machine limit s watcher here watcher_here spent report after watcher_after so_far time_left running steps look =
@@ -97,7 +97,7 @@ seen_more looks machine limit s watcher here watcher_here spent report after wat
       seen = looks_more looks so_far.moments moment watcher watcher_here watcher_after so_far.seen look;
     }
 
-pub seen_over : {W : Type 0} (looks : W → Report → W → Type 0) (machine : Machine) (limit : ℕ) (s : State) (watcher : W) (here : State) (watcher_here : W) (spent : ℕ)
+pub seen_over : {W : Type 0} (looks : W → Done → W → Type 0) (machine : Machine) (limit : ℕ) (s : State) (watcher : W) (here : State) (watcher_here : W) (spent : ℕ)
     → IsSeenSoFar looks machine limit s watcher here watcher_here spent → (limit ≤ spent) ⊎ (here.phase ≢ Running) → RunsFor looks machine limit s watcher here watcher_here spent
 seen_over looks machine limit s watcher here watcher_here spent so_far over = record {
   moments = so_far.moments;
@@ -113,10 +113,10 @@ seen_over looks machine limit s watcher here watcher_here spent so_far over = re
 
 -- ---- so many steps
 
-pub steps_none : {W : Type 0} (looks : W → Report → W → Type 0) (machine : Machine) (s : State) (watcher : W) → RunsSteps looks machine 0 s watcher s watcher
+pub steps_none : {W : Type 0} (looks : W → Done → W → Type 0) (machine : Machine) (s : State) (watcher : W) → RunsSteps looks machine 0 s watcher s watcher
 steps_none looks machine s watcher = record { moments = []; run = tt; ends = refl; seen = refl }
 
-pub steps_further : {W : Type 0} (looks : W → Report → W → Type 0) (machine : Machine) (count : ℕ) (s : State) (watcher : W) (here : State) (watcher_here : W) (report : Report)
+pub steps_further : {W : Type 0} (looks : W → Done → W → Type 0) (machine : Machine) (count : ℕ) (s : State) (watcher : W) (here : State) (watcher_here : W) (report : Done)
     (after : State) (watcher_after : W) → RunsSteps looks machine count s watcher here watcher_here → Steps machine here Step report after
     → looks watcher_here report watcher_after → RunsSteps looks machine (count + 1) s watcher after watcher_after
 steps_further looks machine count s watcher here watcher_here report after watcher_after so_far steps look =
@@ -139,7 +139,7 @@ pub timed_idle : (machine : Machine) (limit : ℕ) (s : State) → s.phase ≢ R
 timed_idle machine limit s idle = record { run = tt; time = refl; over = inr idle; least = λ count below. absurd (omega (arith, below)) }
 
 -- a step that runs no order halts
-pub halts_unless_ran : (machine : Machine) (s : State) (report : Report) (after : State) → s.phase ≡ Running → Steps machine s Step report after → report.ran ≡ false → after.phase ≡ Halted
+pub halts_unless_ran : (machine : Machine) (s : State) (report : Done) (after : State) → s.phase ≡ Running → Steps machine s Step report after → report.ran ≡ false → after.phase ≡ Halted
 halts_unless_ran machine s report after running steps idle = by_phase s.phase running steps
   where
     false_is_true : false ≡ true → ⊥
@@ -152,7 +152,7 @@ halts_unless_ran machine s report after running steps idle = by_phase s.phase ru
     halted h = cc
 
     by_reading : (named : Option Decoded) → Obeys machine s named report after → after.phase ≡ Halted
-    by_reading (Some decoded) obeys = absurd (false_is_true (sym idle ∙ ap (λ (r : Report). r.ran) obeys.0))
+    by_reading (Some decoded) obeys = absurd (false_is_true (sym idle ∙ ap (λ (r : Done). r.ran) obeys.0))
     by_reading None obeys = ap (λ (t : State). t.phase) obeys.1
 
     by_phase : (phase : Phase) → phase ≡ Running → StepsIn phase machine s report after → after.phase ≡ Halted
@@ -215,7 +215,7 @@ record HasTimedRun (machine : Machine) (limit : ℕ) (s : State) : Type 0 where
   timed : IsTimedRun machine limit s moments spent
 
 -- what is left after a step is less
-less_left : (machine : Machine) (limit fuel : ℕ) (s : State) (report : Report) (after : State) → IsMachine machine → s.phase ≡ Running → Steps machine s Step report after
+less_left : (machine : Machine) (limit fuel : ℕ) (s : State) (report : Done) (after : State) → IsMachine machine → s.phase ≡ Running → Steps machine s Step report after
     → 0 < limit → limit ≤ fuel → (limit - order_time machine report) + weight after.phase ≤ fuel
 less_left machine limit fuel s report after is running steps some enough =
     elim (cases_Bool report.ran) [
@@ -224,7 +224,7 @@ less_left machine limit fuel s report after is running steps some enough =
     ]
 
 -- and so is the measure of a loop over such steps
-pub measure_falls : (machine : Machine) (limit spent : ℕ) (s : State) (report : Report) (after : State) → IsMachine machine → s.phase ≡ Running → Steps machine s Step report after
+pub measure_falls : (machine : Machine) (limit spent : ℕ) (s : State) (report : Done) (after : State) → IsMachine machine → s.phase ≡ Running → Steps machine s Step report after
     → spent < limit → (limit - (spent + order_time machine report)) + weight after.phase < (limit - spent) + weight s.phase
 measure_falls machine limit spent s report after is running steps some =
     let less = less_left machine (limit - spent) (limit - spent) s report after is running steps (omega (arith, some)) (omega arith) in
@@ -357,7 +357,7 @@ timed_few machine limit s (moment ∷ moments) spent is timed =
 
 -- ---- the time of a report that names no order
 
-pub time_unnamed : (machine : Machine) (report : Report) → ((order : Order) (indexed : Bool) (address : ℕ) → ¬ Names machine.codes report.word order indexed address) → order_time machine report ≡ 0
+pub time_unnamed : (machine : Machine) (report : Done) → ((order : Order) (indexed : Bool) (address : ℕ) → ¬ Names machine.codes report.word order indexed address) → order_time machine report ≡ 0
 unfolding order_time
 time_unnamed machine report none = elim (cases_Bool report.ran) [
   | inl ran ↦ rw ran (by_order (order_of machine.codes (report.word / 2 ^ 13)) (order_of-found machine.codes (report.word / 2 ^ 13)))

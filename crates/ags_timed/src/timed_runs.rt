@@ -7,12 +7,13 @@ ghost use Rattle.ags_ports.specs.OrderTime.{order_time};
 ghost use Rattle.ags_ports.specs.State.{IsState};
 ghost use Rattle.ags_ports.specs.Step.{Steps};
 ghost use Rattle.ags_timed.specs.Timed.{RunsFor, RunsSteps};
+ghost use Rattle.ags_timed.specs.Limit.{cycle_micros};
 
 use crate::watchers::Watcher;
 use ags_core::Core;
 use ags_isa::decode;
 use ags_ports::laws::machine_is_made_of_tables;
-use ags_ports::{Event, Machine, Phase, Report};
+use ags_ports::{Done, Event, Machine, Phase};
 
 /// The time of one cycle of the timer, in microseconds. No run is asked for more.
 pub const CYCLE_MICROS: u64 = 20_000;
@@ -21,7 +22,7 @@ pub const CYCLE_MICROS: u64 = 20_000;
 /// last order may pass the limit by up to 999 microseconds. A step that halts takes no time. The watcher is told of each
 /// step (docs/MACHINE.md, Times).
 pub fn run_for<W: Watcher>(core: &mut Core, machine: &Machine, micros: u64, watcher: &mut W) -> u64
-    requires micros { micros ≤ CYCLE_MICROS }
+    requires micros { micros ≤ cycle_micros }
     requires inputs { length core.old.inputs ≡ length machine.now.ports.inputs }
     requires outputs { length core.old.outputs ≡ length machine.now.ports.outputs }
     ensures run { RunsFor W.looks machine.now micros core.old watcher.old core.new watcher.new result }
@@ -54,7 +55,7 @@ pub fn run_steps<W: Watcher>(core: &mut Core, machine: &Machine, count: u32, wat
 }
 
 /// One step, of which the watcher is told.
-fn seen_step<W: Watcher>(core: &mut Core, machine: &Machine, watcher: &mut W) -> Report
+fn seen_step<W: Watcher>(core: &mut Core, machine: &Machine, watcher: &mut W) -> Done
     requires inputs { length core.old.inputs ≡ length machine.now.ports.inputs }
     requires outputs { length core.old.outputs ≡ length machine.now.ports.outputs }
     ensures step { Steps machine.now core.old event.Step result core.new }
@@ -80,7 +81,7 @@ fn is_running(core: &Core) -> bool
 }
 
 /// The order time of a report, in microseconds.
-fn order_time(machine: &Machine, report: &Report) -> u32
+fn order_time(machine: &Machine, report: &Done) -> u32
     ensures time { result ≡ order_time machine.now report.now }
     ensures most { result ≤ 1000 }
 {

@@ -21,12 +21,12 @@ use Rattle.ags_machfile.specs.declared.mach_error.MachError.TheVariants.{NotToml
 use Rattle.ags_script.specs.declared.script_errors.ScriptError.TheVariants.{At}
 use Rattle.ags_verdict.specs.declared.verdicts.Verdict.TheVariants.{Certified, Refused}
 use Rattle.ags_ports.specs.declared.machines.Machine.{Machine}
-use Rattle.ags_load.specs.declared.status.Status.{Status}
-use Rattle.ags_load.specs.Files.{Kind, MachineFile, Source, Listing, Certificate, Script, Refuses}
+use Rattle.ags_program.specs.declared.status.Status.{Status}
+use Rattle.ags_program.specs.Files.{Kind, MachineFile, Source, Listing, Certificate, Script, Refuses}
 use Rattle.ags_top.specs.Outcome.{IsDeclaredOn, IsAcceptedPlayOn, SafeWhereCertifiedIsWritten}
-use Rattle.ags_load.specs.Program.{program, plan_of}
-use Rattle.ags_load.specs.Text.{certificate_fault_line, certified_word, fault_line, listing_fault_line, machine_fault_line, script_fault_line, verdict_line}
-use Rattle.ags_load.specs.Work.{Work, Makes}
+use Rattle.ags_program.specs.Program.{program, plan_of}
+use Rattle.ags_program.specs.Text.{certificate_fault_line, certified_word, fault_line, listing_fault_line, machine_fault_line, script_fault_line, verdict_line}
+use Rattle.ags_program.specs.Work.{Work, Makes}
 use Rattle.ags_top.proofs.DeclaredLemmas.{guarded_told, declared_of}
 use Rattle.ags_top.proofs.MainLemmas.{way_asked}
 

@@ -9,11 +9,11 @@ use Rattle.ags_plan.specs.Saying.{SaidWhole, SaidInPart}
 use Rattle.ags_ports.specs.declared.machines.Machine.{Machine}
 use Rattle.ags_verdict.specs.Verdict.{IsVerdict}
 use Rattle.ags_verdict.specs.declared.verdicts.Verdict.{Verdict}
-use Rattle.ags_load.specs.declared.files.SourceFile.{SourceFile}
-use Rattle.ags_load.specs.Program.{program}
-use Rattle.ags_load.specs.Text.{verdict_line}
-use Rattle.ags_load.specs.Views.{IsReadSource, assembly_of}
-use Rattle.ags_load.specs.Work.{JudgeCertificate, IsJudgementOf, verdict_status}
+use Rattle.ags_program.specs.declared.files.SourceFile.{SourceFile}
+use Rattle.ags_program.specs.Program.{program}
+use Rattle.ags_program.specs.Text.{verdict_line}
+use Rattle.ags_program.specs.Views.{IsReadSource, assembly_of}
+use Rattle.ags_program.specs.Work.{JudgeCertificate, IsJudgementOf, verdict_status}
 use Rattle.ags_top.proofs.WriteLemmas.{listing_of}
 
 module _ (machine : Machine) (source : SourceFile) (cert : Stated) (old mid new : Option (List ℕ)) (verdict : Verdict Value) (read : IsReadSource source)

@@ -9,10 +9,10 @@ use Rattle.ags_asm.specs.declared.assembling.Assembled.{Assembled}
 use Rattle.ags_outside.specs.Sink.{appended, WroteFront}
 use Rattle.ags_plan.specs.Plan.{WorkAt}
 use Rattle.ags_plan.specs.Saying.{SaidWhole, SaidInPart}
-use Rattle.ags_load.specs.Program.{program}
-use Rattle.ags_load.specs.Text.{compared_line, word_column}
-use Rattle.ags_load.specs.Views.{HasImage}
-use Rattle.ags_load.specs.Work.{CompareImages, IsComparisonOf, compared_status}
+use Rattle.ags_program.specs.Program.{program}
+use Rattle.ags_program.specs.Text.{compared_line, word_column}
+use Rattle.ags_program.specs.Views.{HasImage}
+use Rattle.ags_program.specs.Work.{CompareImages, IsComparisonOf, compared_status}
 
 -- ---- the line of images that differ
 

@@ -7,7 +7,7 @@ use Rattle.ags_plan.proofs.WalkLemmas.{told_bytes}
 use Rattle.ags_asm.specs.Source.{Defines}
 use Rattle.ags_cert.specs.Cert.{Stated, certificate_of}
 use Rattle.ags_certread.proofs.SuitLemmas.{suits}
-use Rattle.ags_certtext.specs.Text.{IsCertOf}
+use Rattle.ags_cert.specs.Text.{IsCertOf}
 use Rattle.ags_domain.specs.Value.{value_meaning}
 use Rattle.ags_domain.specs.MeaningLaws.{value_lawful}
 use Rattle.ags_domain.specs.declared.values.Value.{Value}
@@ -16,6 +16,7 @@ use Rattle.ags_ports.specs.declared.machines.Machine.{Machine}
 use Rattle.ags_ports.specs.Machine.{IsMachine}
 use Rattle.ags_play.specs.Played.{Met, IsPlayOf}
 use Rattle.ags_play.proofs.RunOfLemmas.{play_is_run, nothing_is_played}
+use Rattle.ags_play.proofs.SafeLemmas.{safe_where_cut}
 use Rattle.ags_safe.proofs.RunLemmas.{safe}
 use Rattle.ags_script.specs.declared.commands.Command.{Command}
 use Rattle.ags_script.specs.Script.{IsScript, IsReadFor}
@@ -25,11 +26,11 @@ use Rattle.ags_verdict.specs.Verdict.{IsVerdict}
 use Rattle.ags_verdict.specs.declared.verdicts.Verdict.{Verdict}
 use Rattle.ags_verdict.specs.declared.verdicts.Verdict.TheVariants.{Certified, Refused}
 use Rattle.ags_verdict.proofs.VerdictLemmas.{accepted_of, counted_of}
-use Rattle.ags_load.specs.declared.status.Status.{Status}
+use Rattle.ags_program.specs.declared.status.Status.{Status}
 use Rattle.ags_top.specs.Outcome.{IsGuardedOn, IsRefusedFor, IsDeclaredPlay, IsDeclaredOn}
-use Rattle.ags_load.specs.Program.{program, command_plan}
-use Rattle.ags_load.specs.Text.{met_line, verdict_line}
-use Rattle.ags_load.specs.Work.{Work, IsGuardedPlay, IsPlayedBy, Makes}
+use Rattle.ags_program.specs.Program.{program, command_plan}
+use Rattle.ags_program.specs.Text.{met_line, verdict_line}
+use Rattle.ags_program.specs.Work.{Work, IsGuardedPlay, IsPlayedBy, Makes}
 
 -- the play of a told script on a told source under a told certificate
 pub guarded_told : (told : Told) (machine : Machine) (source script certificate source_bytes script_bytes certificate_bytes text : List ℕ) (status : Status) (work : Work)
@@ -69,9 +70,13 @@ module _ (machine : Machine) (image : List (Option ℕ)) (certificate : List ℕ
         met = played.met;
         plays = played.plays;
         run = play_is_run machine image (certificate_of cert) commands played.events played.shown played.met image_is certificate_is.start (settable machine commands read) played.plays;
+        cut = λ unmet. safe_where_cut machine image (certificate_of cert) commands played.events played.shown played.met image_is certificate_is.start
+            (settable machine commands read) played.plays unmet
+            (safe value_meaning value_lawful machine image (certificate_of cert) machine_is certificate_is (suits machine certificate cert is_cert) accepted);
         nothing = λ outside same. nothing_is_played machine image (certificate_of cert) commands played.events played.shown outside
             (subst (λ (m : Met). IsPlayOf machine image (Some (certificate_of cert)) commands played.events played.shown m) same played.plays);
         cases = cases;
+        verdict = subst (λ (n : ℕ). IsVerdict value_meaning machine image (certificate_of cert) (Certified n cases)) counted.0 certified;
         text_is = played.text_is ∙ ap (λ (n : ℕ). verdict_line (Certified n cases) ++ played.shown ++ met_line played.met) counted.0;
         status_is = played.status_is;
       }

@@ -19,14 +19,14 @@ use Rattle.ags_verdict.specs.Verdict.{IsVerdict}
 use Rattle.ags_verdict.specs.declared.verdicts.Refusal.{Refusal}
 use Rattle.ags_verdict.specs.declared.verdicts.Verdict.{Verdict}
 use Rattle.ags_verdict.specs.declared.verdicts.Verdict.TheVariants.{Certified, Refused}
-use Rattle.ags_load.specs.declared.status.Status.{Status}
-use Rattle.ags_load.specs.declared.status.Status.TheVariants.{No}
+use Rattle.ags_program.specs.declared.status.Status.{Status}
+use Rattle.ags_program.specs.declared.status.Status.TheVariants.{No}
 use Rattle.ags_top.specs.Guarding.{Guards, GuardsWhole, GuardsInPart}
 use Rattle.ags_top.specs.PlayLaws.{some_played}
-use Rattle.ags_load.specs.Program.{program}
-use Rattle.ags_load.specs.Text.{met_line, verdict_line}
-use Rattle.ags_load.specs.Views.{HasImage}
-use Rattle.ags_load.specs.Work.{GuardScript, IsPlayedBy, IsGuardedBy, met_status}
+use Rattle.ags_program.specs.Program.{program}
+use Rattle.ags_program.specs.Text.{met_line, verdict_line}
+use Rattle.ags_program.specs.Views.{HasImage}
+use Rattle.ags_program.specs.Work.{GuardScript, IsPlayedBy, IsGuardedBy, met_status}
 
 -- ---- the play behind the verdict
 

@@ -16,10 +16,8 @@ use Rattle.ags_isa.specs.Naming.{IsDecoding}
 use Rattle.ags_listing.specs.Listing.{listing}
 use Rattle.ags_listing.specs.Reads.{Reads}
 use Rattle.ags_listing.proofs.MeaningLemmas.{written_reads}
-use Rattle.ags_places.specs.declared.sources.TheConstants.{SOURCE_LIMIT}
 use Rattle.ags_ports.specs.declared.events.Event.{Event}
 use Rattle.ags_ports.specs.declared.machines.Machine.{Machine}
-use Rattle.ags_ports.specs.Machine.{IsMachine}
 use Rattle.ags_ports.specs.Run.{AreEvents, AtEach, AtEachStep, Moment, Run}
 use Rattle.ags_ports.specs.State.{State, cell, word_here}
 use Rattle.ags_ports.specs.Step.{Steps}
@@ -37,9 +35,9 @@ use Rattle.ags_top.specs.Outcome.{IsCertifiedOn}
 
 -- ---- the listing reads as the image
 
-pub listing_reads : (machine : Machine) (source certificate text : List ℕ) → IsMachine machine → length source ≤ SOURCE_LIMIT
+pub listing_reads : (machine : Machine) (source certificate text : List ℕ)
     → (is : IsCertifiedOn machine source certificate text) → Reads (listing source is.defined) is.image
-listing_reads machine source certificate text machine_is short is = written_reads machine.codes source is.defined is.image machine_is.codes short is.defines is.image_is
+listing_reads machine source certificate text is = written_reads machine.codes source is.defined is.image is.valid.codes is.defines is.image_is
 
 -- ---- what runs stands there
 

@@ -22,7 +22,7 @@ use Rattle.ags_listing.specs.Listing.{listing}
 use Rattle.ags_listing.specs.Reads.{Reads}
 use Rattle.ags_cert.specs.Cert.{certificate_of}
 use Rattle.ags_certread.proofs.SuitLemmas.{suits}
-use Rattle.ags_certtext.specs.Text.{IsCertOf}
+use Rattle.ags_cert.specs.Text.{IsCertOf}
 use Rattle.ags_certtext.specs.declared.cert_error.CertError.TheVariants as certificate
 use Rattle.ags_domain.specs.Value.{value_meaning}
 use Rattle.ags_domain.specs.MeaningLaws.{value_lawful}
@@ -42,14 +42,14 @@ use Rattle.ags_script.specs.declared.script_errors.ScriptError.TheVariants.{At}
 use Rattle.ags_script.specs.Script.{IsScript}
 use Rattle.ags_play.specs.Played.{Met, Nothing}
 use Rattle.ags_top.proofs.DeclaredLemmas.{guarded_told, declared_of}
-use Rattle.ags_load.specs.declared.status.Status.{Status}
-use Rattle.ags_load.specs.declared.status.Status.TheVariants.{Done, No, BadMachine, BadSource, BadWords, BadCert, BadText}
-use Rattle.ags_load.specs.Files.{Kind, MachineFile, Source, Listing, Certificate, Script, limit_of, Refuses, refused_status}
+use Rattle.ags_program.specs.declared.status.Status.{Status}
+use Rattle.ags_program.specs.declared.status.Status.TheVariants.{Done, No, BadMachine, BadSource, BadWords, BadCert, BadText}
+use Rattle.ags_program.specs.Files.{Kind, MachineFile, Source, Listing, Certificate, Script, limit_of, Refuses, refused_status}
 use Rattle.ags_top.specs.Outcome.{EndsWith, IsMachineOf, WritesWhatIsDefined, IsComparedOn, ComparesWhatIsDefined, IsJudgedOn, JudgesWhatIsDefined, IsCertifiedOn, CertifiesWhatIsSafe, TellsMachine, TellsAccepted, CertifiesAccepted, BadCertExactly, IsOneImage, EqualsWhatIsDefined, IsShownOn, PlaysWhatIsDefined, IsGuardedOn, GuardsWhatIsDefined, IsDeclaredOn, PlaysWhatIsDeclared, DoneAlways, NoExactly, BadWordsExactly, FindsFault, BadMachineExactly, BadSourceExactly, BadTextExactly}
-use Rattle.ags_load.specs.Program.{program, command_plan, plan_on, asked_plan, plan_of}
+use Rattle.ags_program.specs.Program.{program, command_plan, plan_on, asked_plan, plan_of}
 use Rattle.ags_top.specs.ProgramLaws.{IsWorkStatus, comes_to_no_form, lawful_program, not_refused_work}
-use Rattle.ags_load.specs.Text.{words_line, certificate_fault_line, fault_line, listing_fault_line, machine_fault_line, script_fault_line, verdict_line}
-use Rattle.ags_load.specs.Work.{Work, NoForm, WriteText, CompareImages, JudgeCertificate, PlayScript, GuardScript, IsTextOf, IsJudgementOf, IsPlayedBy, compared_status, met_status, verdict_status, Makes}
+use Rattle.ags_program.specs.Text.{words_line, certificate_fault_line, fault_line, listing_fault_line, machine_fault_line, script_fault_line, verdict_line}
+use Rattle.ags_program.specs.Work.{Work, NoForm, WriteText, CompareImages, JudgeCertificate, PlayScript, GuardScript, IsTextOf, IsJudgementOf, IsPlayedBy, compared_status, met_status, verdict_status, Makes}
 
 -- ---- a run that ends with the status of a work came to a work
 
@@ -140,6 +140,7 @@ safe_of machine source certificate text is judged = by_verdict judged.judgement.
     by_verdict (Certified rows cases) certified status text_is =
         let counted = counted_of value_meaning machine judged.judgement.image (certificate_of judged.cert) rows cases certified in
         let accepted = accepted_of value_meaning machine judged.judgement.image (certificate_of judged.cert) rows cases certified in record {
+          valid = is;
           defined = judged.defined;
           defines = judged.defines;
           image = judged.judgement.image;
@@ -151,6 +152,7 @@ safe_of machine source certificate text is judged = by_verdict judged.judgement.
               (suits machine certificate judged.cert judged.is_cert)
               accepted;
           cases = cases;
+          verdict = subst (λ (n : ℕ). IsVerdict value_meaning machine judged.judgement.image (certificate_of judged.cert) (Certified n cases)) counted.0 certified;
           text_is = text_is ∙ ap (λ (n : ℕ). listing source judged.defined ++ verdict_line (Certified n cases)) counted.0;
         }
     by_verdict (Refused refusal) refused status text_is = absurd cc

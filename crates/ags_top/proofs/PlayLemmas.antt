@@ -12,11 +12,11 @@ use Rattle.ags_ports.specs.declared.machines.Machine.{Machine}
 use Rattle.ags_run.specs.declared.playing.Played.{Played}
 use Rattle.ags_run.specs.Play.{PlayedTo, PlayedWhole, PlayedInPart}
 use Rattle.ags_script.specs.declared.commands.Command.{Command}
-use Rattle.ags_load.specs.declared.status.Status.TheVariants.{Done}
+use Rattle.ags_program.specs.declared.status.Status.TheVariants.{Done}
 use Rattle.ags_top.specs.PlayLaws.{run_of_play}
-use Rattle.ags_load.specs.Program.{program}
-use Rattle.ags_load.specs.Views.{HasImage}
-use Rattle.ags_load.specs.Work.{PlayScript, IsShownBy}
+use Rattle.ags_program.specs.Program.{program}
+use Rattle.ags_program.specs.Views.{HasImage}
+use Rattle.ags_program.specs.Work.{PlayScript, IsShownBy}
 use Rattle.ags_play.proofs.UnguardedLemmas.{unguarded}
 
 module _ (machine : Machine) (made : Assembled) (commands : List Command) (old new : Option (List ℕ)) (image : HasImage made) where

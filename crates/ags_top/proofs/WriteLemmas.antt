@@ -7,13 +7,13 @@ use Rattle.ags_plan.specs.Plan.{WorkAt}
 use Rattle.ags_plan.specs.Saying.{SaidWhole, SaidInPart}
 use Rattle.ags_asm.specs.Source.{defined}
 use Rattle.ags_listing.specs.Listing.{listing}
-use Rattle.ags_tape.specs.Tape.{tape_text}
+use Rattle.ags_image.specs.Tape.{tape_text}
 use Rattle.ags_xref.specs.Xref.{xref_text}
-use Rattle.ags_load.specs.declared.files.SourceFile.{SourceFile}
-use Rattle.ags_load.specs.declared.status.Status.TheVariants.{Done}
-use Rattle.ags_load.specs.Program.{program}
-use Rattle.ags_load.specs.Views.{IsReadSource, assembly_of}
-use Rattle.ags_load.specs.Work.{WriteText, IsTextOf}
+use Rattle.ags_program.specs.declared.files.SourceFile.{SourceFile}
+use Rattle.ags_program.specs.declared.status.Status.TheVariants.{Done}
+use Rattle.ags_program.specs.Program.{program}
+use Rattle.ags_program.specs.Views.{IsReadSource, assembly_of}
+use Rattle.ags_program.specs.Work.{WriteText, IsTextOf}
 
 module _ (what : SourceText) (source : SourceFile) (text : List ℕ) (old new : Option (List ℕ)) (is : IsTextOf what (assembly_of source) text) where
   -- all of it was sent

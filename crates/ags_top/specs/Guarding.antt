@@ -7,9 +7,9 @@ use Rattle.ags_play.specs.Played.{Met, IsPlayOf}
 use Rattle.ags_ports.specs.declared.events.Event.{Event}
 use Rattle.ags_ports.specs.declared.machines.Machine.{Machine}
 use Rattle.ags_script.specs.declared.commands.Command.{Command}
-use Rattle.ags_load.specs.declared.status.Status.{Status}
-use Rattle.ags_load.specs.Text.{met_line}
-use Rattle.ags_load.specs.Work.{met_status}
+use Rattle.ags_program.specs.declared.status.Status.{Status}
+use Rattle.ags_program.specs.Text.{met_line}
+use Rattle.ags_program.specs.Work.{met_status}
 
 -- The sink took what the play shows and what it met, and this is the status of that.
 pub record GuardsWhole (machine : Machine) (image : List (Option ℕ)) (cert : Stated) (commands : List Command) (old new : Option (List ℕ)) (status : Status) : Type 0 where

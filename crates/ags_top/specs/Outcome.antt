@@ -9,20 +9,21 @@ use Rattle.ags_plan.specs.Plan.{WorkAt}
 use Rattle.ags_plan.specs.Walk.{Told, Agrees, Tells, EndsAt, IsGiven}
 use Rattle.ags_plan.specs.Outcome as plan
 use Rattle.ags_places.specs.declared.source_error.SourceError.{SourceError}
-use Rattle.ags_places.specs.declared.sources.TheConstants.{SOURCE_LIMIT}
+use Rattle.ags_cert.specs.Length.{certificate_limit}
+use Rattle.ags_listing.specs.Limit.{listing_limit}
+use Rattle.ags_machfile.specs.Limit.{machine_limit}
+use Rattle.ags_places.specs.Limit.{source_limit}
+use Rattle.ags_script.specs.Limit.{script_limit}
 use Rattle.ags_asm.specs.Source.{Defines, IsFaulty, placed_words}
 use Rattle.ags_cert.specs.Cert.{Stated, certificate_of}
-use Rattle.ags_certread.specs.declared.reading.TheConstants.{CERT_LIMIT}
 use Rattle.ags_certtext.specs.declared.cert_error.CertKind.{CertKind}
-use Rattle.ags_certtext.specs.Text.{IsCertOf, IsFaultyCert}
+use Rattle.ags_cert.specs.Text.{IsCertOf, IsFaultyCert}
 use Rattle.ags_domain.specs.Value.{value_meaning}
 use Rattle.ags_domain.specs.declared.values.Value.{Value}
 use Rattle.ags_image.specs.Image.{PlacedWord, IsImageOf}
 use Rattle.ags_listing.specs.declared.list_error.ListError.{ListError}
-use Rattle.ags_listing.specs.declared.reading.TheConstants.{LISTING_LIMIT}
 use Rattle.ags_listing.specs.Reads.{IsFaultyListing, Reads}
 use Rattle.ags_machfile.specs.declared.mach_error.MachError.{MachError}
-use Rattle.ags_machfile.specs.declared.reading.TheConstants.{MACHINE_LIMIT}
 use Rattle.ags_machfile.specs.MachineFile.{machine_of}
 use Rattle.ags_ports.specs.declared.events.Event.{Event}
 use Rattle.ags_ports.specs.declared.machines.Machine.{Machine}
@@ -34,18 +35,18 @@ use Rattle.ags_verdict.specs.declared.verdicts.Refusal.{Refusal}
 use Rattle.ags_verdict.specs.declared.verdicts.Verdict.TheVariants.{Certified, Refused}
 use Rattle.ags_script.specs.declared.commands.Command.{Command}
 use Rattle.ags_script.specs.declared.script_errors.ScriptKind.{ScriptKind}
-use Rattle.ags_script.specs.declared.scripts.TheConstants.{SCRIPT_LIMIT}
 use Rattle.ags_script.specs.Script.{IsScript, IsFaultyScript}
 use Rattle.ags_play.specs.Begun.{IsRunOf}
 use Rattle.ags_play.specs.Bench.{begun_state}
+use Rattle.ags_play.specs.Cut.{IsSafeWhereCut}
 use Rattle.ags_play.specs.Guard.{Outside}
 use Rattle.ags_play.specs.Played.{Met, OutsideStart, IsPlayOf}
-use Rattle.ags_load.specs.declared.status.Status.{Status}
-use Rattle.ags_load.specs.declared.status.Status.TheVariants.{Done, No, BadMachine, BadSource, BadWords, BadCert, BadText}
-use Rattle.ags_load.specs.Files.{Kind, MachineFile, Source, Listing, Certificate, Script, limit_of, Refuses}
-use Rattle.ags_load.specs.Program.{program, plan_of}
-use Rattle.ags_load.specs.Text.{certified_word, met_line, verdict_line, words_line}
-use Rattle.ags_load.specs.Work.{Work, IsTextOf, IsComparisonOf, IsJudgementOf, IsShownBy, IsGuardedBy, met_status, Makes}
+use Rattle.ags_program.specs.declared.status.Status.{Status}
+use Rattle.ags_program.specs.declared.status.Status.TheVariants.{Done, No, BadMachine, BadSource, BadWords, BadCert, BadText}
+use Rattle.ags_program.specs.Files.{Kind, MachineFile, Source, Listing, Certificate, Script, limit_of, Refuses}
+use Rattle.ags_program.specs.Program.{program, plan_of}
+use Rattle.ags_program.specs.Text.{certified_word, met_line, verdict_line, words_line}
+use Rattle.ags_program.specs.Work.{Work, IsTextOf, IsComparisonOf, IsJudgementOf, IsShownBy, IsGuardedBy, met_status, Makes}
 use Rattle.ags_listing.specs.Listing.{listing}
 
 -- the run ends with that status, unless it stops
@@ -119,9 +120,11 @@ JudgesWhatIsDefined told arguments old new result = (source certificate source_b
     → (machine : Machine) × IsMachineOf told machine_file machine
     × ((text : List ℕ) × IsJudgedOn machine source_bytes certificate_bytes text result × (new ≡ Some (held ++ text)))
 
--- The text is the listing of exactly the words that the source defines, and says that the certificate is certified with the number of
--- its rows; and of the image of these words every run is safe, over every list of events that the certificate declares.
+-- The machine's tables are valid. The text is the listing of exactly the words that the source defines, and says that the certificate
+-- is certified with the numbers of its rows and of its cases, which is its verdict; and of the image of these words every run is safe,
+-- over every list of events that the certificate declares.
 pub record IsCertifiedOn (machine : Machine) (source certificate text : List ℕ) : Type 0 where
+  pub valid : IsMachine machine
   pub defined : List (Option PlacedWord)
   pub defines : Defines machine.codes source defined
   pub image : List (Option ℕ)
@@ -131,6 +134,7 @@ pub record IsCertifiedOn (machine : Machine) (source certificate text : List ℕ
   pub accepted : Accepted value_meaning machine image (certificate_of cert)
   pub safe : Safe value_meaning machine image (certificate_of cert)
   pub cases : ℕ
+  pub verdict : IsVerdict value_meaning machine image (certificate_of cert) (Certified (length cert.rows) cases)
   pub text_is : text ≡ listing source defined ++ verdict_line (Certified (length cert.rows) cases)
 
 -- The headline: where the run of `certify` is done, and the shelf tells, the words that the source defines are safe in every run; and
@@ -146,21 +150,21 @@ CertifiesWhatIsSafe told arguments old new result = (source certificate source_b
 -- its limit.
 abbrev pub TellsMachine : (told : Told) → Option (List ℕ) → Machine → Type 0
 TellsMachine told None machine = machine ≡ standard_machine
-TellsMachine told (Some name) machine = (bytes : List ℕ) × (told name ≡ Stored bytes) × (length bytes ≤ MACHINE_LIMIT) × (machine_of bytes ≡ Ok machine)
+TellsMachine told (Some name) machine = (bytes : List ℕ) × (told name ≡ Stored bytes) × (length bytes ≤ machine_limit) × (machine_of bytes ≡ Ok machine)
 
 -- A source and a certificate are told, within their limits and without a fault, and the certificate is accepted for the words that the
 -- source defines.
 pub record TellsAccepted (told : Told) (machine : Machine) (source certificate : List ℕ) : Type 0 where
   pub source_bytes : List ℕ
   pub source_told : told source ≡ Stored source_bytes
-  pub source_short : length source_bytes ≤ SOURCE_LIMIT
+  pub source_short : length source_bytes ≤ source_limit
   pub defined : List (Option PlacedWord)
   pub defines : Defines machine.codes source_bytes defined
   pub image : List (Option ℕ)
   pub image_is : IsImageOf (placed_words defined) image
   pub certificate_bytes : List ℕ
   pub certificate_told : told certificate ≡ Stored certificate_bytes
-  pub certificate_short : length certificate_bytes ≤ CERT_LIMIT
+  pub certificate_short : length certificate_bytes ≤ certificate_limit
   pub cert : Stated
   pub is_cert : IsCertOf machine.ports certificate_bytes cert
   pub accepted : Accepted value_meaning machine image (certificate_of cert)
@@ -216,8 +220,9 @@ pub record IsRefusedFor (machine : Machine) (image : List (Option ℕ)) (cert : 
   pub status_is : status ≡ No
 
 -- The certificate is accepted for the image, so that every run is safe, over every list of events that it declares; and the script's
--- play under it is such a run: its events are declared, and lead from a start of the certificate. Where the script sets a start
--- that isn't one there is no event, and nothing shown. The text says that the certificate is certified, then what the play shows along
+-- play under it is such a run: its events are declared, and lead from a start of the certificate; and wherever the play is cut, so
+-- also at each state that it shows, the state is a safe one. Where the script sets a start that isn't one there is no event, and
+-- nothing shown. The text says that the certificate is certified, with the numbers that are its verdict, then what the play shows along
 -- that very run, and then what it met.
 pub record IsDeclaredPlay (machine : Machine) (image : List (Option ℕ)) (cert : Stated) (commands : List Command) (text : List ℕ) (status : Status) : Type 0 where
   pub accepted : Accepted value_meaning machine image (certificate_of cert)
@@ -228,8 +233,10 @@ pub record IsDeclaredPlay (machine : Machine) (image : List (Option ℕ)) (cert 
   pub plays : IsPlayOf machine image (Some (certificate_of cert)) commands events shown met
   pub run : ((outside : Outside) → met ≡ OutsideStart outside → ⊥)
       → IsRunOf machine image (certificate_of cert) (begun_state machine image (Some (certificate_of cert)) commands) events
+  pub cut : ((outside : Outside) → met ≡ OutsideStart outside → ⊥) → IsSafeWhereCut machine image (certificate_of cert) commands
   pub nothing : (outside : Outside) → met ≡ OutsideStart outside → (events ≡ []) × (shown ≡ [])
   pub cases : ℕ
+  pub verdict : IsVerdict value_meaning machine image (certificate_of cert) (Certified (length cert.rows) cases)
   pub text_is : text ≡ verdict_line (Certified (length cert.rows) cases) ++ shown ++ met_line met
   pub status_is : status ≡ met_status met
 
@@ -324,25 +331,25 @@ pub record FindsFault (kind : Kind) (told : Told) (arguments : List (List ℕ)) 
 -- BadMachine comes exactly where the walk comes to a machine file that fails a test; the first one is printed
 pub record BadMachineExactly (told : Told) (arguments : List (List ℕ)) (old new : Option (List ℕ)) (result : Status) : Type 0 where
   pub only : result ≡ BadMachine → FindsFault MachineFile told arguments old new
-  pub always : (name bytes : List ℕ) (error : MachError) → IsGiven program Tells told (plan_of arguments) MachineFile name bytes → length bytes ≤ MACHINE_LIMIT
+  pub always : (name bytes : List ℕ) (error : MachError) → IsGiven program Tells told (plan_of arguments) MachineFile name bytes → length bytes ≤ machine_limit
       → machine_of bytes ≡ Err error → EndsWith result BadMachine
 
 -- BadSource comes exactly where the walk comes to a source that has a faulty card, whose number and fault are printed
 pub record BadSourceExactly (told : Told) (arguments : List (List ℕ)) (old new : Option (List ℕ)) (result : Status) : Type 0 where
   pub only : result ≡ BadSource → (machine : Machine) × FindsFault (Source machine) told arguments old new
   pub always : (machine : Machine) (name bytes : List ℕ) (error : SourceError) → IsGiven program Tells told (plan_of arguments) (Source machine) name bytes
-      → length bytes ≤ SOURCE_LIMIT → IsFaulty bytes error → EndsWith result BadSource
+      → length bytes ≤ source_limit → IsFaulty bytes error → EndsWith result BadSource
 
 -- BadCert comes exactly where the walk comes to a certificate that has a faulty line, whose number and fault are printed
 pub record BadCertExactly (told : Told) (arguments : List (List ℕ)) (old new : Option (List ℕ)) (result : Status) : Type 0 where
   pub only : result ≡ BadCert → (machine : Machine) × FindsFault (Certificate machine) told arguments old new
   pub always : (machine : Machine) (name bytes : List ℕ) (line : ℕ) (kind : CertKind) → IsGiven program Tells told (plan_of arguments) (Certificate machine) name bytes
-      → length bytes ≤ CERT_LIMIT → IsFaultyCert machine.ports bytes line kind → EndsWith result BadCert
+      → length bytes ≤ certificate_limit → IsFaultyCert machine.ports bytes line kind → EndsWith result BadCert
 
 -- BadText comes exactly where the walk comes to a listing or a script that has a faulty line, whose number and fault are printed
 pub record BadTextExactly (told : Told) (arguments : List (List ℕ)) (old new : Option (List ℕ)) (result : Status) : Type 0 where
   pub only : result ≡ BadText → ((machine : Machine) × FindsFault (Script machine) told arguments old new) ⊎ FindsFault Listing told arguments old new
   pub always : (machine : Machine) (name bytes : List ℕ) (line : ℕ) (kind : ScriptKind) → IsGiven program Tells told (plan_of arguments) (Script machine) name bytes
-      → length bytes ≤ SCRIPT_LIMIT → IsFaultyScript machine bytes line kind → EndsWith result BadText
+      → length bytes ≤ script_limit → IsFaultyScript machine bytes line kind → EndsWith result BadText
   pub always_listing : (name bytes : List ℕ) (error : ListError) → IsGiven program Tells told (plan_of arguments) Listing name bytes
-      → length bytes ≤ LISTING_LIMIT → IsFaultyListing bytes error → EndsWith result BadText
+      → length bytes ≤ listing_limit → IsFaultyListing bytes error → EndsWith result BadText

@@ -25,10 +25,10 @@ use Rattle.ags_play.specs.Played.{Met, Nothing, PlaysUnless, IsPlayOf}
 use Rattle.ags_play.proofs.FoundLemmas.{one_play_of}
 use Rattle.ags_play.proofs.PlayLemmas.{play_runs}
 use Rattle.ags_play.proofs.SearchLemmas.{some_play_of}
-use Rattle.ags_load.specs.declared.status.Status.{Status}
-use Rattle.ags_load.specs.declared.status.Status.TheVariants.{No}
-use Rattle.ags_load.specs.Text.{met_line, verdict_line}
-use Rattle.ags_load.specs.Work.{IsShownBy, IsPlayedBy, IsGuardedBy, met_status}
+use Rattle.ags_program.specs.declared.status.Status.{Status}
+use Rattle.ags_program.specs.declared.status.Status.TheVariants.{No}
+use Rattle.ags_program.specs.Text.{met_line, verdict_line}
+use Rattle.ags_program.specs.Work.{IsShownBy, IsPlayedBy, IsGuardedBy, met_status}
 use Rattle.ags_play.proofs.UnguardedLemmas.{unguarded}
 
 -- ---- without a guard

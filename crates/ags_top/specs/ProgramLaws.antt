@@ -14,7 +14,7 @@ use Rattle.ags_places.specs.Deck.{cards}
 use Rattle.ags_places.proofs.RunningLemmas.{some_fits, fits_one}
 use Rattle.ags_cert.specs.Cert.{Stated, certificate_of}
 use Rattle.ags_certread.proofs.TextLaws as cert
-use Rattle.ags_certtext.specs.Text.{IsCertOf}
+use Rattle.ags_cert.specs.Text.{IsCertOf}
 use Rattle.ags_certtext.specs.declared.cert_error.CertKind.{CertKind}
 use Rattle.ags_certtext.specs.declared.cert_error.CertError.TheVariants as certificate
 use Rattle.ags_domain.specs.Value.{value_meaning}
@@ -33,7 +33,7 @@ use Rattle.ags_listing.specs.declared.list_error.ListError.{ListError}
 use Rattle.ags_listing.specs.Listing.{listing}
 use Rattle.ags_listing.specs.Reads.{Reads}
 use Rattle.ags_listing.proofs.MeaningLemmas as listed
-use Rattle.ags_tape.specs.Tape.{tape_text}
+use Rattle.ags_image.specs.Tape.{tape_text}
 use Rattle.ags_xref.specs.Xref.{xref_text}
 use Rattle.ags_asm.specs.Source.{Defines, placed_words}
 use Rattle.ags_asm.proofs.ApartLemmas.{each_place_once}
@@ -53,14 +53,14 @@ use Rattle.ags_script.specs.declared.script_errors.ScriptKind.{ScriptKind}
 use Rattle.ags_script.specs.declared.script_errors.ScriptError.TheVariants.{At}
 use Rattle.ags_script.proofs.ScriptLemmas as script
 use Rattle.ags_play.specs.Played.{Met, Nothing}
-use Rattle.ags_load.specs.declared.status.Status.{Status}
-use Rattle.ags_load.specs.declared.status.Status.TheVariants.{Done, No, BadWords, LongFile}
-use Rattle.ags_load.specs.Files.{Kind, MachineFile, Source, Listing, Certificate, Script, Assembly, Value, HoldsSource, Holds, Refuses, refused_status}
+use Rattle.ags_program.specs.declared.status.Status.{Status}
+use Rattle.ags_program.specs.declared.status.Status.TheVariants.{Done, No, BadWords, LongFile}
+use Rattle.ags_program.specs.Files.{Kind, MachineFile, Source, Listing, Certificate, Script, Assembly, Value, HoldsSource, Holds, Refuses, refused_status}
 use Rattle.ags_top.specs.PlayLaws.{some_shown, one_shown, some_guarded, one_guarded}
-use Rattle.ags_load.specs.Program.{program, command_plan, plan_on, asked_plan, plan_of}
-use Rattle.ags_load.specs.Status.{cause_of}
-use Rattle.ags_load.specs.Text.{words_line, certificate_fault_line, fault_line, listing_fault_line, machine_fault_line, script_fault_line, compared_line, verdict_line}
-use Rattle.ags_load.specs.Work.{Work, NoForm, WriteText, CompareImages, JudgeCertificate, PlayScript, GuardScript, IsTextOf, IsComparisonOf, IsJudgementOf, IsPlayedBy, compared_status, met_status, verdict_status, Makes}
+use Rattle.ags_program.specs.Program.{program, command_plan, plan_on, asked_plan, plan_of}
+use Rattle.ags_program.specs.Status.{cause_of}
+use Rattle.ags_program.specs.Text.{words_line, certificate_fault_line, fault_line, listing_fault_line, machine_fault_line, script_fault_line, compared_line, verdict_line}
+use Rattle.ags_program.specs.Work.{Work, NoForm, WriteText, CompareImages, JudgeCertificate, PlayScript, GuardScript, IsTextOf, IsComparisonOf, IsJudgementOf, IsPlayedBy, compared_status, met_status, verdict_status, Makes}
 
 -- ---- files
 

@@ -3,13 +3,13 @@
 ghost use Rattle.std.specs.Prelude.{◌≡◌, ◌++◌, ℕ, List};
 ghost use Rattle.ags_plan.specs.Answer.{IsAnswer, TellsFiles};
 ghost use Rattle.ags_plan.specs.Walk.{Told};
-ghost use Rattle.ags_load.specs.Program.{plan_of, program};
-ghost use Rattle.ags_load.specs.Text.{certified_word, verdict_line};
+ghost use Rattle.ags_program.specs.Program.{plan_of, program};
+ghost use Rattle.ags_program.specs.Text.{certified_word, verdict_line};
 ghost use Rattle.ags_verdict.specs.declared.verdicts.Verdict.TheVariants.{Certified};
 
 use crate::program::Ags;
-use ags_load::Status;
 use ags_plan::{command_lines_have_one_answer, each_command_line_has_an_answer};
+use ags_program::Status;
 
 /// A command line has an answer, whatever a shelf tells of files.
 pub fn each_command_has_an_answer()

@@ -6,29 +6,28 @@ ghost use Rattle.ags_outside.specs.Count.{HasCause};
 ghost use Rattle.ags_outside.specs.Send.{is_write_fault};
 ghost use Rattle.ags_plan.specs.Plan.{WorkAt};
 ghost use Rattle.ags_plan.specs.Saying.{Says};
-ghost use Rattle.ags_load.specs.Program.{program};
-ghost use Rattle.ags_load.specs.Text.{verdict_line};
-ghost use Rattle.ags_load.specs.Views.{IsReadSource, assembly_of};
-ghost use Rattle.ags_load.specs.Work as work;
+ghost use Rattle.ags_program.specs.Program.{program};
+ghost use Rattle.ags_program.specs.Text.{verdict_line};
+ghost use Rattle.ags_program.specs.Views.{IsReadSource, assembly_of};
+ghost use Rattle.ags_program.specs.Work as work;
 
 use ags_cert::Cert;
 use ags_check::{Verdict, check};
-use ags_domain::Value;
 use ags_listing::send_listing;
-use ags_load::{SourceFile, Status};
 use ags_outside::{SendError, Sink, send};
 use ags_ports::Machine;
+use ags_program::{SourceFile, Status};
 use std::alloc::{AllocError, Global};
 
 /// The line of a verdict.
-pub(crate) fn verdict_line(alloc: Global, verdict: &Verdict<Value>) -> Result<String, AllocError>
+pub(crate) fn verdict_line(alloc: Global, verdict: &Verdict) -> Result<String, AllocError>
     ensures { IfOk result (λ line. string_bytes line ≡ verdict_line verdict.now) }
 {
     format!(in alloc; "{verdict}\n")
 }
 
 /// The status of a verdict.
-fn verdict_status(verdict: &Verdict<Value>) -> Status
+fn verdict_status(verdict: &Verdict) -> Status
     ensures { result ≡ work.verdict_status verdict.now }
 {
     match verdict {

@@ -7,16 +7,16 @@ ghost use Rattle.ags_outside.specs.Count.{HasCause};
 ghost use Rattle.ags_outside.specs.Send.{is_write_fault};
 ghost use Rattle.ags_plan.specs.Plan.{WorkAt};
 ghost use Rattle.ags_plan.specs.Saying.{Says};
-ghost use Rattle.ags_load.specs.Program.{program};
-ghost use Rattle.ags_load.specs.Text.{compared_line, word_column};
-ghost use Rattle.ags_load.specs.Views.{HasImage};
-ghost use Rattle.ags_load.specs.Work as work;
+ghost use Rattle.ags_program.specs.Program.{program};
+ghost use Rattle.ags_program.specs.Text.{compared_line, word_column};
+ghost use Rattle.ags_program.specs.Views.{HasImage};
+ghost use Rattle.ags_program.specs.Work as work;
 
 use ags_asm::Assembled;
 use ags_compare::{Compared, compare};
 use ags_image::Image;
-use ags_load::Status;
 use ags_outside::{SendError, Sink, send};
+use ags_program::Status;
 use ags_text::octal4;
 use ags_word::Word;
 
@@ -31,7 +31,7 @@ fn word_column(word: Option<Word>) -> [u8; 6]
 }
 
 /// The line of images that differ at a location, where they have these words.
-#[tactic(auto, unfolding(ags_load::specs::Text::compared_line))]
+#[tactic(auto, unfolding(ags_program::specs::Text::compared_line))]
 fn differs_line(location: u16, left: Option<Word>, right: Option<Word>) -> [u8; 27]
     ensures { result ≡ compared_line (Compared.Differs location left right) }
 {
@@ -45,7 +45,7 @@ fn differs_line(location: u16, left: Option<Word>, right: Option<Word>) -> [u8; 
 }
 
 /// Says how the image of a source's words compares with that of a listing.
-#[tactic(auto, unfolding(ags_load::specs::Text::compared_line))]
+#[tactic(auto, unfolding(ags_program::specs::Text::compared_line))]
 pub(crate) fn compare_images<K: Sink>(
     made: &Assembled,
     listed: &Image,

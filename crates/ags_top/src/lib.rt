@@ -1,8 +1,8 @@
 //! The program's one call: from the arguments of a command line to a status and the bytes that are written, over any
-//! shelf and any sink. What a command line asks for is loaded by `ags_load`, along the walk of `ags_plan`, and done
-//! here: a text of a source is written by `ags_listing`, `ags_tape` or `ags_xref`, images are compared by
+//! shelf and any sink. What a command line asks for is loaded by `ags_program`, along the walk of `ags_plan`, and done
+//! here: a text of a source is written by `ags_listing`, `ags_image` or `ags_xref`, images are compared by
 //! `ags_compare`, certificates judged by `ags_check`, and scripts played by `ags_run`. `ags_main` answers exactly what
-//! the definitions in `specs/`, and those of `ags_load`, say of the arguments and the files.
+//! the definitions in `specs/`, and those of `ags_program`, say of the arguments and the files.
 #![tactic(auto)]
 
 mod answer_laws;
@@ -15,7 +15,7 @@ mod program;
 mod run_command;
 mod write_command;
 
-pub use ags_load::Status;
+pub use ags_program::Status;
 pub use answer_laws::{
     arguments_have_one_answer, certified_lines_begin_with_certified, each_command_has_an_answer,
 };

@@ -6,12 +6,12 @@ ghost use Rattle.ags_outside.specs.Count.{Rose};
 ghost use Rattle.ags_plan.specs.Answer.{IsAnswer, TellsFiles};
 ghost use Rattle.ags_plan.specs.Outcome.{AbsentExactly, Ends, EndsExactly, IsCleanOnShelf, IsCleanOnSink, LongExactly};
 ghost use Rattle.ags_top.specs.Outcome.{BadCertExactly, BadMachineExactly, BadSourceExactly, BadTextExactly, BadWordsExactly, CertifiesAccepted, CertifiesWhatIsSafe, ComparesWhatIsDefined, DoneAlways, EqualsWhatIsDefined, GuardsWhatIsDefined, JudgesWhatIsDefined, NoExactly, PlaysWhatIsDeclared, PlaysWhatIsDefined, SafeWhereCertifiedIsWritten, WritesWhatIsDefined};
-ghost use Rattle.ags_load.specs.Program.{plan_of, program};
+ghost use Rattle.ags_program.specs.Program.{plan_of, program};
 
 use crate::program::Ags;
 use ags_command::SourceText;
-use ags_load::Status;
 use ags_outside::{Shelf, Sink};
+use ags_program::Status;
 use std::alloc::Global;
 
 /// Runs the program over the arguments behind its name: the files that they name are read from the shelf, and the answer is sent

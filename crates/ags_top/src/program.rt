@@ -5,10 +5,10 @@ ghost use Rattle.ags_outside.specs.Count.{HasCause};
 ghost use Rattle.ags_outside.specs.Send.{is_write_fault};
 ghost use Rattle.ags_plan.specs.Plan.{WorkAt};
 ghost use Rattle.ags_plan.specs.Saying.{Says};
-ghost use Rattle.ags_load.specs.Program as definition;
-ghost use Rattle.ags_load.specs.Status as status;
-ghost use Rattle.ags_load.specs.Views as views;
-ghost use Rattle.ags_load.specs.Work as work;
+ghost use Rattle.ags_program.specs.Program as definition;
+ghost use Rattle.ags_program.specs.Status as status;
+ghost use Rattle.ags_program.specs.Views as views;
+ghost use Rattle.ags_program.specs.Work as work;
 
 use crate::certify_command::judge_certificate;
 use crate::compare_command::compare_images;
@@ -16,9 +16,9 @@ use crate::guard_command::guard_script;
 use crate::run_command::play_script;
 use crate::write_command::write_text;
 use ags_command::read_line;
-use ags_load::{Refusal, Status, Work, load_line};
 use ags_outside::{SendError, Shelf, Sink, send};
 use ags_plan::{Program, Stop, Unloaded};
+use ags_program::{Refusal, Status, Work, load_line};
 use std::alloc::{AllocError, Global};
 
 /// The program `ags`.

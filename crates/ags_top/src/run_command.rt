@@ -7,14 +7,14 @@ ghost use Rattle.ags_outside.specs.Send.{is_write_fault};
 ghost use Rattle.ags_plan.specs.Plan.{WorkAt};
 ghost use Rattle.ags_plan.specs.Saying.{Says};
 ghost use Rattle.ags_script.specs.Script.{IsReadFor};
-ghost use Rattle.ags_load.specs.Program.{program};
-ghost use Rattle.ags_load.specs.Views.{HasImage};
-ghost use Rattle.ags_load.specs.Work as work;
+ghost use Rattle.ags_program.specs.Program.{program};
+ghost use Rattle.ags_program.specs.Views.{HasImage};
+ghost use Rattle.ags_program.specs.Work as work;
 
 use ags_asm::Assembled;
-use ags_load::Status;
 use ags_outside::{SendError, Sink};
 use ags_ports::Machine;
+use ags_program::Status;
 use ags_run::{PlayError, play};
 use ags_script::Script;
 use std::alloc::Global;

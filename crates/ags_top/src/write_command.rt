@@ -4,15 +4,15 @@ ghost use Rattle.ags_outside.specs.Count.{HasCause};
 ghost use Rattle.ags_outside.specs.Send.{is_write_fault};
 ghost use Rattle.ags_plan.specs.Plan.{WorkAt};
 ghost use Rattle.ags_plan.specs.Saying.{Says};
-ghost use Rattle.ags_load.specs.Program.{program};
-ghost use Rattle.ags_load.specs.Views.{IsReadSource, assembly_of};
-ghost use Rattle.ags_load.specs.Work as work;
+ghost use Rattle.ags_program.specs.Program.{program};
+ghost use Rattle.ags_program.specs.Views.{IsReadSource, assembly_of};
+ghost use Rattle.ags_program.specs.Work as work;
 
 use ags_command::SourceText;
+use ags_image::send_tape;
 use ags_listing::send_listing;
-use ags_load::{SourceFile, Status};
 use ags_outside::{SendError, Sink};
-use ags_tape::send_tape;
+use ags_program::{SourceFile, Status};
 use ags_xref::{XrefError, send_xref};
 use std::alloc::Global;
 

@@ -10,18 +10,12 @@ use ags_domain::Domain;
 use ags_image::Image;
 use ags_ports::Machine;
 use ags_row::{At, Limits, Post, Row, cell_of};
-use ags_word::Word;
+use ags_word::{ERASABLE, LOCATIONS, Word};
 use std::marker::Model;
-
-/// The address of the first fixed cell, 4000 octal.
-pub(crate) const FIXED: u16 = 2048;
-
-/// How many locations the memory has.
-const LOCATIONS: u16 = 4096;
 
 /// What is judged at once: a row, and one word of its code, one index and one indicator.
 #[derive(Drop)]
-pub(crate) struct Case<'a, D> {
+pub(crate) struct Case<'a, D: Domain> {
     pub(crate) machine: &'a Machine,
     pub(crate) image: &'a Image,
     pub(crate) limits: &'a Limits<D>,
@@ -31,7 +25,7 @@ pub(crate) struct Case<'a, D> {
     pub(crate) indicator: bool,
 }
 
-impl<'a, D> Model for Case<'a, D> {
+impl<'a, D: Domain> Model for Case<'a, D> {
     ghost use Rattle.ags_posts.specs.Case.{Case, case_of};
 
     ghost Value = { Case D };
@@ -53,7 +47,7 @@ impl<'a, D: Domain> Case<'a, D> {
         ensures { AreCellsTold D.meaning (code_cell self.now) result }
     {
         let address = self.row.location();
-        if address < FIXED {
+        if address < ERASABLE {
             Some(At {
                 address,
                 value: D::of_word(self.word),
@@ -80,7 +74,7 @@ impl<'a, D: Domain> Case<'a, D> {
         requires { address < 4096 }
         ensures { IsTold D.meaning (cell_in_case self.now address) result }
     {
-        if address < FIXED {
+        if address < ERASABLE {
             self.erasable_cell(address)
         } else {
             D::of_word(self.image.word_at(address))

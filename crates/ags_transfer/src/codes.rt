@@ -2,10 +2,10 @@
 
 ghost use Rattle.ags_posts.specs.Case.{IsCode};
 
-use crate::cases::FIXED;
 use ags_domain::{Domain, WordSet};
 use ags_image::Image;
 use ags_row::{Limits, Row, cell_of};
+use ags_word::ERASABLE;
 
 /// The words that may stand at a row's location: the one word of a fixed cell; of an erasable one those that it may hold, and
 /// nothing where these are more than 16 (docs/CHECKER.md, What is known).
@@ -13,7 +13,7 @@ pub fn code<D: Domain>(image: &Image, limits: &Limits<D>, base: &Row<D>) -> Opti
     ensures { IsCode D.meaning image.now limits.now base.now result }
 {
     let location = base.location();
-    if location < FIXED {
+    if location < ERASABLE {
         cell_of(base, limits, location).few()
     } else {
         WordSet::of(&[image.word_at(location)])

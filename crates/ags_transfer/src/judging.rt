@@ -2,7 +2,7 @@
 
 ghost use Rattle.std.specs.Prelude.{◌≡◌, ◌<◌, Ok};
 ghost use Rattle.ags_ports.specs.declared.events.Event.TheVariants.{Step};
-ghost use Rattle.ags_ports.specs.declared.events.Report.{Report};
+ghost use Rattle.ags_ports.specs.declared.events.Done.{Done};
 ghost use Rattle.ags_ports.specs.State.{State, IsState};
 ghost use Rattle.ags_ports.specs.Step.{Steps};
 ghost use Rattle.ags_posts.specs.Case.{case_of};
@@ -36,7 +36,7 @@ pub fn posts<D: Domain>(
 ) -> Result<PostPair<D>, Stop<D>>
     requires { x < 8 }
     ensures posts { IsPostsOfCase D.meaning (case_of machine.now image.now limits.now base.now word x v) result }
-    ensures one_step { (s : State) (report : Report) (after : State) (pair : PostPair D) → result ≡ Ok pair
+    ensures one_step { (s : State) (report : Done) (after : State) (pair : PostPair D) → result ≡ Ok pair
         → IsState machine.now s → IsInCase D.meaning (case_of machine.now image.now limits.now base.now word x v) s
         → Steps machine.now s Step report after
         → Follows D.meaning (case_of machine.now image.now limits.now base.now word x v) pair report after }

@@ -4,11 +4,12 @@ ghost use Rattle.std.specs.Prelude.{◌<◌, ℕ};
 ghost use Rattle.ags_isa.specs.declared.orders.Order.TheVariants.{Cla, Clz, Ldq, Sto, Stq};
 ghost use Rattle.ags_posts.specs.Posts.{IsPosts};
 
-use crate::cases::{Case, FIXED};
+use crate::cases::Case;
 use crate::deciding::single;
 use ags_domain::Domain;
 use ags_posts::{PostPair, Stop};
 use ags_row::Post;
+use ags_word::ERASABLE;
 
 impl<'a, D: Domain> Case<'a, D> {
     /// CLA: A becomes the cell.
@@ -34,7 +35,7 @@ impl<'a, D: Domain> Case<'a, D> {
     pub(crate) fn sto(&self, e: u16) -> Result<PostPair<D>, Stop<D>>
         ensures { (y : ℕ) → IsPosts D.meaning self.now Sto e y result }
     {
-        if e >= FIXED {
+        if e >= ERASABLE {
             return Err(Stop::FixedWrite { address: e });
         }
         self.stored(e, self.a(), self.moves_on())
@@ -44,7 +45,7 @@ impl<'a, D: Domain> Case<'a, D> {
     pub(crate) fn stq(&self, e: u16) -> Result<PostPair<D>, Stop<D>>
         ensures { (y : ℕ) → IsPosts D.meaning self.now Stq e y result }
     {
-        if e >= FIXED {
+        if e >= ERASABLE {
             return Err(Stop::FixedWrite { address: e });
         }
         self.stored(e, self.q(), self.moves_on())
@@ -55,7 +56,7 @@ impl<'a, D: Domain> Case<'a, D> {
         requires { e < 4096 }
         ensures { (y : ℕ) → IsPosts D.meaning self.now Clz e y result }
     {
-        if e >= FIXED {
+        if e >= ERASABLE {
             return Err(Stop::FixedWrite { address: e });
         }
         self.cleared(e, self.loads(e))

@@ -4,9 +4,10 @@ ghost use Rattle.std.specs.Prelude.{◌<◌, ℕ};
 ghost use Rattle.ags_isa.specs.declared.orders.Order.TheVariants.{Dvp, Mpr, Mpy, Mpz};
 ghost use Rattle.ags_posts.specs.Posts.{IsPosts};
 
-use crate::cases::{Case, FIXED};
+use crate::cases::Case;
 use ags_domain::Domain;
 use ags_posts::{PostPair, Stop};
+use ags_word::ERASABLE;
 
 impl<'a, D: Domain> Case<'a, D> {
     /// MPY: A and Q become the product.
@@ -32,7 +33,7 @@ impl<'a, D: Domain> Case<'a, D> {
         requires { e < 4096 }
         ensures { (y : ℕ) → IsPosts D.meaning self.now Mpz e y result }
     {
-        if e >= FIXED {
+        if e >= ERASABLE {
             return Err(Stop::FixedWrite { address: e });
         }
         let m = self.cell(e);

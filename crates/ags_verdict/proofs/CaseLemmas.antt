@@ -1,13 +1,15 @@
--- The cases of a row are each word with each index and each indicator of it. The crates above cite:
+-- The cases of a row are each word with each index and each indicator of it. Behind the law on them are `case_stands`, `case_is`; the
+-- crates above cite:
 --     cases_each, each_cases    what holds of each such is what holds of each case, both ways
 use Rattle.std.proofs.Common.{◌≡◌, ℕ, zero, suc, ◌+◌, Bool, true, false, refl, subst, arith, List, [], ◌∷◌}
 use Rattle.std.specs.Prelude.{if◌then◌else◌}
-use Rattle.std.specs.List.{AllByRecursion}
+use Rattle.std.specs.List.{AllByRecursion, Contains}
+use Rattle.std.proofs.lemmas.List.Elements.{All-contains_itself, All-from_recursion, recursion_from_All}
 use Rattle.ags_domain.specs.ListLaws.{lists_head, lists_rest, one_of}
 use Rattle.ags_domain.specs.WordSet.{lists}
 use Rattle.ags_row.specs.Flag.{has_flag, indicator_number}
 use Rattle.ags_row.specs.declared.rows.Row.{Row}
-use Rattle.ags_verdict.specs.RowCase.{RowCase, flagged, indicators, with_index, with_word, cases_in}
+use Rattle.ags_verdict.specs.RowCase.{RowCase, IsCaseOf, flagged, indicators, with_index, with_word, cases_in}
 use Rattle.ags_verdict.proofs.EachLemmas.{append_each, left_each, right_each, map_each, each_map, flat_each, each_flat}
 
 module _ (P : ℕ → Type 0) where
@@ -86,3 +88,18 @@ module _ {D : Type 0} (row : Row D) (P : RowCase → Type 0) where
       let of_index = each_flagged (AtIndex w) 0 row.x (each_flat P (λ index. with_index w index (indicators row.v)) (flagged 0 row.x) of_word)
       index index set (omega arith) in
       each_indicators (λ b. P (at w index b)) row.v (each_map P (at w index) (indicators row.v) of_index) indicator may
+
+-- ---- as elements
+
+module _ {D : Type 0} (row : Row D) (words : List ℕ) where
+  pub case_stands : (c : RowCase) → IsCaseOf row words c → Contains (cases_in row words) c
+  case_stands c is = each_cases row (Contains (cases_in row words)) words
+      (recursion_from_All (Contains (cases_in row words)) (cases_in row words) (All-contains_itself (cases_in row words)))
+      c.word c.index c.indicator is.word is.index is.indicator
+
+  each_is : AllByRecursion (IsCaseOf row words) (cases_in row words)
+  each_is = cases_each row (IsCaseOf row words) words (λ w index indicator listed set may. record { word = listed; index = set; indicator = may })
+
+  pub case_is : (c : RowCase) → Contains (cases_in row words) c → IsCaseOf row words c
+  case_is c stands = subst (IsCaseOf row words) stands.2
+      (All-from_recursion (IsCaseOf row words) (cases_in row words) each_is stands.0 c stands.1)

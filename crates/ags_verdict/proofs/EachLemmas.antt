@@ -1,5 +1,6 @@
 -- What holds of each element, by recursion, over the lists that the cases of a row are made of. The crates above cite:
 --     append_each, map_each, flat_each    it holds of each of a list that was made where it holds of each of what it was made of
+--     each_of, each_if                    what holds of all holds of each, and so does what follows from it
 use Rattle.std.proofs.Common.{List, [], ◌∷◌, ◌++◌, map}
 use Rattle.std.specs.List.{AllByRecursion, flat_map}
 
@@ -32,3 +33,21 @@ module _ {X Y : Type 0} (P : Y → Type 0) where
   pub each_flat : (f : X → List Y) (xs : List X) → AllByRecursion P (flat_map f xs) → AllByRecursion (λ x. AllByRecursion P (f x)) xs
   each_flat f [] each = tt
   each_flat f (x ∷ xs) each = (left_each P (f x) (flat_map f xs) each, each_flat f xs (right_each P (f x) (flat_map f xs) each))
+
+-- ---- where it follows from what held
+
+module _ {X : Type 0} (P : X → Type 0) where
+  pub each_of : ((x : X) → P x) → (xs : List X) → AllByRecursion P xs
+  each_of each [] = tt
+  each_of each (x ∷ xs) = (each x, each_of each xs)
+
+  pub each_if : (Q : X → Type 0) → ((x : X) → Q x → P x) → (xs : List X) → AllByRecursion Q xs → AllByRecursion P xs
+  each_if Q each [] all = tt
+  each_if Q each (x ∷ xs) all = (each x all.0, each_if Q each xs all.1)
+
+module _ {X Y : Type 0} (P : Y → Type 0) (Q : X → Type 0) where
+  pub map_if : (f : X → Y) → ((x : X) → Q x → P (f x)) → (xs : List X) → AllByRecursion Q xs → AllByRecursion P (map f xs)
+  map_if f each xs all = map_each P f xs (each_if (λ x. P (f x)) Q each xs all)
+
+  pub flat_if : (f : X → List Y) → ((x : X) → Q x → AllByRecursion P (f x)) → (xs : List X) → AllByRecursion Q xs → AllByRecursion P (flat_map f xs)
+  flat_if f each xs all = flat_each P f xs (each_if (λ x. AllByRecursion P (f x)) Q each xs all)

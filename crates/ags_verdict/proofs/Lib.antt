@@ -1,4 +1,5 @@
 pub mod EachLemmas
 pub mod CaseLemmas
+pub mod TurnLemmas
 mod InOrderLemmas
 pub mod VerdictLemmas

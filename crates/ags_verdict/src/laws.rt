@@ -1,9 +1,14 @@
 //! What the verdict means. Each law is what a function that does nothing ensures, so that it is proved with the crate.
 
-ghost use Rattle.std.specs.Prelude.{◌≡◌, ℕ, List, length, Option};
+ghost use Rattle.std.specs.Prelude.{◌≡◌, ◌≢◌, ℕ, List, length, Option};
+ghost use Rattle.std.specs.List.{AllPairs, Contains};
+ghost use Rattle.ags_domain.specs.declared.word_sets.WordSet.{WordSet};
 ghost use Rattle.ags_ports.specs.Machine.{IsMachine};
+ghost use Rattle.ags_row.specs.declared.rows.Row.{Row};
 ghost use Rattle.ags_safe.specs.Certificate.{Certificate};
 ghost use Rattle.ags_safe.specs.Accepted.{Accepted};
+ghost use Rattle.ags_safe.specs.Failing.{Precedes};
+ghost use Rattle.ags_verdict.specs.RowCase.{RowCase, IsCaseOf, numbers_of, cases_in};
 ghost use Rattle.ags_verdict.specs.Verdict.{IsVerdict};
 ghost use Rattle.ags_verdict.specs.Flat.{IsNumberOfCases, IsFirstFailing};
 ghost use Rattle.ags_verdict.specs.declared.verdicts.Verdict.{Verdict};
@@ -31,6 +36,16 @@ pub fn accepted_certificates_are_certified<D: Domain>()
 pub fn certificate_has_one_verdict<D: Domain>()
     ensures { (machine : Machine) (image : List (Option ℕ)) (cert : Certificate D) (one other : Verdict D) → IsMachine machine
         → IsVerdict D.meaning machine image cert one → IsVerdict D.meaning machine image cert other → one ≡ other }
+{}
+
+/// The cases of a row are each word of its code with each index and each indicator of the row, and no others. Each stands among them
+/// once, in the order of words, indices and indicators.
+pub fn cases_are_each_word_with_each_index_and_indicator<D: Domain>()
+    ensures each { (row : Row D) (code : WordSet) (c : RowCase) → IsCaseOf row code.list c → Contains (cases_in row code.list) c }
+    ensures alone { (row : Row D) (code : WordSet) (c : RowCase) → Contains (cases_in row code.list) c → IsCaseOf row code.list c }
+    ensures once { (row : Row D) (code : WordSet) → AllPairs (λ one other. one ≢ other) (cases_in row code.list) }
+    ensures ascending { (row : Row D) (code : WordSet)
+        → AllPairs (λ one other. Precedes (numbers_of one) (numbers_of other)) (cases_in row code.list) }
 {}
 
 /// A refusal tells the first item that fails, in the order of the first words, the start, and the rows with their cases.

@@ -6,6 +6,7 @@
 
 pub mod laws;
 mod longs;
+mod memory;
 mod octals;
 mod products;
 mod six_digits;
@@ -14,5 +15,6 @@ mod whole;
 mod words;
 
 pub use longs::Long;
+pub use memory::{ERASABLE, LOCATIONS};
 pub use six_digits::SixDigits;
 pub use words::Word;

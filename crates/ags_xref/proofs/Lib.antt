@@ -1,3 +1,4 @@
+pub mod NamesLemmas
 pub mod NamingLemmas
 pub mod OrderLemmas
 pub mod RowLemmas

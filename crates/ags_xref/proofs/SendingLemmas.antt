@@ -115,11 +115,11 @@ spans_at source from (line ∷ lines) (Some d ∷ ds) follow = (follow.0, omega 
 
 -- the spans of an assembled source's cards are those of its lines
 pub spans_of : (source : List ℕ) (made : Assembled) → IsAssemblyOf source made → AreSpans 0 (length source) made.cards.items
-spans_of source made so = rw so.1.cards_are (spans_at source 0 (card_lines source) (definitions so.0 made.symbols (cards source)) (lines_of_cards_follow source))
+spans_of source made so = rw so.assembled.cards_are (spans_at source 0 (card_lines source) (definitions so.order_codes made.symbols (cards source)) (lines_of_cards_follow source))
 
 -- and there its cards stand
 pub cards_of : (source : List ℕ) (made : Assembled) → IsAssemblyOf source made → map (card_at source) made.cards.items ≡ cards source
 cards_of source made so =
-    let defines : Defines so.0 source (definitions so.0 made.symbols (cards source)) = record { symbols = made.symbols; fits = so.1.fits; faultless = so.1.faultless; words = refl } in
-    ap (map (card_at source)) so.1.cards_are
-    ∙ cards_at source 0 (card_lines source) (definitions so.0 made.symbols (cards source)) (one_for_each so.0 source (definitions so.0 made.symbols (cards source)) defines) (lines_of_cards_follow source)
+    let defines : Defines so.order_codes source (definitions so.order_codes made.symbols (cards source)) = record { symbols = made.symbols; fits = so.assembled.fits; faultless = so.assembled.faultless; words = refl } in
+    ap (map (card_at source)) so.assembled.cards_are
+    ∙ cards_at source 0 (card_lines source) (definitions so.order_codes made.symbols (cards source)) (one_for_each so.order_codes source (definitions so.order_codes made.symbols (cards source)) defines) (lines_of_cards_follow source)

@@ -1,7 +1,7 @@
 -- Which cards of a source name a symbol.
-use Rattle.std.specs.Prelude.{ℕ, ◌+◌, Bool, false, if◌then◌else◌, nat_eq, List, [], ◌∷◌, ◌++◌}
+use Rattle.std.specs.Prelude.{◌≡◌, ℕ, ◌+◌, Bool, false, if◌then◌else◌, nat_eq, List, [], ◌∷◌, ◌++◌, length}
 use Rattle.std.specs.Cmp.Lexicographic.{pointwise}
-use Rattle.std.specs.List.{list_any}
+use Rattle.std.specs.List.{Contains, list_any}
 use Rattle.ags_card.specs.declared.cards.Body.{Body}
 use Rattle.ags_card.specs.declared.cards.Body.TheVariants.{Comment, Order, Org, Equ, Bss, Dec, Oct, End}
 use Rattle.ags_card.specs.declared.cards.Card.{Card}
@@ -46,3 +46,18 @@ naming_from name number (card ∷ cards) = number_where (card_names name card) n
 -- so of all cards of a source, which are numbered from 1
 abbrev pub naming : (cards : List Card) → (name : List ℕ) → List ℕ
 naming cards name = naming_from name 1 cards
+
+-- ---- so in the subject's words
+
+-- the symbol is a term of the card's operand
+abbrev pub Names : (name : List ℕ) → Card → Type 0
+Names name card = (term : Term) × Contains (operand_terms card.body) term × (term.atom ≡ Symbol name)
+
+-- the card of that number, counted from 1, names the symbol
+pub record NamesIt (cards : List Card) (name : List ℕ) (number : ℕ) : Type 0 where
+  pub front : List Card
+  pub card : Card
+  pub behind : List Card
+  pub whole : cards ≡ front ++ card ∷ behind
+  pub number_is : number ≡ length front + 1
+  pub names : Names name card

@@ -1,10 +1,11 @@
 -- The cross reference of a source.
-use Rattle.std.specs.Prelude.{ℕ, ◌-◌, List, ◌++◌, length, replicate, codes}
+use Rattle.std.specs.Prelude.{ℕ, ◌-◌, ◌≤◌, List, ◌++◌, length, replicate, codes}
 use Rattle.std.specs.Fmt.{signed_decimal}
 use Rattle.std.specs.List.{flat_map}
 use Rattle.ags_text.specs.Numeral.{decimal7_text}
 use Rattle.ags_symbol.specs.Symbol.{Entry}
 use Rattle.ags_places.specs.Deck.{cards}
+use Rattle.ags_places.specs.Limit.{source_limit}
 use Rattle.ags_asm.specs.declared.assembling.Assembled.{Assembled}
 use Rattle.ags_asm.specs.Source.{IsAssembled}
 use Rattle.ags_xref.specs.Naming.{naming}
@@ -35,6 +36,8 @@ xref_line entry naming =
 abbrev pub xref_text : (source : List ℕ) → List Entry → List ℕ
 xref_text source symbols = flat_map (λ entry. xref_line entry (naming (cards source) entry.name)) (by_name symbols)
 
--- that was made of the source, by some table of codes
-abbrev pub IsAssemblyOf : (source : List ℕ) → Assembled → Type 0
-IsAssemblyOf source made = (order_codes : List ℕ) × IsAssembled order_codes source made.cards.items made.symbols made.image
+-- that was made of the source, which is within its limit, by some table of codes
+pub record IsAssemblyOf (source : List ℕ) (made : Assembled) : Type 0 where
+  pub short : length source ≤ source_limit
+  pub order_codes : List ℕ
+  pub assembled : IsAssembled order_codes source made.cards.items made.symbols made.image

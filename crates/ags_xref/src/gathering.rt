@@ -4,7 +4,7 @@ ghost use Rattle.std.specs.Prelude.{◌≡◌, ◌≤◌, [], length, map, All, 
 ghost use Rattle.ags_card.specs.Reading.{reading};
 ghost use Rattle.ags_places.specs.Deck.{card_of};
 ghost use Rattle.ags_asm.specs.Source.{AreSpans};
-ghost use Rattle.ags_places.specs.declared.sources.TheConstants.{SOURCE_LIMIT};
+ghost use Rattle.ags_places.specs.Limit.{source_limit};
 ghost use Rattle.ags_xref.specs.Gathering.{AreRows, Changes, Gathered, all_noted, card_at, noted, once_behind};
 ghost use Rattle.ags_xref.specs.Naming.{operand_terms};
 
@@ -119,7 +119,7 @@ pub(crate) fn gather_naming(
     placed: &[Placed],
     rows: &[Row],
 ) -> Result<Vec<Vec<u32>>, AllocError>
-    requires limit { length source.now ≤ SOURCE_LIMIT }
+    requires limit { length source.now ≤ source_limit }
     requires spans { AreSpans 0 (length source.now) placed.now }
     requires rows { AreRows rows.now }
     ensures { IfOk result (λ gathered. Gathered rows.now (map (card_at source.now) placed.now) gathered.items) }

@@ -9,5 +9,5 @@ mod rows;
 mod sending;
 mod writing;
 
-pub use laws::pairs_by_name_ascend;
+pub use laws::{naming_cards_ascend, pairs_by_name_ascend};
 pub use sending::{XrefError, send_xref};

@@ -4,7 +4,6 @@ ghost use Rattle.std.specs.Prelude.{◌≡◌, ◌≤◌, length, OnOk, OnErr};
 ghost use Rattle.ags_outside.specs.Count.{HasCause};
 ghost use Rattle.ags_outside.specs.Send as send;
 ghost use Rattle.ags_outside.specs.Sink.{appended, WroteFront};
-ghost use Rattle.ags_places.specs.declared.sources.TheConstants.{SOURCE_LIMIT};
 ghost use Rattle.ags_xref.specs.Gathering.{entry_of, rows_text};
 ghost use Rattle.ags_xref.specs.Xref.{IsAssemblyOf, xref_line, xref_text};
 ghost use Rattle.ags_xref.specs.XrefFault.{is_write_fault, xref_error};
@@ -83,8 +82,7 @@ fn send_reference<K: Sink>(
     made: &Assembled,
     out: &mut K,
 ) -> Result<(), SendError>
-    requires limit { length bytes.now ≤ SOURCE_LIMIT }
-    requires made { IsAssemblyOf bytes.now made.now }
+    requires { IsAssemblyOf bytes.now made.now }
     ensures sent { OnOk result (K.told out.new ≡ appended (K.told out.old) (xref_text bytes.now made.now.symbols)) }
     ensures front { OnErr result (WroteFront (K.told out.old) (K.told out.new) (xref_text bytes.now made.now.symbols)) }
     ensures faults { HasCause (K.faults out.old) (K.faults out.new) (send.is_write_fault result) }
@@ -105,8 +103,7 @@ pub fn send_xref<K: Sink>(
     made: &Assembled,
     out: &mut K,
 ) -> Result<(), XrefError>
-    requires limit { length bytes.now ≤ SOURCE_LIMIT }
-    requires made { IsAssemblyOf bytes.now made.now }
+    requires { IsAssemblyOf bytes.now made.now }
     ensures sent { OnOk result (K.told out.new ≡ appended (K.told out.old) (xref_text bytes.now made.now.symbols)) }
     ensures front { OnErr result (WroteFront (K.told out.old) (K.told out.new) (xref_text bytes.now made.now.symbols)) }
     ensures faults { HasCause (K.faults out.old) (K.faults out.new) (is_write_fault result) }

@@ -1,6 +1,7 @@
 use Rattle.std.proofs.Common.{◌≡◌, true, sym, ◌∙◌}
 use Rattle.std.specs.Str.Parse.{starts_with_minus}
-use Rattle.ags_card.specs.Reading.{octal_reading, number_of}
+use Rattle.ags_text.specs.Numeral.{number_of}
+use Rattle.ags_card.specs.Reading.{octal_reading}
 use Rattle.ags_card.proofs.NumberLemmas.{negated_word}
 use Rattle.ags_card.proofs.operands.read_signed_octal.Goals as goal
 

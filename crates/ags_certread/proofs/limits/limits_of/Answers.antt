@@ -19,4 +19,4 @@ pub returns : goal.returns
 returns c = all_set (gathering_of c.args.gatherer.now) c.set_all.new.limits c.set_all-2.new.limits c.set_all-3.new.limits c.name_places.new.limits
     c.set_all-2.ensures.rest c.set_all-3.ensures.rest c.name_places.ensures.rest
     (rw c.as_slice.ensures.value at c.set_all.ensures.set) (rw c.as_slice-2.ensures.value at c.set_all-2.ensures.set)
-    (rw c.as_slice-3.ensures.value at c.set_all-3.ensures.set) (rw c.as_slice-4.ensures.value at c.name_places.ensures.named) c.every-every.ensures.tables
+    (rw c.as_slice-3.ensures.value at c.set_all-3.ensures.set) (rw c.as_slice-4.ensures.value at c.name_places.ensures.named) c.every-every.ensures.whole.tables

@@ -6,9 +6,9 @@ use Rattle.ags_certsend.proofs.laws.sent_certificate_reads_back.Goals as goal
 
 pub returns : goal.returns
 unfolding readings_of
-returns c = λ machine cert good tables every suits. record {
+returns c = λ machine cert good suits. record {
   readings = readings_of cert;
   are_readings = text_read cert good;
   faultless = text_faultless machine cert good suits;
-  is_stated = rw (statements_read (statements_of cert)) (certificate_stated cert good tables every);
+  is_stated = rw (statements_read (statements_of cert)) (certificate_stated cert good);
 }

@@ -1,5 +1,5 @@
 use Rattle.ags_domain.specs.Value.{value_meaning}
-use Rattle.ags_cert.specs.Cert.{certificate_of}
+use Rattle.ags_certtype.specs.Cert.{certificate_of}
 use Rattle.ags_check.proofs.MovedLemmas.{rows_moved}
 use Rattle.ags_check.proofs.checking.judged_rows.Goals as goal
 

@@ -5,7 +5,7 @@ use Rattle.ags_domain.specs.declared.values.Value.{Value}
 use Rattle.ags_row.specs.declared.rows.Row.{Row}
 use Rattle.ags_safe.specs.Accepted.{HoldsStart}
 use Rattle.ags_verdict.specs.declared.verdicts.Refusal.TheVariants.{InitRange}
-use Rattle.ags_cert.specs.Cert.{certificate_of}
+use Rattle.ags_certtype.specs.Cert.{certificate_of}
 use Rattle.ags_check.proofs.CoverageLemmas.{never}
 use Rattle.ags_check.proofs.checking.verdict.Goals as goal
 

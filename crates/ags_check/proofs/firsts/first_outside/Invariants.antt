@@ -1,5 +1,5 @@
 use Rattle.std.proofs.Common.{ℕ, ◌<◌}
-use Rattle.ags_cert.specs.Cert.{certificate_of}
+use Rattle.ags_certtype.specs.Cert.{certificate_of}
 use Rattle.ags_check.specs.Checking.{IsFirstHeldAt}
 use Rattle.ags_check.proofs.firsts.first_outside.Given as goal
 

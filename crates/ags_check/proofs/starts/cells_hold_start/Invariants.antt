@@ -2,7 +2,7 @@ use Rattle.std.proofs.Common.{ℕ, ◌<◌, get_or}
 use Rattle.ags_domain.specs.declared.values.Value.{Value}
 use Rattle.ags_image.specs.Image.{entry_at}
 use Rattle.ags_row.specs.declared.ats.At.{At}
-use Rattle.ags_cert.specs.Cert.{certificate_of}
+use Rattle.ags_certtype.specs.Cert.{certificate_of}
 use Rattle.ags_check.specs.Checking.{HoldsFirstWords}
 use Rattle.ags_check.proofs.starts.cells_hold_start.Given as goal
 

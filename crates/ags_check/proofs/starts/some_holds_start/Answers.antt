@@ -1,6 +1,6 @@
 use Rattle.ags_domain.specs.Value.{value_meaning}
 use Rattle.ags_safe.specs.Accepted.{HoldsStart}
-use Rattle.ags_cert.specs.Cert.{certificate_of}
+use Rattle.ags_certtype.specs.Cert.{certificate_of}
 use Rattle.ags_check.proofs.CoverageLemmas.{found}
 use Rattle.ags_check.proofs.starts.some_holds_start.Goals as goal
 

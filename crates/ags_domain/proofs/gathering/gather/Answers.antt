@@ -5,8 +5,8 @@ use Rattle.ags_domain.specs.MeaningLaws.{value_lawful}
 use Rattle.ags_domain.proofs.GatherLaws.{more_so_far, once_so_far, some_so_far, too_many}
 use Rattle.ags_domain.proofs.gathering.gather.Goals as goal
 
-pub returns-then-len-eq16 : goal.returns-then-len-eq16
-returns-then-len-eq16 c =
+pub returns-then-len-eq-MOST_WORDS : goal.returns-then-len-eq-MOST_WORDS
+returns-then-len-eq-MOST_WORDS c =
     let held = held_by_either value_meaning c.args.left.now c.args.right.now in
     too_many held c.loop-word.list c.loop-word.from c.loop-word.invariant c.in-Some.word c.in-Some.ensures (omega arith)
 

@@ -24,6 +24,6 @@ pub loop-cell-preserved : goal.loop-cell-preserved
 loop-cell-preserved g c = (
   c.loop-cell.invariant.0 ∙ rest_decides c.loop-cell.from (drop c.loop-cell.cell-index c.args.cells.now) (drop (c.loop-cell.cell-index + 1) c.args.cells.now)
       c.cell-item.result (left_at c.args.cells.now c.loop-cell.cell-index c.cell-item.result c.cell-item.is c.loop-cell-test.true)
-      c.if-cell-from.false c.if-cell-ge2048.false,
-  omega (arith, c.if-cell-ge2048.false),
+      c.if-cell-from.false c.if-cell-ge-ERASABLE.false,
+  omega (arith, c.if-cell-ge-ERASABLE.false),
 )

@@ -1,5 +1,5 @@
 use Rattle.std.proofs.Common.{ℕ, ◌<◌}
-use Rattle.ags_cert.specs.Cert.{certificate_of}
+use Rattle.ags_certtype.specs.Cert.{certificate_of}
 use Rattle.ags_domain.specs.Value.{value_meaning}
 use Rattle.ags_ports.specs.State.{cell}
 use Rattle.ags_safe.specs.Start.{IsStartWord}

@@ -1,4 +1,4 @@
-use Rattle.ags_cert.specs.Cert.{certificate_of}
+use Rattle.ags_certtype.specs.Cert.{certificate_of}
 use Rattle.ags_play.specs.Guard.{AreInputsInside}
 use Rattle.ags_run.proofs.guarding.find_input.Given as goal
 

@@ -1,4 +1,4 @@
-use Rattle.ags_cert.specs.Cert.{certificate_of}
+use Rattle.ags_certtype.specs.Cert.{certificate_of}
 use Rattle.ags_run.proofs.GuardingLemmas.{first_port}
 use Rattle.ags_run.proofs.guarding.find_word.Goals as goal
 

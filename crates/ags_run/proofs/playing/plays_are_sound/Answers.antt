@@ -3,6 +3,7 @@ use Rattle.std.specs.Prelude.{Option}
 use Rattle.ags_domain.specs.declared.values.Value.{Value}
 use Rattle.ags_play.specs.Bench.{usual_location}
 use Rattle.ags_play.proofs.RunOfLemmas.{play_is_run}
+use Rattle.ags_play.proofs.SafeLemmas.{safe_where_cut}
 use Rattle.ags_safe.specs.Certificate.{Certificate}
 use Rattle.ags_run.proofs.playing.plays_are_sound.Goals as goal
 
@@ -15,3 +16,10 @@ returns-clause-declared c = λ cert events text met guarded plays unmet.
     play_is_run c.args.machine.now c.args.image.now cert c.args.script.now events text met c.types_are_kept.ensures.image
     (subst (λ (guard : Option (Certificate Value)). usual_location guard < 4096) guarded c.types_are_kept.ensures.location)
     (record { locations = suits.locations; words = suits.words }) plays unmet
+
+pub returns-clause-safe : goal.returns-clause-safe
+returns-clause-safe c = λ cert events text met guarded plays unmet safe.
+    let suits = c.scripts_suit_their_machine.ensures c.args.machine.now c.args.script.now c.requires in
+    safe_where_cut c.args.machine.now c.args.image.now cert c.args.script.now events text met c.types_are_kept.ensures.image
+    (subst (λ (guard : Option (Certificate Value)). usual_location guard < 4096) guarded c.types_are_kept.ensures.location)
+    (record { locations = suits.locations; words = suits.words }) plays unmet safe

@@ -2,7 +2,7 @@ use Rattle.std.proofs.Common.{map}
 use Rattle.std.specs.String.{string_bytes}
 use Rattle.ags_command.specs.declared.source_texts.SourceText.TheVariants.{Listing, Tape, CrossReference}
 use Rattle.ags_plan.proofs.StatusLemmas.{absent_exactly, long_exactly, ends_exactly}
-use Rattle.ags_load.specs.Program.{plan_of, program}
+use Rattle.ags_program.specs.Program.{plan_of, program}
 use Rattle.ags_top.specs.ProgramLaws.{lawful_program}
 use Rattle.ags_top.proofs.CertifiedLineLemmas.{safe_where_certified_is_written}
 use Rattle.ags_top.proofs.MainLemmas.{writes_what_is_defined, compares_what_is_defined, equals_what_is_defined, judges_what_is_defined, certifies_what_is_safe, certifies_accepted, bad_cert_exactly, plays_what_is_defined, guards_what_is_defined, plays_what_is_declared, done_always, no_exactly, bad_words_exactly, bad_machine_exactly, bad_source_exactly, bad_text_exactly}

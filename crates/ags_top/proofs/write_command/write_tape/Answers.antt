@@ -1,7 +1,7 @@
 use Rattle.std.proofs.Common.{inl}
 use Rattle.std.proofs.lemmas.Result.{err_from_is_err_and}
 use Rattle.ags_command.specs.declared.source_texts.SourceText.TheVariants.{Tape}
-use Rattle.ags_tape.specs.Tape.{tape_text}
+use Rattle.ags_image.specs.Tape.{tape_text}
 use Rattle.ags_top.proofs.WriteLemmas.{is_tape, text_said, text_said_in_part}
 use Rattle.ags_top.proofs.write_command.write_tape.Goals as goal
 

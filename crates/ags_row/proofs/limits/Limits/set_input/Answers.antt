@@ -3,4 +3,4 @@ use Rattle.ags_row.proofs.limits.Limits.set_input.Goals as goal
 
 pub returns : goal.returns
 returns g c = let i = c.self.inside in
-    rw (← c.self.view_is) (input_set (view_of i.cells.items i.inputs.items i.outputs.items i.places.items i.every) c.self.invariant c.args.address c.args.value c.requires)
+    rw (← c.self.view_is) (input_set (view_of i.cells.items i.inputs.items i.outputs.items i.places.items i.every) c.self.invariant.tables c.args.address c.args.value c.requires)

@@ -4,7 +4,7 @@ use Rattle.ags_transfer.proofs.DecisionLemmas.{store_goes_on}
 use Rattle.ags_transfer.proofs.cases.Case.adz.Goals as goal
 
 pub returns : goal.returns
-returns g c = λ y. store_goes_on c.args.e _ _ (omega (arith, c.if-e-ge-FIXED.false)) (
+returns g c = λ y. store_goes_on c.args.e _ _ (omega (arith, c.if-e-ge-ERASABLE.false)) (
   c.cell-m.result,
   c.cell-m.ensures,
   (

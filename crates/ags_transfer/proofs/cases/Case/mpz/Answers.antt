@@ -4,7 +4,7 @@ use Rattle.ags_transfer.proofs.DecisionLemmas.{store_goes_on}
 use Rattle.ags_transfer.proofs.cases.Case.mpz.Goals as goal
 
 pub returns : goal.returns
-returns g c = λ y. store_goes_on c.args.e _ _ (omega (arith, c.if-e-ge-FIXED.false)) (
+returns g c = λ y. store_goes_on c.args.e _ _ (omega (arith, c.if-e-ge-ERASABLE.false)) (
   c.cell-m.result,
   c.cell-m.ensures,
   (
@@ -14,5 +14,5 @@ returns g c = λ y. store_goes_on c.args.e _ _ (omega (arith, c.if-e-ge-FIXED.fa
   ),
 )
 
-pub returns-then-e-ge-FIXED : goal.returns-then-e-ge-FIXED
-returns-then-e-ge-FIXED g c = search rules
+pub returns-then-e-ge-ERASABLE : goal.returns-then-e-ge-ERASABLE
+returns-then-e-ge-ERASABLE g c = search rules

@@ -1,0 +1,250 @@
+-- The first fault of the phase of words is the least of all.
+use Rattle.std.proofs.Common.{◌≡◌, ℕ, ◌≤◌, Bool, true, false, cond, List, [], ◌∷◌, reverse, Option, Some, None, option_map, refl, sym, ap, subst, ◌∙◌, ◌⊎◌, inl, inr, arith}
+use Rattle.std.specs.Prelude.{is_some, ℤ, pos}
+use Rattle.std.specs.List.{Contains, filter_map, cons_option}
+use Rattle.ags_word.specs.Word.{fits}
+use Rattle.ags_word.proofs.WordLaws.{word_of_value-fits, word_of_value-not}
+use Rattle.ags_decimal.specs.Decimal.{Parts, decimal_word, nearest_value}
+use Rattle.ags_card.specs.declared.cards.Body.{Body}
+use Rattle.ags_card.specs.declared.cards.Body.TheVariants.{Comment, Order, Org, Equ, Bss, Dec, Oct, End}
+use Rattle.ags_card.specs.declared.cards.Card.{Card}
+use Rattle.ags_card.specs.declared.terms.Term.{Term}
+use Rattle.ags_symbol.specs.Symbol.{Entry, NamesUnknown, names, sum_of}
+use Rattle.ags_symbol.proofs.FoundLemmas.{Contains-cons, Contains-first, Contains-later}
+use Rattle.ags_symbol.proofs.SumLemmas.{sum_none, unknown_none}
+use Rattle.ags_places.specs.declared.source_error.SourceKind.{SourceKind}
+use Rattle.ags_places.specs.declared.source_error.SourceKind.TheVariants.{BadByte, LongCard, BadSymbol, UnknownOperation, MissingOperand, ExtraOperand, BadExpression, BadDecimal, BadOctal, SymbolTwice, UndefinedEarly, PlaceRange, Undefined, AddressRange, ValueRange, PlaceTwice}
+use Rattle.ags_places.specs.Deck.{cards}
+use Rattle.ags_places.specs.Fault.{is_place, or_else}
+use Rattle.ags_places.specs.Faulty.{HoldsAt, kind_number}
+use Rattle.ags_places.specs.Place.{Fits, place, place_of_word}
+use Rattle.ags_places.proofs.FirstLemmas.{NoLater, Tells, first_holds, first_least, first_none}
+use Rattle.ags_places.proofs.NameLemmas.{names_fit}
+use Rattle.ags_places.proofs.RangeLemmas.{outside, outside_fails}
+use Rattle.ags_places.proofs.RunningLemmas.{fits_one}
+use Rattle.ags_asm.specs.Faulty.{HasWordFault, IsMismadeBy, NamesNoCard, StandsBefore}
+use Rattle.ags_asm.specs.Word.{address_fault, first_word_fault, owner, taken, word_fault, word_fault_at}
+use Rattle.ags_asm.proofs.OwnerLemmas.{owner_stands, owner_none}
+
+-- ---- the symbols that cards define
+
+-- a name is that of a pair
+name_pair : (S : List Entry) (name : List ℕ) → Contains (names S) name → (entry : Entry) × Contains S entry × (entry.name ≡ name)
+name_pair [] name among = absurd (omega (arith, among.1))
+name_pair (first ∷ S) name among = elim (Contains-cons first.name name (names S) among) [
+  | inl this ↦ (first, Contains-first first S, this)
+  | inr later ↦ let (entry, there, named) = name_pair S name later in (entry, Contains-later first entry S there, named)
+]
+
+pair_name : (S : List Entry) (entry : Entry) → Contains S entry → Contains (names S) entry.name
+pair_name [] entry among = absurd (omega (arith, among.1))
+pair_name (first ∷ S) entry among = elim (Contains-cons first entry S among) [
+  | inl this ↦ subst (λ (one : Entry). Contains (names (first ∷ S)) one.name) this (Contains-first first.name (names S))
+  | inr later ↦ Contains-later first.name entry.name (names S) (pair_name S entry later)
+]
+
+-- a symbol of the cards is that of one
+symbols : List Card → List (List ℕ)
+symbols cards = filter_map (λ card. card.symbol) cards
+
+first_symbol : (symbol : Option (List ℕ)) (name : List ℕ) (rest : List (List ℕ)) → Contains (cons_option symbol rest) name → (symbol ≡ Some name) ⊎ Contains rest name
+first_symbol None name rest among = inr among
+first_symbol (Some one) name rest among = elim (Contains-cons one name rest among) [
+  | inl this ↦ inl (ap Some this)
+  | inr later ↦ inr later
+]
+
+symbol_card : (all : List Card) (name : List ℕ) → Contains (symbols all) name → (card : Card) × Contains all card × (card.symbol ≡ Some name)
+unfolding symbols
+symbol_card [] name among = absurd (omega (arith, among.1))
+symbol_card (first ∷ all) name among = elim (first_symbol first.symbol name (filter_map (λ card. card.symbol) all) among) [
+  | inl this ↦ (first, Contains-first first all, this)
+  | inr later ↦ let (card, there, named) = symbol_card all name later in (card, Contains-later first card all there, named)
+]
+
+this_symbol : (symbol : Option (List ℕ)) (name : List ℕ) (rest : List (List ℕ)) → symbol ≡ Some name → Contains (cons_option symbol rest) name
+this_symbol None name rest is = absurd cc
+this_symbol (Some one) name rest is = let same : one ≡ name = cc in subst (λ (n : List ℕ). Contains (one ∷ rest) n) same (Contains-first one rest)
+
+later_symbol : (symbol : Option (List ℕ)) (name : List ℕ) (rest : List (List ℕ)) → Contains rest name → Contains (cons_option symbol rest) name
+later_symbol None name rest among = among
+later_symbol (Some one) name rest among = Contains-later one name rest among
+
+card_symbol : (all : List Card) (card : Card) (name : List ℕ) → Contains all card → card.symbol ≡ Some name → Contains (symbols all) name
+unfolding symbols
+card_symbol [] card name among is = absurd (omega (arith, among.1))
+card_symbol (first ∷ all) card name among is = elim (Contains-cons first card all among) [
+  | inl this ↦ this_symbol first.symbol name (filter_map (λ card. card.symbol) all) (ap (λ (c : Card). c.symbol) this ∙ is)
+  | inr later ↦ later_symbol first.symbol name (filter_map (λ card. card.symbol) all) (card_symbol all card name later is)
+]
+
+module _ (S : List Entry) (all : List Card) (fitting : Fits S all) where
+  names_are : names S ≡ symbols all
+  unfolding symbols
+  names_are = names_fit S all fitting
+
+  unknown_no_card : (terms : List Term) → NamesUnknown S terms → NamesNoCard all terms
+  unknown_no_card terms (term, name, among, is, missing) = (term, name, among, is, λ card there named. apart card there named)
+    where
+      apart : (card : Card) → Contains all card → card.symbol ≡ Some name → ⊥
+      apart card there named =
+          let (entry, held, same) = name_pair S name (subst (λ (ns : List (List ℕ)). Contains ns name) (sym names_are) (card_symbol all card name there named)) in
+          missing entry held same
+
+  no_card_unknown : (terms : List Term) → NamesNoCard all terms → NamesUnknown S terms
+  no_card_unknown terms (term, name, among, is, missing) = (term, name, among, is, λ entry there named. apart entry there named)
+    where
+      apart : (entry : Entry) → Contains S entry → entry.name ≡ name → ⊥
+      apart entry there named =
+          let (card, held, symbol) = symbol_card all entry.name (subst (λ (ns : List (List ℕ)). Contains ns entry.name) names_are (pair_name S entry there)) in
+          missing card held (symbol ∙ ap Some named)
+
+  module _ (before : List Card) (card : Card) where
+    -- ---- what is told is so
+
+    address_sound : (terms : List Term) (order : _) (indexed : Bool) (kind : SourceKind) (sum : Option ℤ) → card.body ≡ Order order terms indexed → sum_of S (place S before) terms ≡ sum
+        → address_fault sum ≡ Some kind → IsMismadeBy S all kind before card
+    address_sound terms order indexed kind None body sum is =
+        let same : Undefined ≡ kind = cc in
+        rw (sym same) (terms, (order, indexed, body), unknown_no_card terms (sum_none S (place S before) terms sum))
+    address_sound terms order indexed kind (Some value) body sum is = by_test (is_place value) refl is
+      where
+        by_test : (within : Bool) → is_place value ≡ within → ◌≡◌ {A = Option SourceKind} (cond within None (Some (AddressRange value))) (Some kind) → IsMismadeBy S all kind before card
+        by_test true test told = absurd cc
+        by_test false test told =
+            let same : AddressRange value ≡ kind = cc in
+            rw (sym same) (terms, (order, indexed, body), sum, outside (pos 0) value value (pos 4095) test)
+
+    decimal_sound : (decimal : Parts) (kind : SourceKind) (within : Bool) → card.body ≡ Dec decimal → fits (nearest_value decimal) ≡ within
+        → ◌≡◌ {A = Option SourceKind} (cond (is_some (decimal_word decimal)) None (Some ValueRange)) (Some kind) → IsMismadeBy S all kind before card
+    decimal_sound decimal kind true body fit is =
+        let none : ◌≡◌ {A = Option SourceKind} None (Some kind) = rw (word_of_value-fits (nearest_value decimal) fit) at is in
+        absurd cc
+    decimal_sound decimal kind false body fit is =
+        let told : ◌≡◌ {A = Option SourceKind} (Some ValueRange) (Some kind) = rw (word_of_value-not (nearest_value decimal) fit) at is in
+        let same : ValueRange ≡ kind = cc in
+        rw (sym same) (decimal, body, fit)
+
+    word_sound : (body : Body) (kind : SourceKind) → card.body ≡ body → word_fault_at S (place S before) body ≡ Some kind → IsMismadeBy S all kind before card
+    word_sound Comment kind body is = absurd cc
+    word_sound (Order order terms indexed) kind body is = address_sound terms order indexed kind (sum_of S (place S before) terms) body refl is
+    word_sound (Org terms) kind body is = absurd cc
+    word_sound (Equ terms) kind body is = absurd cc
+    word_sound (Bss terms) kind body is = absurd cc
+    word_sound (Dec decimal) kind body is = decimal_sound decimal kind (fits (nearest_value decimal)) body refl is
+    word_sound (Oct word) kind body is = absurd cc
+    word_sound End kind body is = absurd cc
+
+    taken_sound : (stands : Option ℕ) (kind : SourceKind) → place_of_word (place S before) card.body ≡ stands → taken S before stands ≡ Some kind → IsMismadeBy S all kind before card
+    taken_sound None kind stands is = absurd cc
+    taken_sound (Some at) kind stands is = by_owner (owner S at before) refl is
+      where
+        by_owner : (owned : Option ℕ) → owner S at before ≡ owned → ◌≡◌ {A = Option SourceKind} (option_map PlaceTwice owned) (Some kind) → IsMismadeBy S all kind before card
+        by_owner None owned told = absurd cc
+        by_owner (Some first) owned told =
+            let same : PlaceTwice first ≡ kind = cc in
+            rw (sym same) (at, stands, owner_stands S at before first owned)
+
+    by_word : (wrong : Option SourceKind) (kind : SourceKind) → word_fault_at S (place S before) card.body ≡ wrong
+        → or_else wrong (taken S before (place_of_word (place S before) card.body)) ≡ Some kind → IsMismadeBy S all kind before card
+    by_word None kind wrong is = taken_sound (place_of_word (place S before) card.body) kind refl is
+    by_word (Some one) kind wrong is =
+        let same : one ≡ kind = cc in
+        word_sound card.body kind refl (wrong ∙ ap Some same)
+
+    mismade_sound : (kind : SourceKind) → word_fault S before card ≡ Some kind → IsMismadeBy S all kind before card
+    mismade_sound kind is = by_word (word_fault_at S (place S before) card.body) kind refl is
+
+    -- ---- what is so is told, or what has no greater number
+
+    Told : ℕ → Type 0
+    Told most = (g : SourceKind) × (word_fault S before card ≡ Some g) × (kind_number g ≤ most)
+
+    told_word : (kind : SourceKind) → word_fault_at S (place S before) card.body ≡ Some kind → Told (kind_number kind)
+    unfolding Told
+    told_word kind is = (kind, ap (λ (one : Option SourceKind). or_else one (taken S before (place_of_word (place S before) card.body))) is, omega arith)
+
+    at_most : (kind : SourceKind) → kind_number kind ≤ 16
+    at_most BadByte = omega arith
+    at_most LongCard = omega arith
+    at_most BadSymbol = omega arith
+    at_most UnknownOperation = omega arith
+    at_most MissingOperand = omega arith
+    at_most ExtraOperand = omega arith
+    at_most BadExpression = omega arith
+    at_most BadDecimal = omega arith
+    at_most BadOctal = omega arith
+    at_most (SymbolTwice first) = omega arith
+    at_most UndefinedEarly = omega arith
+    at_most PlaceRange = omega arith
+    at_most Undefined = omega arith
+    at_most (AddressRange value) = omega arith
+    at_most ValueRange = omega arith
+    at_most (PlaceTwice first) = omega arith
+
+    taken_tells : (at first : ℕ) → place_of_word (place S before) card.body ≡ Some at → StandsBefore S before first at → Told 16
+    unfolding Told
+    taken_tells at first here stands = by_owner (owner S at before) refl
+      where
+        by_fault : (wrong : Option SourceKind) (number : ℕ) → word_fault_at S (place S before) card.body ≡ wrong → taken S before (place_of_word (place S before) card.body) ≡ Some (PlaceTwice number)
+            → Told 16
+        by_fault None number wrong told =
+            (PlaceTwice number, ap (λ (one : Option SourceKind). or_else one (taken S before (place_of_word (place S before) card.body))) wrong ∙ told, omega arith)
+        by_fault (Some one) number wrong told =
+            (one, ap (λ (one : Option SourceKind). or_else one (taken S before (place_of_word (place S before) card.body))) wrong, at_most one)
+
+        by_owner : (owned : Option ℕ) → owner S at before ≡ owned → Told 16
+        by_owner None owned = absurd (owner_none S at before owned first stands)
+        by_owner (Some number) owned =
+            by_fault (word_fault_at S (place S before) card.body) number refl (ap (taken S before) here ∙ ap (option_map PlaceTwice) owned)
+
+    mismade_least : (kind : SourceKind) → IsMismadeBy S all kind before card → (g : SourceKind) × (word_fault S before card ≡ Some g) × (kind_number g ≤ kind_number kind)
+    unfolding Told
+    mismade_least Undefined (terms, (order, indexed, body), unknown) =
+        told_word Undefined (ap (word_fault_at S (place S before)) body ∙ ap address_fault (unknown_none S (place S before) terms (no_card_unknown terms unknown)))
+    mismade_least (AddressRange value) (terms, (order, indexed, body), sum, out) =
+        told_word (AddressRange value)
+        (ap (word_fault_at S (place S before)) body ∙ ap address_fault sum
+        ∙ ap (λ (within : Bool). cond within None (Some (AddressRange value))) (outside_fails (pos 0) value value (pos 4095) out))
+    mismade_least ValueRange (decimal, body, fit) =
+        told_word ValueRange
+        (ap (word_fault_at S (place S before)) body
+        ∙ ap (λ (word : Option ℕ). cond (is_some word) None (Some ValueRange)) (word_of_value-not (nearest_value decimal) fit))
+    mismade_least (PlaceTwice first) (at, here, stands) = taken_tells at first here stands
+    mismade_least BadByte is = absurd is
+    mismade_least LongCard is = absurd is
+    mismade_least BadSymbol is = absurd is
+    mismade_least UnknownOperation is = absurd is
+    mismade_least MissingOperand is = absurd is
+    mismade_least ExtraOperand is = absurd is
+    mismade_least BadExpression is = absurd is
+    mismade_least BadDecimal is = absurd is
+    mismade_least BadOctal is = absurd is
+    mismade_least (SymbolTwice first) is = absurd is
+    mismade_least UndefinedEarly is = absurd is
+    mismade_least PlaceRange is = absurd is
+
+-- ---- the first fault
+
+module _ (S : List Entry) (text : List ℕ) (fits : Fits S (cards text)) where
+  words_tell : Tells (word_fault S) (IsMismadeBy S (cards text)) kind_number (cards text)
+  words_tell = record {
+    sound = λ front card behind kind whole told. mismade_sound S (cards text) fits (reverse front) card kind told;
+    least = λ front card behind kind whole so. mismade_least S (cards text) fits (reverse front) card kind so;
+  }
+
+  held_by : (number : ℕ) (kind : SourceKind) → HasWordFault text number kind → HoldsAt (IsMismadeBy S (cards text) kind) (cards text) number
+  held_by number kind (T, too, held) =
+      let same : T ≡ S = fits_one T S (cards text) too fits in
+      subst (λ (U : List Entry). HoldsAt (IsMismadeBy U (cards text) kind) (cards text) number) same held
+
+  pub word_fault_holds : (number : ℕ) (kind : SourceKind) → first_word_fault S text ≡ Some (number, kind) → HasWordFault text number kind
+  word_fault_holds number kind is = (S, fits, first_holds (word_fault S) (IsMismadeBy S (cards text)) kind_number (cards text) words_tell number kind is)
+
+  pub word_fault_least : (number : ℕ) (kind : SourceKind) → first_word_fault S text ≡ Some (number, kind) → (other : ℕ) (too : SourceKind) → HasWordFault text other too
+      → NoLater number (kind_number kind) other (kind_number too)
+  word_fault_least number kind is other too held =
+      first_least (word_fault S) (IsMismadeBy S (cards text)) kind_number (cards text) words_tell number kind is other too (held_by other too held)
+
+  pub word_faultless : first_word_fault S text ≡ None → (number : ℕ) (kind : SourceKind) → HasWordFault text number kind → ⊥
+  word_faultless none number kind held = first_none (word_fault S) (IsMismadeBy S (cards text)) kind_number (cards text) words_tell none number kind (held_by number kind held)

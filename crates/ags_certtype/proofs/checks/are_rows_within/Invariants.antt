@@ -1,0 +1,13 @@
+use Rattle.std.proofs.Common.{ℕ, ◌<◌, get_or}
+use Rattle.std.specs.Prelude.{All}
+use Rattle.ags_domain.specs.Domain.{IsWithin}
+use Rattle.ags_domain.specs.Value.{value_meaning}
+use Rattle.ags_domain.specs.declared.values.Value.{Value}
+use Rattle.ags_row.specs.Limit.{cell_limit}
+use Rattle.ags_row.specs.declared.rows.Row.{Row}
+use Rattle.ags_certtype.proofs.checks.are_rows_within.Given as goal
+
+-- the cells of the rows so far are within their limits
+abbrev pub invariant-loop-row : goal.invariant-loop-row
+invariant-loop-row l = (i : ℕ) (d : Row Value) → i < l.row-index
+    → All (λ at. IsWithin value_meaning at.value (cell_limit l.limits at.address)) (get_or l.rows i d).at

@@ -1,0 +1,137 @@
+//! Certificates.
+
+ghost use Rattle.std.specs.Prelude.{◌≡◌, ◌≤◌, true, false, None, IfOk};
+ghost use Rattle.ags_certtype.specs.Cert.{IsCert, IsCertOfParts, certificate_of, stated_by};
+
+use crate::checks::{are_few_at_each, are_firsts_within, are_rows_within};
+use ags_domain::Value;
+use ags_row::{Limits, Row};
+use ags_word::{ERASABLE, LOCATIONS};
+use std::alloc::{AllocError, Global};
+use std::marker::Model;
+
+/// The most rows of a certificate.
+pub const MOST_ROWS: usize = 20_000;
+
+/// The most rows at one location.
+pub const MOST_ROWS_AT_ONE: u16 = 512;
+
+/// The parts that a certificate is made of.
+#[derive(Drop)]
+pub struct CertParts {
+    /// The location that a run starts at, below 4096.
+    pub start: u16,
+    /// What each cell and each port may hold, and the named places.
+    pub limits: Limits<Value>,
+    /// For each of the 2048 erasable cells what it may hold at the start, where that is stated.
+    pub init: Vec<Option<Value>>,
+    /// The rows, in order; 1 to 20,000, at most 512 at one location.
+    pub rows: Vec<Row<Value>>,
+}
+
+/// A certificate. What is stated of a cell is within the cell's limit, and it has 1 to 20,000 rows, at most 512 at one location.
+#[derive(Drop)]
+pub struct Cert {
+    start: u16,
+    limits: Limits<Value>,
+    init: Vec<Option<Value>>,
+    rows: Vec<Row<Value>>,
+}
+
+impl Model for Cert {
+    ghost use Rattle.ags_certtype.specs.Cert.{Stated, IsCert};
+
+    ghost Value = { Stated };
+
+    ghost view = { λ cert. record {
+      start = cert.start;
+      limits = cert.limits;
+      init = cert.init.items;
+      rows = cert.rows.items;
+    } };
+
+    ghost invariant = { λ cert. IsCert (record {
+      start = cert.start;
+      limits = cert.limits;
+      init = cert.init.items;
+      rows = cert.rows.items;
+    }) };
+}
+
+impl Cert {
+    /// Whether some parts make a certificate. The one error is want of memory.
+    fn is_made_of(alloc: Global, parts: &CertParts) -> Result<bool, AllocError>
+        ensures yes { IfOk result (λ yes. yes ≡ true → IsCert (stated_by parts.now)) }
+        ensures no { IfOk result (λ yes. yes ≡ false → ¬ IsCert (stated_by parts.now)) }
+    {
+        let _every = parts.limits.every();
+        if !are_few_at_each(alloc, parts.rows.as_slice())? {
+            return Ok(false);
+        }
+        if parts.start >= LOCATIONS
+            || parts.init.len() != ERASABLE as usize
+            || parts.rows.is_empty()
+        {
+            return Ok(false);
+        }
+        if parts.rows.len() > MOST_ROWS {
+            return Ok(false);
+        }
+        if !are_firsts_within(parts.init.as_slice(), &parts.limits) {
+            return Ok(false);
+        }
+        Ok(are_rows_within(parts.rows.as_slice(), &parts.limits))
+    }
+
+    /// The certificate of some parts, and nothing where they make none. The one error is want of memory.
+    pub fn of(alloc: Global, parts: CertParts) -> Result<Option<Cert>, AllocError>
+        ensures { IfOk result (IsCertOfParts parts) }
+    {
+        if !Cert::is_made_of(alloc, &parts)? {
+            return Ok(None);
+        }
+        Ok(Some(Cert {
+            start: parts.start,
+            limits: parts.limits,
+            init: parts.init,
+            rows: parts.rows,
+        }))
+    }
+
+    /// The location that a run starts at, below 4096.
+    pub fn start(&self) -> u16
+        ensures start { result ≡ self.now.start }
+        ensures cert { IsCert self.now }
+    {
+        self.start
+    }
+
+    /// What each cell and each port may hold, and the named places.
+    pub fn limits(&self) -> &Limits<Value>
+        ensures limits { result.now ≡ self.now.limits }
+        ensures cert { IsCert self.now }
+    {
+        &self.limits
+    }
+
+    /// What an erasable cell may hold at the start, where that is stated; nothing for an address from 2048 up.
+    pub fn init(&self, address: u16) -> Option<Value>
+        ensures fixed { 2048 ≤ address → result ≡ None }
+        ensures init { result ≡ (certificate_of self.now).init address }
+        ensures cert { IsCert self.now }
+    {
+        let init = self.init.as_slice();
+        if address >= ERASABLE {
+            return None;
+        }
+        init[address as usize]
+    }
+
+    /// The rows, in order; 1 to 20,000, at most 512 at one location.
+    pub fn rows(&self) -> &[Row<Value>]
+        ensures rows { result.now ≡ self.now.rows }
+        ensures cert { IsCert self.now }
+    {
+        self.rows.as_slice()
+    }
+}

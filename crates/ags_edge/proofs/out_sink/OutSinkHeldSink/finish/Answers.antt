@@ -1,0 +1,5 @@
+use Rattle.std.proofs.Common.{rules}
+use Rattle.ags_edge.proofs.out_sink.OutSinkHeldSink.finish.Goals as goal
+
+pub returns-else-not-written-clause-written : goal.returns-else-not-written-clause-written
+returns-else-not-written-clause-written c = search rules

@@ -1,0 +1,68 @@
+-- The lines that the program prints of its own.
+use Rattle.std.specs.Prelude.{ℕ, List, [], ◌++◌, Option, Some, None, codes}
+use Rattle.ags_text.specs.Numeral.{octal4_text, octal6_text}
+use Rattle.ags_certtext.specs.declared.cert_error.CertError.{CertError}
+use Rattle.ags_cert.specs.FaultText as certificate
+use Rattle.ags_compare.specs.declared.comparing.Compared.{Compared}
+use Rattle.ags_compare.specs.declared.comparing.Compared.TheVariants.{Equal, Differs}
+use Rattle.ags_listing.specs.declared.list_error.ListError.{ListError}
+use Rattle.ags_listing.specs.ErrorText as listing
+use Rattle.ags_places.specs.declared.source_error.SourceError.{SourceError}
+use Rattle.ags_places.specs.FaultText.{fault_text}
+use Rattle.ags_machfile.specs.declared.mach_error.MachError.{MachError}
+use Rattle.ags_machfile.specs.FaultText as machine
+use Rattle.ags_verdict.specs.VerdictText.{verdict_text}
+use Rattle.ags_verdict.specs.declared.verdicts.Verdict.{Verdict}
+use Rattle.ags_domain.specs.declared.values.Value.{Value}
+use Rattle.ags_script.specs.declared.script_errors.ScriptError.{ScriptError}
+use Rattle.ags_script.specs.FaultText.{error_text}
+use Rattle.ags_play.specs.OutsideText.{met_text}
+use Rattle.ags_play.specs.Played.{Met, Nothing}
+
+-- the arguments are none of the forms
+abbrev pub words_line : List ℕ
+words_line = codes "WORDS\n"
+
+-- the machine file fails that test
+abbrev pub machine_fault_line : MachError → List ℕ
+machine_fault_line error = machine.fault_text error ++ codes "\n"
+
+-- the certificate has that fault
+abbrev pub certificate_fault_line : CertError → List ℕ
+certificate_fault_line error = certificate.error_text error ++ codes "\n"
+
+-- the listing has that fault
+abbrev pub listing_fault_line : ListError → List ℕ
+listing_fault_line error = listing.error_text error ++ codes "\n"
+
+-- the source has that fault
+abbrev pub fault_line : SourceError → List ℕ
+fault_line error = fault_text error ++ codes "\n"
+
+-- the script has that fault
+abbrev pub script_fault_line : ScriptError → List ℕ
+script_fault_line error = error_text error ++ codes "\n"
+
+-- a word where there is one
+abbrev pub word_column : Option ℕ → List ℕ
+word_column None = codes "------"
+word_column (Some word) = octal6_text word
+
+-- two images are one, or they differ at that location, where they have these words
+unfoldable pub compared_line : Compared → List ℕ
+compared_line Equal = codes "EQUAL\n"
+compared_line (Differs location left right) =
+    codes "DIFFERS " ++ octal4_text location ++ codes " " ++ word_column left ++ codes " " ++ word_column right ++ codes "\n"
+
+-- the verdict of a certificate
+abbrev pub verdict_line : Verdict Value → List ℕ
+verdict_line verdict = verdict_text verdict ++ codes "\n"
+
+-- the word that begins the line of a certificate that is certified
+abbrev pub certified_word : List ℕ
+certified_word = codes "CERTIFIED"
+
+-- what a play met, where it met something
+abbrev pub met_line : Met → List ℕ
+met_line Nothing = []
+met_line met = met_text met ++ codes "\n"

@@ -1,0 +1,183 @@
+//! The files of each command, loaded for a machine.
+
+ghost use Rattle.std.specs.Prelude.{IfOk, map};
+ghost use Rattle.std.specs.Result.{result_map_both};
+ghost use Rattle.ags_asm.specs.Source.{defined};
+ghost use Rattle.ags_command.specs.Command as command;
+ghost use Rattle.ags_command.specs.Views.{command_view};
+ghost use Rattle.ags_outside.specs.Count.{HasCause};
+ghost use Rattle.ags_plan.specs.Loading.{Loads, end_of, is_absence, is_read_fault};
+ghost use Rattle.ags_program.specs.Program.{program, command_plan, guard_plan};
+ghost use Rattle.ags_program.specs.Views.{HasImage, IsReady, line_of, status_of, work_of};
+
+use crate::files::{load_certificate, load_listing, load_script, load_source};
+use crate::refusal::Refusal;
+use crate::works::Work;
+use ags_asm::Assembled;
+use ags_command::{Command, SourceText};
+use ags_outside::Shelf;
+use ags_plan::Unloaded;
+use ags_ports::Machine;
+use std::alloc::Global;
+
+/// Loads the source of a name, of which a text is to be written, for a machine.
+fn load_text<'a, S: Shelf>(
+    alloc: Global,
+    machine: &Machine,
+    text: SourceText,
+    source: &'a str,
+    shelf: &mut S,
+) -> Result<Work, Unloaded<'a, Refusal>>
+    ensures loads { Loads program (S.told shelf.old) (command_plan machine.now (command.Write text source.entry.now))
+        (result_map_both work_of (end_of program line_of status_of) result) }
+    ensures ready { IfOk result IsReady }
+    ensures faults { HasCause (S.faults shelf.old) (S.faults shelf.new) (is_read_fault result) }
+    ensures absences { HasCause (S.absences shelf.old) (S.absences shelf.new) (is_absence result) }
+{
+    let source = load_source(alloc, machine, source, shelf)?;
+    Ok(Work::WriteText { text, source })
+}
+
+/// Loads the source and the listing of these names, to be compared, for a machine.
+fn load_comparison<'a, S: Shelf>(
+    alloc: Global,
+    machine: &Machine,
+    source: &'a str,
+    listing: &'a str,
+    shelf: &mut S,
+) -> Result<Work, Unloaded<'a, Refusal>>
+    ensures loads { Loads program (S.told shelf.old) (command_plan machine.now (command.Compare source.entry.now listing.entry.now))
+        (result_map_both work_of (end_of program line_of status_of) result) }
+    ensures ready { IfOk result IsReady }
+    ensures faults { HasCause (S.faults shelf.old) (S.faults shelf.new) (is_read_fault result) }
+    ensures absences { HasCause (S.absences shelf.old) (S.absences shelf.new) (is_absence result) }
+{
+    let source = load_source(alloc, machine, source, shelf)?;
+    let listed = load_listing(alloc, listing, shelf)?;
+    Ok(Work::CompareImages {
+        made: source.made,
+        listed,
+    })
+}
+
+/// Loads the source and the certificate of these names, to be judged for a machine.
+fn load_certification<'a, S: Shelf>(
+    alloc: Global,
+    machine: Machine,
+    source: &'a str,
+    certificate: &'a str,
+    shelf: &mut S,
+) -> Result<Work, Unloaded<'a, Refusal>>
+    ensures loads { Loads program (S.told shelf.old) (command_plan machine (command.Certify source.entry.now certificate.entry.now))
+        (result_map_both work_of (end_of program line_of status_of) result) }
+    ensures ready { IfOk result IsReady }
+    ensures faults { HasCause (S.faults shelf.old) (S.faults shelf.new) (is_read_fault result) }
+    ensures absences { HasCause (S.absences shelf.old) (S.absences shelf.new) (is_absence result) }
+{
+    let source = load_source(alloc, &machine, source, shelf)?;
+    let cert = load_certificate(alloc, &machine, certificate, shelf)?;
+    Ok(Work::JudgeCertificate {
+        machine,
+        source,
+        cert,
+    })
+}
+
+/// Loads the source and the script of these names, to be played on a machine.
+fn load_play<'a, S: Shelf>(
+    alloc: Global,
+    machine: Machine,
+    source: &'a str,
+    script: &'a str,
+    shelf: &mut S,
+) -> Result<Work, Unloaded<'a, Refusal>>
+    ensures loads { Loads program (S.told shelf.old) (command_plan machine (command.Run source.entry.now script.entry.now))
+        (result_map_both work_of (end_of program line_of status_of) result) }
+    ensures ready { IfOk result IsReady }
+    ensures faults { HasCause (S.faults shelf.old) (S.faults shelf.new) (is_read_fault result) }
+    ensures absences { HasCause (S.absences shelf.old) (S.absences shelf.new) (is_absence result) }
+{
+    let source = load_source(alloc, &machine, source, shelf)?;
+    let script = load_script(alloc, &machine, script, shelf)?;
+    Ok(Work::PlayScript {
+        machine,
+        made: source.made,
+        script,
+    })
+}
+
+/// Loads the certificate and the script of these names, in this order, for a source that was read and is to be guarded on a machine.
+fn load_guard<'a, S: Shelf>(
+    alloc: Global,
+    machine: Machine,
+    made: Assembled,
+    script: &'a str,
+    certificate: &'a str,
+    shelf: &mut S,
+) -> Result<Work, Unloaded<'a, Refusal>>
+    requires { HasImage made }
+    ensures loads { Loads program (S.told shelf.old) (guard_plan machine script.entry.now certificate.entry.now (map defined made.cards.items))
+        (result_map_both work_of (end_of program line_of status_of) result) }
+    ensures ready { IfOk result IsReady }
+    ensures faults { HasCause (S.faults shelf.old) (S.faults shelf.new) (is_read_fault result) }
+    ensures absences { HasCause (S.absences shelf.old) (S.absences shelf.new) (is_absence result) }
+{
+    let cert = load_certificate(alloc, &machine, certificate, shelf)?;
+    let script = load_script(alloc, &machine, script, shelf)?;
+    Ok(Work::GuardScript {
+        machine,
+        made,
+        cert,
+        script,
+    })
+}
+
+/// Loads the source, the certificate and the script of these names, in this order, to be guarded on a machine.
+fn load_guarded<'a, S: Shelf>(
+    alloc: Global,
+    machine: Machine,
+    source: &'a str,
+    script: &'a str,
+    certificate: &'a str,
+    shelf: &mut S,
+) -> Result<Work, Unloaded<'a, Refusal>>
+    ensures loads { Loads program (S.told shelf.old) (command_plan machine (command.Guard source.entry.now script.entry.now certificate.entry.now))
+        (result_map_both work_of (end_of program line_of status_of) result) }
+    ensures ready { IfOk result IsReady }
+    ensures faults { HasCause (S.faults shelf.old) (S.faults shelf.new) (is_read_fault result) }
+    ensures absences { HasCause (S.absences shelf.old) (S.absences shelf.new) (is_absence result) }
+{
+    let source = load_source(alloc, &machine, source, shelf)?;
+    load_guard(alloc, machine, source.made, script, certificate, shelf)
+}
+
+/// Loads the files of a command, for a machine.
+pub(crate) fn load_command<'a, S: Shelf>(
+    alloc: Global,
+    machine: Machine,
+    command: Command<'a>,
+    shelf: &mut S,
+) -> Result<Work, Unloaded<'a, Refusal>>
+    ensures loads { Loads program (S.told shelf.old) (command_plan machine (command_view command.entry))
+        (result_map_both work_of (end_of program line_of status_of) result) }
+    ensures ready { IfOk result IsReady }
+    ensures faults { HasCause (S.faults shelf.old) (S.faults shelf.new) (is_read_fault result) }
+    ensures absences { HasCause (S.absences shelf.old) (S.absences shelf.new) (is_absence result) }
+{
+    match command {
+        Command::Write { text, source } => load_text(alloc, &machine, text, source, shelf),
+        Command::Compare { source, listing } => load_comparison(
+            alloc, &machine, source, listing, shelf,
+        ),
+        Command::Certify {
+            source,
+            certificate,
+        } => load_certification(alloc, machine, source, certificate, shelf),
+        Command::Run { source, script } => load_play(alloc, machine, source, script, shelf),
+        Command::Guard {
+            source,
+            script,
+            certificate,
+        } => load_guarded(alloc, machine, source, script, certificate, shelf),
+    }
+}

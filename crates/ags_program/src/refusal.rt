@@ -1,0 +1,56 @@
+//! Why a file is refused.
+
+ghost use Rattle.std.specs.Prelude.{◌≡◌, IfOk};
+ghost use Rattle.std.specs.String.{string_bytes};
+ghost use Rattle.ags_program.specs.Views.{line_of, status_of};
+
+use crate::status::Status;
+use ags_asm::SourceError;
+use ags_cert::CertError;
+use ags_listing::ListError;
+use ags_machfile::MachError;
+use ags_script::ScriptError;
+use std::alloc::{AllocError, Global};
+
+/// Why a file is refused: the first fault of its text.
+#[derive(Clone, Copy)]
+pub enum Refusal {
+    /// A machine file fails this test.
+    Machine(MachError),
+    /// A source has this fault.
+    Source(SourceError),
+    /// A listing has this fault.
+    Listing(ListError),
+    /// A certificate has this fault.
+    Certificate(CertError),
+    /// A script has this fault.
+    Script(ScriptError),
+}
+
+impl Refusal {
+    /// Its status.
+    pub fn status(&self) -> Status
+        ensures { result ≡ status_of self.now }
+    {
+        match self {
+            Refusal::Machine(_) => Status::BadMachine,
+            Refusal::Source(_) => Status::BadSource,
+            Refusal::Certificate(_) => Status::BadCert,
+            Refusal::Listing(_) => Status::BadText,
+            Refusal::Script(_) => Status::BadText,
+        }
+    }
+
+    /// Its line.
+    pub fn line(&self, alloc: Global) -> Result<String, AllocError>
+        ensures { IfOk result (λ line. string_bytes line ≡ line_of self.now) }
+    {
+        match *self {
+            Refusal::Machine(error) => format!(in alloc; "{error}\n"),
+            Refusal::Source(error) => format!(in alloc; "{error}\n"),
+            Refusal::Listing(error) => format!(in alloc; "{error}\n"),
+            Refusal::Certificate(error) => format!(in alloc; "{error}\n"),
+            Refusal::Script(error) => format!(in alloc; "{error}\n"),
+        }
+    }
+}

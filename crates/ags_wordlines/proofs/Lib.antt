@@ -1,4 +1,0 @@
-pub mod ColumnLemmas
-pub mod CutLemmas
-pub mod MeaningLemmas
-pub mod ReadLemmas

@@ -1,5 +1,0 @@
-use Rattle.ags_wordlines.proofs.ColumnLemmas.{columns_in_memory}
-use Rattle.ags_wordlines.proofs.laws.columns_put_words_of_the_memory.Goals as goal
-
-pub returns : goal.returns
-returns c = columns_in_memory

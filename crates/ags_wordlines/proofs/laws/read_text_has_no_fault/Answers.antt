@@ -1,5 +1,0 @@
-use Rattle.ags_wordlines.proofs.ReadLemmas.{read_faultless}
-use Rattle.ags_wordlines.proofs.laws.read_text_has_no_fault.Goals as goal
-
-pub returns : goal.returns
-returns c = read_faultless

@@ -1,8 +1,0 @@
-use Rattle.ags_wordlines.proofs.CutLemmas.{lines_are_cut, one_cut}
-use Rattle.ags_wordlines.proofs.laws.text_is_cut_at_feeds.Goals as goal
-
-pub returns-clause-cut : goal.returns-clause-cut
-returns-clause-cut c = lines_are_cut
-
-pub returns-clause-one : goal.returns-clause-one
-returns-clause-one c = one_cut
