@@ -9,6 +9,7 @@ mod core_tests;
 #[cfg(test)]
 mod deda_tests;
 #[cfg(test)]
+mod device_tests;
 #[cfg(test)]
 mod machfile_tests;
 #[cfg(test)]

@@ -1,0 +1,4 @@
+-- what the public contracts cite
+pub mod Record
+pub mod Plan
+pub mod Devices
