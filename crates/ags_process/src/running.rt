@@ -128,12 +128,22 @@ pub fn run<S: Shelf, K: HeldSink>(
 ) -> Ran
     ensures ran { IfOk arguments (λ all. OnSink out.old out.new
         (λ before after. Ends program (IsAnswer program (S.told shelf.old) (plan_of (map string_bytes (drop 1 (into_iter_items all))))) (K.told before) (K.told after) result.status)) }
+    ensures exactly { IfOk arguments (λ all. OnSink out.old out.new
+        (λ before after. TellsFiles program (S.told shelf.old) (plan_of (map string_bytes (drop 1 (into_iter_items all)))) → (text : List ℕ) (status : Status)
+        → IsAnswer program (S.told shelf.old) (plan_of (map string_bytes (drop 1 (into_iter_items all)))) text status
+        → EndsExactly program (K.told before) (K.told after) result.status text status)) }
     ensures written { OnSink out.old out.new (λ before after. IfOk arguments (λ all. result.written ≡ true → K.is_written after)) }
     ensures unwritten { OnSink out.old out.new (λ before after. result.written ≡ false → Rose (K.faults before) (K.faults after)) }
     ensures absent_cause { result.status ≡ Status.AbsentFile → Rose (S.absences shelf.old) (S.absences shelf.new) }
     ensures read_fault { result.status ≡ Status.ReadFault → Rose (S.faults shelf.old) (S.faults shelf.new) }
     ensures write_fault { OnSink out.old out.new (λ before after. result.status ≡ Status.WriteFault → Rose (K.faults before) (K.faults after)) }
+    ensures clean_shelf { IfOk arguments (λ all. OnSink out.old out.new
+        (λ before after. IsCleanOnShelf program (S.told shelf.old) (plan_of (map string_bytes (drop 1 (into_iter_items all)))) (K.told before) (K.told after) result.status
+        (S.faults shelf.new ≡ S.faults shelf.old) (S.absences shelf.new ≡ S.absences shelf.old))) }
+    ensures clean_sink { IfOk arguments (λ all. OnSink out.old out.new
+        (λ before after. result.written ≡ true → IsCleanOnSink program result.status (K.faults after ≡ K.faults before))) }
     ensures no_sink { IfOk arguments (λ all. IfErr out.old (λ error. result.status ≡ Status.NoMemory)) }
+    ensures unmade { IfOk arguments (λ all. IfErr out.old (λ error. (out.new ≡ out.old) × (shelf.new ≡ shelf.old) × (result.written ≡ true))) }
     ensures memory { IfErr arguments (λ error. error_kind error ≡ ErrorKind.OutOfMemory → result.status ≡ Status.NoMemory) }
     ensures no_text { IfErr arguments (λ error. error_kind error ≢ ErrorKind.OutOfMemory → result.status ≡ Status.BadWords) }
     ensures unbegun { IfErr arguments (λ error. (out.new ≡ out.old) × (shelf.new ≡ shelf.old) × (result.written ≡ true)) }
