@@ -1,10 +1,12 @@
-//! Certificates under one path (docs/CERTIFICATE.md): `Cert`, its reader `read`, its writer `send_cert`, and what a text that
-//! is none is told as. The work stands in four crates below, so that each is proved beside the others: `ags_certtype` has
+//! Certificates under one path (docs/CERTIFICATE.md): `Cert`, its reader `read`, the same for pieces, `CertReader`, its writer
+//! `send_cert`, and what a text that is none is told as. The work stands in four crates below, so that each is proved beside the others: `ags_certtype` has
 //! the type, `ags_certtext` what a line states, `ags_certread` the reader and `ags_certsend` the writer. Here nothing is
 //! added, and the definitions that their contracts cite are handed on in `specs/`.
 #![tactic(auto)]
 
-pub use ags_certread::{CERT_LIMIT, read, read_certificates_suit, text_has_one_meaning};
+pub use ags_certread::{
+    CERT_LIMIT, CertReader, read, read_certificates_suit, text_has_one_meaning,
+};
 pub use ags_certsend::{send_cert, sent_certificate_reads_back, sent_lines_are_read};
 pub use ags_certtext::{CertError, CertKind};
 pub use ags_certtype::{Cert, CertParts, MOST_ROWS, MOST_ROWS_AT_ONE};

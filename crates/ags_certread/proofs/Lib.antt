@@ -14,3 +14,4 @@ pub mod MeaningLemmas
 pub mod UniqueLemmas
 pub mod ExistenceLemmas
 pub mod TextLaws
+pub mod StandLemmas

@@ -1,7 +1,11 @@
 -- what the public contracts cite
 pub mod Length
+pub mod Kept
+pub mod Pieces
 -- what serves inside
+pub mod Gathered
 pub mod Gathering
 pub mod LimitTable
 pub mod LineTaken
+pub mod NextState
 pub mod OneMeaning

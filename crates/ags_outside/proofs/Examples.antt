@@ -1,11 +1,12 @@
 -- Worked values of the definitions that the contracts cite.
-use Rattle.std.proofs.Common.{◌≡◌, ◌-◌, ◌^◌, [], ◌∷◌, Some, None, refl, inl, inr, arith}
+use Rattle.std.proofs.Common.{◌≡◌, ◌-◌, ◌^◌, ℕ, List, [], ◌∷◌, ◌++◌, ap, Some, None, refl, inl, inr, arith}
 use Rattle.ags_outside.specs.declared.shelves.Pull.TheVariants as pull
 use Rattle.ags_outside.specs.declared.sinks.PutDone.TheVariants.{Took, Failed}
 use Rattle.ags_outside.specs.Count.{Rose}
 use Rattle.ags_outside.specs.Files.{bytes_of}
 use Rattle.ags_outside.specs.Shelf.{absences_after}
 use Rattle.ags_outside.specs.Sink.{taken_after, WroteFront}
+use Rattle.ags_outside.specs.Taken.{TookMore}
 
 -- a count of four rose where it is five or more, and not where it is four still or fell
 rose_by_one : Rose 4 5
@@ -69,3 +70,10 @@ absent_at_the_last = refl
 
 ended : absences_after 4 pull.End ≡ 4
 ended = refl
+
+-- a list that has 8 and 9 behind what it held took these, and one with 7, 8 and 9 that held 7 didn't take 9 alone
+list_took : (held : List ℕ) → TookMore (λ list bytes. bytes ≡ list) held (held ++ 8 ∷ 9 ∷ []) (8 ∷ 9 ∷ [])
+list_took held = λ before is. ap (λ bytes. bytes ++ 8 ∷ 9 ∷ []) is
+
+took_less : TookMore (λ list bytes. bytes ≡ list) (7 ∷ []) (7 ∷ 8 ∷ 9 ∷ []) (9 ∷ []) → ⊥
+took_less more = cc (more (7 ∷ []) refl)

@@ -1,10 +1,11 @@
 -- What a fetch has read so far, pull by pull.
-use Rattle.std.proofs.Common.{◌≡◌, ℕ, List, [], ◌++◌, length, take, drop, refl, sym, ap, ◌∙◌, append_assoc}
+use Rattle.std.proofs.Common.{◌≡◌, ℕ, ◌+◌, ◌≤◌, arith, length-append, length-take, List, [], ◌++◌, length, take, drop, refl, sym, ap, ◌∙◌, append_assoc}
 use Rattle.std.proofs.Math.Seq.{drop-append_seam}
 use Rattle.std.proofs.lemmas.List.{take-append-drop}
 use Rattle.ags_outside.specs.declared.shelves.Pull.TheVariants as pull
 use Rattle.ags_outside.specs.Shelf.{PullTells}
 use Rattle.ags_outside.specs.ToldFile.{ToldFile, Untold, Missing, Stored}
+use Rattle.ags_outside.specs.Taken.{TookMore, took_both, took_none}
 
 -- What was read is a front of the file, where the shelf tells of it; of an absent one nothing was read.
 abbrev pub IsFrontTold : ToldFile → List ℕ → Type 0
@@ -33,3 +34,30 @@ front_more (Stored bytes) held into from count at (rest, whole) (within, same) =
           ∙ ap (λ all. held ++ all) (take-append-drop count rest)
           ∙ whole,
     )
+
+-- ---- handed on to a taker
+
+-- so many bytes of the file were fetched, and taken
+pub record FetchedSoFar {T : Type 0} (took : T → List ℕ → Type 0) (told : ToldFile) (count : ℕ) (old new : T) : Type 0 where
+  pub bytes : List ℕ
+  pub many : count ≡ length bytes
+  pub front : IsFrontTold told bytes
+  pub more : TookMore took old new bytes
+
+pub fetched_nothing : {T : Type 0} (took : T → List ℕ → Type 0) (told : ToldFile) (taker : T) → FetchedSoFar took told 0 taker taker
+fetched_nothing took told taker = record {
+  bytes = [];
+  many = refl;
+  front = front_nothing told;
+  more = took_none took taker;
+}
+
+pub fetched_more : {T : Type 0} (took : T → List ℕ → Type 0) (told : ToldFile) (from count : ℕ) (old mid new : T) (into : List ℕ)
+    → count ≤ length into → FetchedSoFar took told from old mid → PullTells told from into (pull.Got count) → TookMore took mid new (take count into)
+    → FetchedSoFar took told (from + count) old new
+fetched_more took told from count old mid new into within so tells more = record {
+  bytes = so.bytes ++ take count into;
+  many = omega (arith, so.many, length-append so.bytes (take count into), length-take count into);
+  front = front_more told so.bytes into from count so.many so.front tells;
+  more = took_both took old mid new so.bytes (take count into) so.more more;
+}

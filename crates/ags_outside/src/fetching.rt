@@ -1,11 +1,12 @@
-//! A whole file of a shelf.
+//! A whole file of a shelf, handed to a taker or given as a list.
 
-ghost use Rattle.std.specs.Prelude.{◌≡◌, ◌+◌, ◌-◌, ◌≤◌, min, length, IfOk, IsErrOf};
+ghost use Rattle.std.specs.Prelude.{◌≡◌, ◌+◌, ◌≤◌, min, length, Err, IfOk, IfErr, OnOk, IsErrOf};
 ghost use Rattle.std.specs.Result.{result_map_both};
 ghost use Rattle.ags_outside.specs.Count.{HasCause, Rose};
 ghost use Rattle.ags_outside.specs.Fetch.{FetchTells, is_absence, is_read_fault};
+ghost use Rattle.ags_outside.specs.Taken.{TookFile};
 
-use crate::{Pull, Shelf};
+use crate::{Pull, Shelf, Taker};
 use std::alloc::Global;
 use thiserror::Error;
 
@@ -29,17 +30,55 @@ pub enum FetchError {
     NoMemory,
 }
 
-/// How many bytes to ask for when so many are kept: a piece, or where fewer are left, one more than the
-/// limit leaves.
-fn room(kept: usize, limit: u64) -> usize
-    requires { kept ≤ limit }
-    ensures { result ≡ min 4096 (limit - kept + 1) }
+/// How many bytes to ask for when so many are left up to the limit: a piece, or where fewer are left, one more
+/// than these.
+fn room(left: u64) -> usize
+    ensures { result ≡ min 4096 (left + 1) }
 {
-    let left = limit - kept as u64;
     if left < PIECE as u64 {
         left as usize + 1
     } else {
         PIECE
+    }
+}
+
+/// Reads a file to its end, and hands each piece to a taker. The limit is in bytes, and a longer file is refused as
+/// soon as more came: a piece that would pass the limit isn't handed on. After a refusal the taker isn't used again.
+pub fn fetch_into<S: Shelf, T: Taker>(
+    shelf: &mut S,
+    name: &str,
+    limit: u64,
+    taker: &mut T,
+) -> Result<(), FetchError>
+    ensures same { S.told shelf.new ≡ S.told shelf.old }
+    ensures took { IfOk result (λ _. TookFile T.took (S.told shelf.old name.now) limit taker.old taker.new) }
+    ensures stays { OnOk result (T.stays taker.old taker.new) }
+    ensures tells { IfErr result (λ error. FetchTells (S.told shelf.old name.now) limit (Err error)) }
+    ensures absent { IsErrOf result FetchError.Absent → Rose (S.absences shelf.old) (S.absences shelf.new) }
+    ensures read_fault { IsErrOf result FetchError.ReadFault → Rose (S.faults shelf.old) (S.faults shelf.new) }
+    ensures faults { HasCause (S.faults shelf.old) (S.faults shelf.new) (is_read_fault result) }
+    ensures absences { HasCause (S.absences shelf.old) (S.absences shelf.new) (is_absence result) }
+{
+    let mut piece = [0u8; PIECE];
+    let mut from = 0u64;
+    'pulls: loop {
+        let left = limit - from;
+        let asked = room(left);
+        match shelf.pull(name, from, &mut piece[..asked]) {
+            Pull::Got(count) => {
+                if count as u64 > left {
+                    return Err(FetchError::TooLong);
+                }
+                match taker.take(&piece[..count]) {
+                    Ok(()) => from += count as u64,
+                    Err(_) => return Err(FetchError::NoMemory),
+                }
+            }
+            Pull::End => return Ok(()),
+            Pull::Absent => return Err(FetchError::Absent),
+            Pull::Failed => return Err(FetchError::ReadFault),
+            Pull::NoMemory => return Err(FetchError::NoMemory),
+        }
     }
 }
 
@@ -60,22 +99,8 @@ pub fn fetch<S: Shelf>(
     ensures absences { HasCause (S.absences shelf.old) (S.absences shelf.new) (is_absence result) }
 {
     let mut bytes = Vec::new(alloc);
-    let mut piece = [0u8; PIECE];
-    'pulls: loop {
-        let asked = room(bytes.len(), limit);
-        match shelf.pull(name, bytes.len() as u64, &mut piece[..asked]) {
-            Pull::Got(count) => {
-                bytes
-                    .extend_from_slice(&piece[..count])
-                    .map_err(|_| FetchError::NoMemory)?;
-                if bytes.len() as u64 > limit {
-                    return Err(FetchError::TooLong);
-                }
-            }
-            Pull::End => return Ok(bytes),
-            Pull::Absent => return Err(FetchError::Absent),
-            Pull::Failed => return Err(FetchError::ReadFault),
-            Pull::NoMemory => return Err(FetchError::NoMemory),
-        }
+    match fetch_into(shelf, name, limit, &mut bytes) {
+        Ok(()) => Ok(bytes),
+        Err(error) => Err(error),
     }
 }

@@ -1,7 +1,7 @@
 -- The work in which a walk ends. Behind the law `walks_lead_to_their_works` of `laws.rt` stand
 --     way_to_work    a walk that ends in a work came past all files to it
 --     work_of_way    and where it comes past all files to a work, it ends in it
-use Rattle.std.proofs.Common.{◌≡◌, refl, sym, ap, inl, inr}
+use Rattle.std.proofs.Common.{sym, ap, inl, inr}
 use Rattle.ags_plan.specs.Plan.{Definition, Plan, Do, Read, Take, WorkAt}
 use Rattle.ags_plan.specs.Walk.{Told, Sight, EndsAt, LeadsTo}
 

@@ -1,6 +1,7 @@
 -- What loaders answer: the value of a file, or the work of a plan; or how the walk ends before it; or nothing, where a fault of the
 -- shelf or want of memory came.
 use Rattle.std.specs.Prelude.{◌≡◌, ℕ, ◌<◌, ◌≤◌, List, length, Option, Some, None, Result, Ok, Err, Bool, true, false}
+use Rattle.ags_outside.specs.Taken.{TookMore}
 use Rattle.ags_outside.specs.ToldFile.{ToldFile}
 use Rattle.ags_plan.specs.declared.unloaded.Unloaded.{Unloaded}
 use Rattle.ags_plan.specs.declared.unloaded.Unloaded.TheVariants.{Absent, TooLong, Refused, ReadFault}
@@ -22,6 +23,13 @@ FetchesFile told name limit (Err (Absent absent)) = (absent.now ≡ name) × Agr
 FetchesFile told name limit (Err (TooLong long most)) = (long.now ≡ name) × (most ≡ limit) × ((bytes : List ℕ) × Agrees told (Some bytes) × (limit < length bytes))
 FetchesFile told name limit (Err (Refused refusal)) = ⊥
 FetchesFile told name limit _ = Unit {0}
+
+-- A taker took a file that agrees with what the shelf tells of it, within the limit.
+pub record TakesFile {T : Type 0} (took : T → List ℕ → Type 0) (told : ToldFile) (limit : ℕ) (old new : T) : Type 0 where
+  pub bytes : List ℕ
+  pub agrees : Agrees told (Some bytes)
+  pub within : length bytes ≤ limit
+  pub more : TookMore took old new bytes
 
 -- A loader's answer for one file of a plan.
 abbrev pub LoadsFile : {Status : Type 0} (D : Definition Status) (told : Told) (kind : D.Kind) (name : List ℕ) → Result (D.Value kind) (Option (End D)) → Type 0

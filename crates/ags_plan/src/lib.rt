@@ -19,7 +19,7 @@ pub use laws::{
     command_lines_have_one_answer, content_decides, each_command_line_has_an_answer,
     plans_are_loaded_file_by_file, walks_lead_to_their_works,
 };
-pub use loading::fetch_file;
+pub use loading::{fetch_file, fetch_file_into};
 pub use program::Program;
 pub use running::run;
 pub use unloaded::Unloaded;

@@ -1,13 +1,37 @@
 //! The files of a command line, one at a time.
 
-ghost use Rattle.std.specs.Prelude.{◌≡◌, ◌≤◌, length, IfOk};
+ghost use Rattle.std.specs.Prelude.{◌≡◌, ◌≤◌, length, Err, IfOk, IfErr, OnOk};
 ghost use Rattle.std.specs.Result.{result_map_both};
 ghost use Rattle.ags_outside.specs.Count.{HasCause};
-ghost use Rattle.ags_plan.specs.Loading.{FetchesFile, is_absence, is_read_fault};
+ghost use Rattle.ags_plan.specs.Loading.{FetchesFile, TakesFile, is_absence, is_read_fault};
 
 use crate::unloaded::Unloaded;
-use ags_outside::{FetchError, Shelf, fetch};
+use ags_outside::{FetchError, Shelf, Taker, fetch_into};
 use std::alloc::Global;
+
+/// Hands the file of a name to a taker, piece by piece, where it has no more bytes than the limit. After a refusal the taker isn't
+/// used again.
+pub fn fetch_file_into<'a, S: Shelf, T: Taker, R: Drop>(
+    shelf: &mut S,
+    name: &'a str,
+    limit: u64,
+    taker: &mut T,
+) -> Result<(), Unloaded<'a, R>>
+    ensures same { S.told shelf.new ≡ S.told shelf.old }
+    ensures took { IfOk result (λ _. TakesFile T.took (S.told shelf.old name.entry.now) limit taker.old taker.new) }
+    ensures stays { OnOk result (T.stays taker.old taker.new) }
+    ensures fetches { IfErr result (λ why. FetchesFile (S.told shelf.old name.entry.now) name.entry.now limit (Err why)) }
+    ensures faults { HasCause (S.faults shelf.old) (S.faults shelf.new) (is_read_fault result) }
+    ensures absences { HasCause (S.absences shelf.old) (S.absences shelf.new) (is_absence result) }
+{
+    match fetch_into(shelf, name, limit, taker) {
+        Ok(()) => Ok(()),
+        Err(FetchError::Absent) => Err(Unloaded::Absent(name)),
+        Err(FetchError::TooLong) => Err(Unloaded::TooLong { name, limit }),
+        Err(FetchError::ReadFault) => Err(Unloaded::ReadFault),
+        Err(FetchError::NoMemory) => Err(Unloaded::NoMemory),
+    }
+}
 
 /// Fetches the file of a name whole, where it has no more bytes than the limit.
 pub fn fetch_file<'a, S: Shelf, R: Drop>(
@@ -22,11 +46,9 @@ pub fn fetch_file<'a, S: Shelf, R: Drop>(
     ensures faults { HasCause (S.faults shelf.old) (S.faults shelf.new) (is_read_fault result) }
     ensures absences { HasCause (S.absences shelf.old) (S.absences shelf.new) (is_absence result) }
 {
-    match fetch(alloc, shelf, name, limit) {
-        Ok(bytes) => Ok(bytes),
-        Err(FetchError::Absent) => Err(Unloaded::Absent(name)),
-        Err(FetchError::TooLong) => Err(Unloaded::TooLong { name, limit }),
-        Err(FetchError::ReadFault) => Err(Unloaded::ReadFault),
-        Err(FetchError::NoMemory) => Err(Unloaded::NoMemory),
+    let mut bytes = Vec::new(alloc);
+    match fetch_file_into(shelf, name, limit, &mut bytes) {
+        Ok(()) => Ok(bytes),
+        Err(why) => Err(why),
     }
 }

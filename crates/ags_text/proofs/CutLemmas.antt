@@ -126,11 +126,11 @@ not_feed : (test : Bool) → not test ≡ true → test ≡ false
 not_feed true is = sym is
 not_feed false is = refl
 
-no_feeds : (part : List ℕ) → HasNoFeed part → All (λ b. is_feed b ≡ false) part
+pub no_feeds : (part : List ℕ) → HasNoFeed part → All (λ b. is_feed b ≡ false) part
 no_feeds part unbroken = λ k d within. not_feed _ (AllPass-from_list_all (λ b. not (is_feed b)) part unbroken k d within)
 
 -- a part before others is a line before others
-lines_in-part : (start : ℕ) (part behind : List ℕ)
+pub lines_in-part : (start : ℕ) (part behind : List ℕ)
     → lines_in start (part ∷ parts behind) ≡ record { start = start; bytes = strip_carriage_return part } ∷ lines_in (start + length part + 1) (parts behind)
 unfolding lines_in
 lines_in-part start part behind = rw (first_of_parts behind).2 refl

@@ -1,3 +1,4 @@
+mod CutAt
 pub mod CutLemmas
 pub mod Deciding
 mod Examples
@@ -8,4 +9,5 @@ pub mod FrontLemmas
 pub mod LineLemmas
 pub mod NumberLaws
 pub mod NumeralLemmas
+pub mod PieceLemmas
 pub mod ReadingLemmas

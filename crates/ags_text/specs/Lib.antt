@@ -4,4 +4,5 @@ pub mod Field
 pub mod Line
 pub mod LineView
 pub mod Numeral
+pub mod Piece
 pub mod Reading

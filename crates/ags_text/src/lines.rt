@@ -49,7 +49,7 @@ impl<'a> Lines<'a> {
 }
 
 /// A line without the one carriage return at its end.
-fn strip_return(part: &[u8]) -> &[u8]
+pub fn strip_return(part: &[u8]) -> &[u8]
     ensures { result.now ≡ strip_carriage_return part.now }
 {
     match part {
@@ -59,7 +59,7 @@ fn strip_return(part: &[u8]) -> &[u8]
 }
 
 /// Where the first line feed stands.
-fn line_feed(text: &[u8]) -> Option<usize>
+pub(crate) fn line_feed(text: &[u8]) -> Option<usize>
     ensures { result ≡ position (λ b. b == 10) text.now }
 {
     text.iter().position(|byte| *byte == b'\n')

@@ -1,0 +1,302 @@
+-- Lines that were taken one after the other, and the reader that took them in pieces.
+use Rattle.std.proofs.Common.{◌≡◌, ℕ, zero, suc, ◌+◌, ◌-◌, ◌^◌, ◌<◌, ◌≤◌, min, eqb, true, false, ◌==◌, refl, sym, subst, ◌∙◌, List, [], ◌∷◌, ◌++◌, length, Some, None, append_assoc, length-append, arith}
+use Rattle.std.specs.Prelude.{Result, Ok, Err, IfOk, IfErr}
+use Rattle.std.specs.Str.Lines.{strip_carriage_return}
+use Rattle.std.proofs.lemmas.List.{append-nil}
+use Rattle.ags_text.specs.Line.{LineAt, Follow, HasNoFeed, lines_of}
+use Rattle.ags_text.proofs.FollowLemmas.{lines_follow}
+use Rattle.ags_ports.specs.Port.{Registers}
+use Rattle.ags_certtype.specs.Cert.{Stated as Cert_stated}
+use Rattle.ags_certtext.specs.declared.cert_error.CertKind.{CertKind}
+use Rattle.ags_certtext.specs.declared.cert_error.CertKind.TheVariants.{BadLine}
+use Rattle.ags_certtext.specs.declared.cert_error.CertError.{CertError}
+use Rattle.ags_certtext.specs.declared.cert_error.CertError.TheVariants.{At as AtLine}
+use Rattle.ags_certtext.specs.declared.statements.Statement.{Statement}
+use Rattle.ags_certtext.specs.Reading.{Reading, Opening, OtherOpening, Stated, Skipped, Malformed, Ended, IsFirstReading}
+use Rattle.ags_certtext.specs.Text.{IsCertOf, IsFaultyCert, IsRefused}
+use Rattle.ags_certread.specs.Gathering.{Gathering, IsCertOfGathering, gathering_of, nothing_stated}
+use Rattle.ags_certread.specs.Length.{certificate_limit}
+use Rattle.ags_certread.specs.LineTaken.{TakesLine, TakesReading, TellsFault, behind_first, opening_fault}
+use Rattle.ags_text.specs.Piece.{HasEnded, line_of}
+use Rattle.ags_certread.specs.NextState.{IsNext, IsWhole}
+use Rattle.ags_certread.specs.Pieces.{Standing, TookCert}
+use Rattle.ags_certread.specs.Gathered.{Gathers, IsOpening, AreTaken, IsOfLines}
+use Rattle.ags_certread.specs.declared.gatherer.Gatherer.{Gatherer}
+use Rattle.ags_certread.specs.declared.states.State.{State}
+use Rattle.ags_certread.specs.declared.states.State.TheVariants as state
+use Rattle.ags_certread.proofs.ExistenceLemmas.{have_readings}
+use Rattle.ags_certread.proofs.GatherLemmas.{IsGathered-none}
+use Rattle.ags_text.proofs.PieceLemmas.{ended_none, ended_more, ended_feed, ended_all, ended_long}
+use Rattle.ags_certread.proofs.ReadLemmas.{SoFar, SoFar-first, SoFar-more, SoFar-fault, SoFar-missing, SoFar-all, opening_refused, empty_refused}
+use Rattle.ags_certread.proofs.SoundLemmas.{IsSound, IsSound-none}
+use Rattle.ags_certread.proofs.TakeLemmas.{Stands, taken}
+
+-- ---- what was gathered of lines is sound
+
+stands_line : (ports : Registers) (before : List Statement) (g h : Gathering) → Stands before g → (reading : Reading) → TakesReading ports g reading h
+    → (after : List Statement) × Stands after h
+stands_line ports before g h stands (Stated statement) takes = (statement ∷ before, taken ports before g stands statement h takes.0 takes.1 takes.2)
+stands_line ports before g h stands Skipped same = (before, subst (λ (k : Gathering). Stands before k) (sym same) stands)
+stands_line ports before g h stands Opening takes = absurd takes
+stands_line ports before g h stands OtherOpening takes = absurd takes
+stands_line ports before g h stands Malformed takes = absurd takes
+stands_line ports before g h stands Ended takes = absurd takes
+
+stands_lines : (ports : Registers) (before : List Statement) (g : Gathering) (lines : List LineAt) (h : Gathering) → Stands before g → Gathers ports g lines h
+    → (after : List Statement) × Stands after h
+stands_lines ports before g [] h stands same = (before, subst (λ (k : Gathering). Stands before k) (sym same) stands)
+stands_lines ports before g (line ∷ lines) h stands gathers =
+    let next = stands_line ports before g gathers.0 stands gathers.1.0 gathers.1.2 in
+    stands_lines ports next.0 gathers.0 lines h next.1 gathers.2
+
+pub stood_sound : (ports : Registers) (g : Gathering) → IsOfLines ports g → IsSound g
+stood_sound ports g (lines, gathers) =
+    (stands_lines ports [] nothing_stated lines g (record { gathered = IsGathered-none; sound = IsSound-none }) gathers).1.sound
+
+pub stood_none : (ports : Registers) (g : Gathering) → g ≡ nothing_stated → IsOfLines ports g
+stood_none ports g same = ([], same)
+
+pub gathers_push : (ports : Registers) (g : Gathering) (lines : List LineAt) (m h : Gathering) (line : LineAt) → Gathers ports g lines m → TakesLine ports m line.bytes h
+    → Gathers ports g (lines ++ line ∷ []) h
+gathers_push ports g [] m h line same takes = (h, subst (λ (k : Gathering). TakesLine ports k line.bytes h) same takes, refl)
+gathers_push ports g (first ∷ lines) m h line (mid, took, rest) takes = (mid, took, gathers_push ports mid lines m h line rest takes)
+
+pub stood_more : (ports : Registers) (g h : Gathering) (bytes : List ℕ) → IsOfLines ports g → TakesLine ports g bytes h → IsOfLines ports h
+stood_more ports g h bytes (lines, gathers) takes =
+    let line : LineAt = record { start = 0; bytes = bytes } in
+    (lines ++ line ∷ [], gathers_push ports nothing_stated lines g h line gathers takes)
+
+-- ---- so many lines are read
+
+gathered_so_far : (ports : Registers) (text : List ℕ) (g : Gathering) (lines left : List LineAt) (h : Gathering) (number : ℕ) → SoFar ports text (lines ++ left) g number
+    → Gathers ports g lines h → SoFar ports text left h (number + length lines)
+gathered_so_far ports text g [] left h number so same =
+    let none : number ≡ number + 0 = omega arith in
+    subst (λ (n : ℕ). SoFar ports text left h n) none (subst (λ (k : Gathering). SoFar ports text left k number) (sym same) so)
+gathered_so_far ports text g (line ∷ lines) left h number so (mid, takes, rest) =
+    let next = SoFar-more ports text line (lines ++ left) g number so mid takes in
+    let sum : number + 1 + length lines ≡ number + length (line ∷ lines) = omega arith in
+    subst (λ (n : ℕ). SoFar ports text left h n) sum (gathered_so_far ports text mid lines left h (number + 1) next rest)
+
+opened : (ports : Registers) (text : List ℕ) (first : LineAt) (left : List LineAt) → lines_of text ≡ first ∷ left → IsOpening first → SoFar ports text left nothing_stated 1
+opened ports text first left whole (reading, is, none) =
+    SoFar-first ports text first left reading nothing_stated whole (subst (λ (ls : List LineAt). Follow text 0 ls) whole (lines_follow text)) is none refl
+
+taken_so_far : (ports : Registers) (text : List ℕ) (ended left : List LineAt) (g : Gathering) → lines_of text ≡ ended ++ left → AreTaken ports ended g → 0 < length ended
+    → SoFar ports text left g (length ended)
+taken_so_far ports text [] left g whole are some = absurd (omega (arith, some))
+taken_so_far ports text (first ∷ more) left g whole (opens, gathers) some =
+    let sum : 1 + length more ≡ length (first ∷ more) = omega arith in
+    subst (λ (n : ℕ). SoFar ports text left g n) sum (gathered_so_far ports text nothing_stated more left g 1 (opened ports text first (more ++ left) whole opens) gathers)
+
+-- ---- a line that comes next
+
+-- what comes of the next line of a text
+abbrev pub ComesOf : Registers → (text : List ℕ) → List LineAt → State → Type 0
+ComesOf ports text ended (state.Open h) = AreTaken ports ended (gathering_of h)
+ComesOf ports text ended (state.Told l kind) = IsFaultyCert ports text l kind
+ComesOf ports text ended state.Spent = ⊥
+
+taken_more : (ports : Registers) (ended : List LineAt) (line : LineAt) (g h : Gathering) → AreTaken ports ended g
+    → (length ended ≡ 0 → IsOpening line × (h ≡ g)) → (0 < length ended → TakesLine ports g line.bytes h) → AreTaken ports (ended ++ line ∷ []) h
+taken_more ports [] line g h same first further = let here = first refl in (here.0, here.1 ∙ same)
+taken_more ports (opening ∷ more) line g h (opens, gathers) first further = (opens, gathers_push ports nothing_stated more g h line gathers (further (omega arith)))
+
+fault_first : (ports : Registers) (text : List ℕ) (ended left : List LineAt) (line : LineAt) (g : Gathering) (l : ℕ) (kind : CertKind) → lines_of text ≡ ended ++ line ∷ left
+    → length ended ≡ 0 → (l ≡ 1) × ((reading : Reading) × IsFirstReading line.bytes reading × (opening_fault reading ≡ Some kind)) → IsFaultyCert ports text l kind
+fault_first ports text [] left line g l kind whole none (one, (reading, is, fault)) =
+    subst (λ (n : ℕ). IsFaultyCert ports text n kind) (sym one) (opening_refused ports text line left reading kind whole is fault (have_readings (behind_first (lines_of text))))
+fault_first ports text (first ∷ more) left line g l kind whole none told = absurd (omega (arith, none))
+
+fault_further : (ports : Registers) (text : List ℕ) (ended left : List LineAt) (line : LineAt) (g : Gathering) (l : ℕ) (kind : CertKind) → lines_of text ≡ ended ++ line ∷ left
+    → AreTaken ports ended g → 0 < length ended → TellsFault ports (length ended + 1) g line.bytes (AtLine l kind) → IsFaultyCert ports text l kind
+fault_further ports text ended left line g l kind whole are some tells =
+    SoFar-fault ports text line left g (length ended) (taken_so_far ports text ended (line ∷ left) g whole are some) (AtLine l kind) tells (have_readings (behind_first (lines_of text)))
+
+-- the two cases of how many lines came before
+none_or_some : (n : ℕ) → (P : Type 0) → (n ≡ 0 → P) → (0 < n → P) → P
+none_or_some zero P none some = none refl
+none_or_some (suc n) P none some = some (omega arith)
+
+fault_next : (ports : Registers) (text : List ℕ) (ended left : List LineAt) (line : LineAt) (g : Gathering) (number next l : ℕ) (kind : CertKind) → lines_of text ≡ ended ++ line ∷ left
+    → AreTaken ports ended g → number ≡ length ended → next ≡ length ended + 1
+    → (number ≡ 0 → (l ≡ 1) × ((reading : Reading) × IsFirstReading line.bytes reading × (opening_fault reading ≡ Some kind)))
+    → (0 < number → TellsFault ports next g line.bytes (AtLine l kind)) → IsFaultyCert ports text l kind
+fault_next ports text ended left line g number next l kind whole are many at first further = none_or_some (length ended) (IsFaultyCert ports text l kind)
+    (λ none. fault_first ports text ended left line g l kind whole none (first (many ∙ none)))
+    (λ some. fault_further ports text ended left line g l kind whole are some
+    (subst (λ (n : ℕ). TellsFault ports n g line.bytes (AtLine l kind)) at (further (omega (arith, many, some)))))
+
+-- a line of more than 512 bytes is malformed
+long_fault : (ports : Registers) (text : List ℕ) (ended left : List LineAt) (line : LineAt) (g : Gathering) → lines_of text ≡ ended ++ line ∷ left
+    → AreTaken ports ended g → 512 < length line.bytes → IsFaultyCert ports text (length ended + 1) BadLine
+long_fault ports text ended left line g whole are long = none_or_some (length ended) (IsFaultyCert ports text (length ended + 1) BadLine)
+    (λ none. fault_first ports text ended left line g (length ended + 1) BadLine whole none
+    (omega (arith, none), (Malformed, (λ opens. omega (arith, opens.most, long), λ opens. omega (arith, opens.most, long)), refl)))
+    (λ some. fault_further ports text ended left line g (length ended + 1) BadLine whole are some
+    (refl, (Malformed, (λ statement spells. omega (arith, spells.most, long), λ skipped. omega (arith, skipped.most, long)), refl)))
+
+-- ---- the reader
+
+next_number : (number length_text before next : ℕ) → next ≡ min (number + 1) (2 ^ 32 - 1) → length_text ≤ certificate_limit → before ≤ length_text → number ≡ before → next ≡ before + 1
+next_number number length_text before next is short few same = omega (arith, is, short, few, same)
+
+pub new_standing : (ports : Registers) (rest : List ℕ) (g : Gathering) → rest ≡ [] → g ≡ nothing_stated → Standing ports rest 0 g []
+new_standing ports rest g none same = record {
+  ended = [];
+  cut = subst (λ (r : List ℕ). HasEnded [] [] r) (sym none) ended_none;
+  taken = same;
+  few = omega arith;
+  none = λ is. refl;
+  some = λ is. absurd (omega (arith, is));
+  many = λ short. refl;
+}
+
+module _ (ports : Registers) (rest : List ℕ) (number : ℕ) (g : Gathering) (text : List ℕ) (so : Standing ports rest number g text) where
+  pub held : (bytes : List ℕ) → HasNoFeed bytes → Standing ports (rest ++ bytes) number g (text ++ bytes)
+  held bytes none = record {
+    ended = so.ended;
+    cut = ended_more text rest bytes so.ended so.cut none;
+    taken = so.taken;
+    few = omega (arith, so.few, length-append text bytes);
+    none = so.none;
+    some = so.some;
+    many = λ short. so.many (omega (arith, short, length-append text bytes));
+  }
+
+  pub held_long : (bytes : List ℕ) → HasNoFeed bytes → 513 < length (rest ++ bytes) → (next : ℕ) → next ≡ min (number + 1) (2 ^ 32 - 1)
+      → (more : List ℕ) → length ((text ++ bytes) ++ more) ≤ certificate_limit → IsFaultyCert ports ((text ++ bytes) ++ more) next BadLine
+  held_long bytes none over next is more short =
+      let long = ended_long (text ++ bytes) (rest ++ bytes) more so.ended (ended_more text rest bytes so.ended so.cut none) over in
+      let within : length text ≤ certificate_limit = omega (arith, short, length-append (text ++ bytes) more, length-append text bytes) in
+      let at = next_number number (length text) (length so.ended) next is within so.few (so.many within) in
+      subst (λ (n : ℕ). IsFaultyCert ports ((text ++ bytes) ++ more) n BadLine) (sym at)
+      (long_fault ports ((text ++ bytes) ++ more) so.ended long.1 long.0 g long.3 so.taken long.2)
+
+  none_before : length so.ended ≡ 0 → number ≡ 0
+  none_before none = none_or_some number (number ≡ 0) (λ is. is) (λ some. absurd (omega (arith, so.some some, none)))
+
+  some_before : 0 < length so.ended → 0 < number
+  some_before some = none_or_some number (0 < number) (λ none. absurd (omega (arith, so.none none, some))) (λ is. is)
+
+  pub feed_open : (h : Gathering) (next : ℕ) → next ≡ min (number + 1) (2 ^ 32 - 1)
+      → (number ≡ 0 → ((reading : Reading) × IsFirstReading (strip_carriage_return rest) reading × (opening_fault reading ≡ None)) × (h ≡ g))
+      → (0 < number → TakesLine ports g (strip_carriage_return rest) h) → Standing ports [] next h (text ++ 10 ∷ [])
+  feed_open h next is first further = record {
+    ended = so.ended ++ line_of so.cut ∷ [];
+    cut = ended_feed text rest so.ended so.cut;
+    taken = taken_more ports so.ended (line_of so.cut) g h so.taken (λ none. first (none_before none)) (λ some. further (some_before some));
+    few = omega (arith, so.few, length-append text (10 ∷ []), length-append so.ended (line_of so.cut ∷ []));
+    none = λ zero_next. absurd (omega (arith, zero_next, is));
+    some = λ some_next. omega (arith, length-append so.ended (line_of so.cut ∷ []));
+    many = λ short.
+        let within : length text ≤ certificate_limit = omega (arith, short, length-append text (10 ∷ [])) in
+        next_number number (length text) (length so.ended) next is within so.few (so.many within) ∙ omega (arith, length-append so.ended (line_of so.cut ∷ []));
+  }
+
+  pub feed_told : (l : ℕ) (kind : CertKind)
+      → (number ≡ 0 → (l ≡ 1) × ((reading : Reading) × IsFirstReading (strip_carriage_return rest) reading × (opening_fault reading ≡ Some kind)))
+      → (0 < number → TellsFault ports (min (number + 1) (2 ^ 32 - 1)) g (strip_carriage_return rest) (AtLine l kind))
+      → (more : List ℕ) → length ((text ++ 10 ∷ []) ++ more) ≤ certificate_limit → IsFaultyCert ports ((text ++ 10 ∷ []) ++ more) l kind
+  feed_told l kind first further more short =
+      let cut = ended_feed text rest so.ended so.cut in
+      let within : length text ≤ certificate_limit = omega (arith, short, length-append (text ++ 10 ∷ []) more, length-append text (10 ∷ [])) in
+      fault_next ports ((text ++ 10 ∷ []) ++ more) so.ended _ (line_of so.cut) g number (min (number + 1) (2 ^ 32 - 1)) l kind
+      (cut.on more ∙ append_assoc so.ended (line_of so.cut ∷ []) _) so.taken (so.many within)
+      (next_number number (length text) (length so.ended) (min (number + 1) (2 ^ 32 - 1)) refl within so.few (so.many within)) first further
+
+  pub feed_next : (st : State) (next : ℕ) → next ≡ min (number + 1) (2 ^ 32 - 1) → IsNext ports number g (strip_carriage_return rest) st → TookCert ports [] next st (text ++ 10 ∷ [])
+  feed_next (state.Open h) next is (first, further) = feed_open (gathering_of h) next is first further
+  feed_next (state.Told l kind) next is (first, further) = feed_told l kind first further
+  feed_next state.Spent next is never = absurd never
+
+-- what was taken by a reader that has found no fault
+pub open_of : (ports : Registers) (rest : List ℕ) (number : ℕ) (st : State) (g : Gatherer) (text : List ℕ) → st ≡ state.Open g → TookCert ports rest number st text
+    → Standing ports rest number (gathering_of g) text
+open_of ports rest number st g text is took = subst (λ (s : State). TookCert ports rest number s text) is took
+
+pub took_open : (ports : Registers) (rest : List ℕ) (number : ℕ) (st : State) (g : Gatherer) (text : List ℕ) → st ≡ state.Open g → Standing ports rest number (gathering_of g) text
+    → TookCert ports rest number st text
+took_open ports rest number st g text is stands = subst (λ (s : State). TookCert ports rest number s text) (sym is) stands
+
+-- ---- the text has ended
+
+module _ (ports : Registers) (text : List ℕ) (g : Gathering) (number : ℕ) (all : IsWhole ports text g number) where
+  so_far_all : 0 < number → SoFar ports text [] g number
+  so_far_all some = subst (λ (n : ℕ). SoFar ports text [] g n) (sym all.many)
+      (taken_so_far ports text all.ended [] g (all.whole ∙ sym (append-nil all.ended)) all.taken (omega (arith, some, all.many)))
+
+  none_ended : (lines : List LineAt) → lines_of text ≡ lines → length lines ≡ 0 → lines_of text ≡ []
+  none_ended [] whole none = whole
+  none_ended (line ∷ lines) whole none = absurd (omega (arith, none))
+
+  pub whole_empty : number ≡ 0 → IsFaultyCert ports text 1 BadLine
+  whole_empty none = empty_refused ports text (none_ended all.ended all.whole (sym all.many ∙ none))
+
+  pub whole_missing : 0 < number → (g.last == 8) ≡ false → (next : ℕ) → next ≡ min (number + 1) (2 ^ 32 - 1) → IsFaultyCert ports text next BadLine
+  whole_missing some missing next is =
+      let at : number + 1 ≡ next = omega (arith, is, all.few) in
+      subst (λ (n : ℕ). IsFaultyCert ports text n BadLine) at (SoFar-missing ports text g number (so_far_all some) missing)
+
+  pub whole_read : 0 < number → (cert : Cert_stated) → (g.last == 8) ≡ true → IsCertOfGathering g cert → IsCertOf ports text cert
+  whole_read some cert ended is = SoFar-all ports text g number (so_far_all some) cert ended is
+
+-- nothing stands behind the last feed, or a line does
+module _ (ports : Registers) (rest : List ℕ) (number : ℕ) (g : Gathering) (text : List ℕ) (so : Standing ports rest number g text) (within : length text ≤ certificate_limit) where
+  pub all_taken : eqb (length (strip_carriage_return rest)) 0 ≡ true → IsWhole ports text g number
+  all_taken none =
+      let all = ended_all text rest so.ended so.cut in
+      record { ended = so.ended; whole = rw none at all ∙ append-nil so.ended; taken = so.taken; many = so.many within; few = omega (arith, so.many within, so.few, within) }
+
+  last_line : eqb (length (strip_carriage_return rest)) 0 ≡ false → lines_of text ≡ so.ended ++ line_of so.cut ∷ []
+  last_line some = let all = ended_all text rest so.ended so.cut in rw some at all
+
+  pub last_taken : eqb (length (strip_carriage_return rest)) 0 ≡ false → (h : Gathering) (next : ℕ) → next ≡ min (number + 1) (2 ^ 32 - 1)
+      → (number ≡ 0 → ((reading : Reading) × IsFirstReading (strip_carriage_return rest) reading × (opening_fault reading ≡ None)) × (h ≡ g))
+      → (0 < number → TakesLine ports g (strip_carriage_return rest) h) → IsWhole ports text h next
+  last_taken some h next is first further =
+      let at = next_number number (length text) (length so.ended) next is within so.few (so.many within) in
+      record {
+        ended = so.ended ++ line_of so.cut ∷ [];
+        whole = last_line some;
+        taken = taken_more ports so.ended (line_of so.cut) g h so.taken (λ none. first (so.many within ∙ none)) (λ more. further (omega (arith, more, so.many within)));
+        many = at ∙ omega (arith, length-append so.ended (line_of so.cut ∷ []));
+        few = omega (arith, at, so.few, within);
+      }
+
+  pub last_told : eqb (length (strip_carriage_return rest)) 0 ≡ false → (l : ℕ) (kind : CertKind)
+      → (number ≡ 0 → (l ≡ 1) × ((reading : Reading) × IsFirstReading (strip_carriage_return rest) reading × (opening_fault reading ≡ Some kind)))
+      → (0 < number → TellsFault ports (min (number + 1) (2 ^ 32 - 1)) g (strip_carriage_return rest) (AtLine l kind)) → IsFaultyCert ports text l kind
+  last_told some l kind first further =
+      fault_next ports text so.ended [] (line_of so.cut) g number (min (number + 1) (2 ^ 32 - 1)) l kind (last_line some) so.taken (so.many within)
+      (next_number number (length text) (length so.ended) (min (number + 1) (2 ^ 32 - 1)) refl within so.few (so.many within)) first further
+
+-- ---- the answer
+
+module _ (ports : Registers) (rest : List ℕ) (number : ℕ) (st : State) (h : Gathering) (n : ℕ)
+    (whole : (text : List ℕ) → TookCert ports rest number st text → length text ≤ certificate_limit → IsWhole ports text h n) where
+  pub ok_moved : (r : Result Cert_stated CertError) → IfOk r (λ cert. (text : List ℕ) → IsWhole ports text h n → IsCertOf ports text cert)
+      → IfOk r (λ cert. (text : List ℕ) → TookCert ports rest number st text → length text ≤ certificate_limit → IsCertOf ports text cert)
+  ok_moved (Ok cert) is = λ text took short. is text (whole text took short)
+  ok_moved (Err error) is = tt
+
+  pub err_moved : (r : Result Cert_stated CertError) → IfErr r (λ error. (text : List ℕ) → IsWhole ports text h n → IsRefused ports text error)
+      → IfErr r (λ error. (text : List ℕ) → TookCert ports rest number st text → length text ≤ certificate_limit → IsRefused ports text error)
+  err_moved (Ok cert) is = tt
+  err_moved (Err error) is = λ text took short. is text (whole text took short)
+
+module _ (ports : Registers) (rest : List ℕ) (number : ℕ) (st : State) (g : Gatherer) (is_open : st ≡ state.Open g) (text : List ℕ)
+    (took : TookCert ports rest number st text) (short : length text ≤ certificate_limit) where
+  stands_now : Standing ports rest number (gathering_of g) text
+  stands_now = open_of ports rest number st g text is_open took
+
+  pub whole_now : eqb (length (strip_carriage_return rest)) 0 ≡ true → IsWhole ports text (gathering_of g) number
+  whole_now none = all_taken ports rest number (gathering_of g) text stands_now short none
+
+  pub whole_next : eqb (length (strip_carriage_return rest)) 0 ≡ false → (h : Gatherer) (next : ℕ) → next ≡ min (number + 1) (2 ^ 32 - 1)
+      → IsNext ports number (gathering_of g) (strip_carriage_return rest) (state.Open h) → IsWhole ports text (gathering_of h) next
+  whole_next some h next is (first, further) = last_taken ports rest number (gathering_of g) text stands_now short some (gathering_of h) next is first further
+
+  pub told_next : eqb (length (strip_carriage_return rest)) 0 ≡ false → (l : ℕ) (kind : CertKind)
+      → IsNext ports number (gathering_of g) (strip_carriage_return rest) (state.Told l kind) → IsFaultyCert ports text l kind
+  told_next some l kind (first, further) = last_told ports rest number (gathering_of g) text stands_now short some l kind first further
