@@ -1,3 +1,4 @@
 pub mod FoundLemmas
-pub mod SymbolLemmas
+pub mod SplitLemmas
 pub mod SumLemmas
+pub mod SymbolLemmas

@@ -24,7 +24,7 @@ impl Symbols {
     }
 
     /// What a term stands for at a place, by its sign.
-    fn term_value(&self, term: &Term, here: u16) -> Option<i32>
+    pub(crate) fn term_value(&self, term: &Term, here: u16) -> Option<i32>
         requires place { here ≤ 4096 }
         requires number { HasSmallNumber term.now.atom }
         ensures value { result ≡ term_value self.now here term.now }
@@ -34,8 +34,8 @@ impl Symbols {
         Some(if term.minus { -value } else { value })
     }
 
-    /// The sum of some terms at a place.
-    fn sum(&self, terms: &[Term], here: u16) -> Option<i32>
+    /// The sum of at most 64 terms at a place, and nothing where one of their symbols isn't defined.
+    pub fn sum_of_terms(&self, terms: &[Term], here: u16) -> Option<i32>
         requires place { here ≤ 4096 }
         requires few { length terms.now ≤ 64 }
         requires numbers { All (λ term. HasSmallNumber term.atom) terms.now }
@@ -46,7 +46,7 @@ impl Symbols {
             return Some(0);
         };
         let value = self.term_value(first, here)?;
-        let others = self.sum(rest, here)?;
+        let others = self.sum_of_terms(rest, here)?;
         Some(value + others)
     }
 
@@ -55,6 +55,6 @@ impl Symbols {
         requires { here ≤ 4096 }
         ensures { result ≡ sum_of self.now here terms.now }
     {
-        self.sum(terms.items(), here)
+        self.sum_of_terms(terms.items(), here)
     }
 }

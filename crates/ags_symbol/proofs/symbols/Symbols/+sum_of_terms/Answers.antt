@@ -5,7 +5,7 @@ use Rattle.std.proofs.lemmas.List.{take_all}
 use Rattle.ags_card.specs.declared.terms.Term.{Term}
 use Rattle.ags_symbol.specs.Symbol.{Entry, term_value, sum_of}
 use Rattle.ags_symbol.specs.Bound.{IsAtMost}
-use Rattle.ags_symbol.proofs.symbols.Symbols.+sum.Goals as goal
+use Rattle.ags_symbol.proofs.symbols.Symbols.+sum_of_terms.Goals as goal
 
 fits : (size : ℕ) (n : ℤ) → IsAtMost size n → size < 2 ^ 31 → FitsSigned w32 n
 fits size n small few = fits_signed_from_abs w32 n (omega (arith, ints))
