@@ -1,8 +1,8 @@
 -- The phase of words, one card further.
 use Rattle.std.proofs.Common.{◌≡◌, ◌≢◌, ℕ, ◌+◌, ◌-◌, ◌<◌, ◌≤◌, Bool, true, false, cond, List, [], ◌∷◌, ◌++◌, length, get_or, set, All, Option, Some, None, option_map, unwrap_or, refl, sym, ap, subst, ◌∙◌, append_assoc, arith, inl, inr, eq-eqb}
-use Rattle.std.specs.Prelude.{Result, Ok, Err, IfSome, IsOk, slice_range}
+use Rattle.std.specs.Prelude.{Result, Ok, Err, IfSome, IsOk, slice_range, ◌&&◌, nat_le, nat_lt}
 use Rattle.std.proofs.Math.Seq.{get_or-append_seam, set-append_seam}
-use Rattle.std.proofs.lemmas.Bool.{cases_eq, ne_eqb}
+use Rattle.std.proofs.lemmas.Bool.{cases_eq, cases_lt, ne_eqb, le-leb, lt-ltb, lt-leb, le-ltb}
 use Rattle.std.proofs.lemmas.List.{length-append, length-set, get_or-set_same, get_or-set_other}
 use Rattle.std.proofs.lemmas.List.Elements.{All-head, All-tail}
 use Rattle.ags_text.specs.Fault.{or_later, first_fault, first_fault-nil, first_fault-faulty, first_fault-faultless}
@@ -18,11 +18,11 @@ use Rattle.ags_places.specs.declared.source_error.SourceKind.{SourceKind}
 use Rattle.ags_places.specs.declared.source_error.SourceKind.TheVariants.{PlaceTwice}
 use Rattle.ags_places.specs.Deck.{card_lines, readings, card_of, cards_in}
 use Rattle.ags_places.specs.Fault.{card_fault, or_else, first_card_fault, first_place_fault}
-use Rattle.ags_places.specs.Place.{place, has_word, place_of_word, places_after}
+use Rattle.ags_places.specs.Place.{count, place, has_word, place_of_word, places_after}
 use Rattle.ags_places.specs.Source as early
-use Rattle.ags_asm.specs.Making.{taken_by, AreCards}
+use Rattle.ags_asm.specs.Making.{taken_by, word_at, AreCards}
 use Rattle.ags_asm.specs.Source.{placed_at, placed_cards}
-use Rattle.ags_asm.specs.Word.{word_at, definition, definitions_after, word_fault_at, stands_at, owner, word_fault, first_word_fault}
+use Rattle.ags_asm.specs.Word.{definition, definitions_after, is_among, placed_from, taken_from, word_fault_at, words_at, owner, taken, word_fault, first_word_fault}
 
 -- ---- lines that are cards
 
@@ -41,6 +41,58 @@ pub first_none : (first later : Option (ℕ × SourceKind)) → or_else first la
 first_none None later none = refl
 first_none (Some fault) later none = absurd cc
 
+-- ---- how many words a card has
+
+no_word : (at : ℕ) (b : Bool) → ◌≡◌ {A = Option ℕ} (cond b (Some at) None) None → b ≡ false
+no_word at true none = absurd cc
+no_word at false none = refl
+
+has_place : (at place : ℕ) (b : Bool) → ◌≡◌ {A = Option ℕ} (cond b (Some at) None) (Some place) → (place ≡ at) × (b ≡ true)
+has_place at place true is = (cc, refl)
+has_place at place false is = absurd cc
+
+wordless : (S : List Entry) (at : ℕ) (body : Body) → has_word body ≡ false → (word_fault_at S at body ≡ None) × (count body ≡ 0)
+wordless S at Comment none = (refl, refl)
+wordless S at (Order order terms indexed) none = absurd cc
+wordless S at (Org terms) none = (refl, refl)
+wordless S at (Equ terms) none = (refl, refl)
+wordless S at (Bss terms) none = (refl, refl)
+wordless S at (Dec decimal) none = absurd cc
+wordless S at (Oct word) none = absurd cc
+wordless S at End none = (refl, refl)
+
+worded : (body : Body) → has_word body ≡ true → count body ≡ 1
+worded Comment has = absurd cc
+worded (Order order terms indexed) has = refl
+worded (Org terms) has = absurd cc
+worded (Equ terms) has = absurd cc
+worded (Bss terms) has = absurd cc
+worded (Dec decimal) has = refl
+worded (Oct word) has = refl
+worded End has = absurd cc
+
+-- as it is assembled
+plain_so : (codes : List ℕ) (S : List Entry) (line : LineAt) (at : ℕ) (body : Body) → has_word body ≡ false → placed_at line (placed_from at (words_at codes S at body)) ≡ early.placed_at line None
+plain_so codes S line at Comment none = refl
+plain_so codes S line at (Order order terms indexed) none = absurd cc
+plain_so codes S line at (Org terms) none = refl
+plain_so codes S line at (Equ terms) none = refl
+plain_so codes S line at (Bss terms) none = refl
+plain_so codes S line at (Dec decimal) none = absurd cc
+plain_so codes S line at (Oct word) none = absurd cc
+plain_so codes S line at End none = refl
+
+worded_so : (codes : List ℕ) (S : List Entry) (line : LineAt) (at : ℕ) (body : Body) → has_word body ≡ true
+    → placed_at line (placed_from at (words_at codes S at body)) ≡ record { start = line.start; end = line.start + length line.bytes; place = Some at; word = word_at codes S at body }
+worded_so codes S line at Comment has = absurd cc
+worded_so codes S line at (Order order terms indexed) has = refl
+worded_so codes S line at (Org terms) has = absurd cc
+worded_so codes S line at (Equ terms) has = absurd cc
+worded_so codes S line at (Bss terms) has = absurd cc
+worded_so codes S line at (Dec decimal) has = refl
+worded_so codes S line at (Oct word) has = refl
+worded_so codes S line at End has = absurd cc
+
 -- ---- owners
 
 owner_test : (S : List Entry) (at n : ℕ) (before : List Card) (here : Bool) → (owner S at before ≡ Some n → 0 < n) → cond here (Some (length before + 1)) (owner S at before) ≡ Some n → 0 < n
@@ -51,47 +103,53 @@ owner_test S at n before false later is = later is
 owner-some : (S : List Entry) (at n : ℕ) (before : List Card) → owner S at before ≡ Some n → 0 < n
 unfolding owner
 owner-some S at n [] is = absurd cc
-owner-some S at n (card ∷ before) is = owner_test S at n before (stands_at at (place_of_word (place S before) card.body)) (owner-some S at n before) is
+owner-some S at n (card ∷ before) is = owner_test S at n before (is_among at (place S before) (count card.body)) (owner-some S at n before) is
 
 -- so it tells whether a place is taken
 taken_so : (owned : Option ℕ) → ((n : ℕ) → owned ≡ Some n → 0 < n) → taken_by (unwrap_or owned 0) ≡ option_map PlaceTwice owned
 taken_so None some = refl
 taken_so (Some n) some = let positive : 0 < n = some n refl in rw (ne_eqb n 0 (λ e. omega (arith, positive, e))) refl
 
+or_none : (first : Option SourceKind) → or_else first None ≡ first
+or_none None = refl
+or_none (Some kind) = refl
+
+-- a card of one word
+taken_one : (S : List Entry) (before : List Card) (card : Card) → count card.body ≡ 1 → taken S before card ≡ option_map PlaceTwice (owner S (place S before) before)
+taken_one S before card one = rw one (or_none (option_map PlaceTwice (owner S (place S before) before)))
+
+-- and of none
+taken_nothing : (S : List Entry) (before : List Card) (card : Card) → count card.body ≡ 0 → taken S before card ≡ None
+taken_nothing S before card none = rw none refl
+
+among_one : (q at : ℕ) → q ≢ at → is_among q at 1 ≡ false
+among_one q at other = elim (cases_lt q at) [
+  | inl past ↦ rw (lt-leb at q past) refl
+  | inr from ↦ rw (le-leb at q from, le-ltb q (at + 1) (omega (arith, from, other))) refl
+]
+
+among_none : (q at : ℕ) → is_among q at 0 ≡ false
+among_none q at = elim (cases_lt q at) [
+  | inl past ↦ rw (lt-leb at q past) refl
+  | inr from ↦ rw (le-leb at q from, le-ltb q (at + 0) (omega (arith, from))) refl
+]
+
 -- a place that is owned from now on
-owns-set : (S : List Entry) (owners : List ℕ) (before : List Card) (card : Card) (at q : ℕ) → length owners ≡ 4096 → at < 4096 → place_of_word (place S before) card.body ≡ Some at
+owns-set : (S : List Entry) (owners : List ℕ) (before : List Card) (card : Card) (at q : ℕ) → length owners ≡ 4096 → at < 4096 → at ≡ place S before → count card.body ≡ 1
     → get_or owners q 0 ≡ unwrap_or (owner S q before) 0 → get_or (set owners at (length before + 1)) q 0 ≡ unwrap_or (owner S q (card ∷ before)) 0
 unfolding owner
-owns-set S owners before card at q many small there owned =
+owns-set S owners before card at q many small there one owned =
     elim (cases_eq at q) [
-      | inl same ↦ let inside : at < length owners = omega arith in rw (there, ← same, get_or-set_same, eq-eqb at at refl) refl
-      | inr other ↦ let apart : q ≢ at = λ e. other (sym e) in rw (there, get_or-set_other, ne_eqb at q other) owned
+      | inl same ↦
+          let inside : at < length owners = omega arith in
+          rw (one, ← there, ← same, le-leb at at (omega arith), lt-ltb at (at + 1) (omega arith), get_or-set_same) refl
+      | inr other ↦ let apart : q ≢ at = λ e. other (sym e) in rw (one, ← there, among_one q at apart, get_or-set_other) owned
     ]
 
 -- a card without a word owns nothing
-owns-skip : (S : List Entry) (before : List Card) (card : Card) (q : ℕ) → place_of_word (place S before) card.body ≡ None → owner S q (card ∷ before) ≡ owner S q before
+owns-skip : (S : List Entry) (before : List Card) (card : Card) (q : ℕ) → count card.body ≡ 0 → owner S q (card ∷ before) ≡ owner S q before
 unfolding owner
-owns-skip S before card q none = rw none refl
-
--- ---- cards without a word
-
-no_word : (at : ℕ) (b : Bool) → ◌≡◌ {A = Option ℕ} (cond b (Some at) None) None → b ≡ false
-no_word at true none = absurd cc
-no_word at false none = refl
-
-wordless : (S : List Entry) (at : ℕ) (body : Body) → has_word body ≡ false → word_fault_at S at body ≡ None
-wordless S at Comment none = refl
-wordless S at (Order order terms indexed) none = absurd cc
-wordless S at (Org terms) none = refl
-wordless S at (Equ terms) none = refl
-wordless S at (Bss terms) none = refl
-wordless S at (Dec decimal) none = absurd cc
-wordless S at (Oct word) none = absurd cc
-wordless S at End none = refl
-
-has_place : (at place : ℕ) (b : Bool) → ◌≡◌ {A = Option ℕ} (cond b (Some at) None) (Some place) → place ≡ at
-has_place at place true is = cc
-has_place at place false is = absurd cc
+owns-skip S before card q none = rw (none, among_none q (place S before)) refl
 
 -- ---- the loop over the cards
 
@@ -173,7 +231,10 @@ module _ (codes text : List ℕ) (S : List Entry) (items : List Placed) (i : ℕ
 
     -- its place, where it has one
     pub at_there : (at : ℕ) → place_there ≡ Some at → at ≡ place S so.before
-    at_there at there = has_place (place S so.before) at (has_word card_there.body) there
+    at_there at there = (has_place (place S so.before) at (has_word card_there.body) there).0
+
+    has_there : (at : ℕ) → place_there ≡ Some at → has_word card_there.body ≡ true
+    has_there at there = (has_place (place S so.before) at (has_word card_there.body) there).1
 
     pub small_there : (at : ℕ) → place_there ≡ Some at → at < 4096
     unfolding places_after
@@ -194,13 +255,15 @@ module _ (codes text : List ℕ) (S : List Entry) (items : List Placed) (i : ℕ
     fault_there at first there first_is =
         let owned : first ≡ unwrap_or (owner S at so.before) 0 = first_is ∙ so.owns at (small_there at there) in
         let same : taken_by first ≡ option_map PlaceTwice (owner S at so.before) = ap taken_by owned ∙ taken_so (owner S at so.before) (λ n. owner-some S at n so.before) in
-        rw (there, same, ← at_there at there) refl
+        rw (taken_one S so.before card_there (worded card_there.body (has_there at there)), same, ← at_there at there) refl
 
     -- a card without a word
     pub making_skip : place_there ≡ None → Making codes text S items (i + 1) owners rest
     making_skip none =
-        let faultless : word_fault S so.before card_there ≡ None = rw (none, wordless S (place S so.before) card_there.body (no_word (place S so.before) (has_word card_there.body) none)) refl in
-        let plain : placed_at line (definition codes S so.before card_there) ≡ early.placed_at line place_there = rw none refl in
+        let bare = no_word (place S so.before) (has_word card_there.body) none in
+        let nothing = wordless S (place S so.before) card_there.body bare in
+        let faultless : word_fault S so.before card_there ≡ None = rw (nothing.0, taken_nothing S so.before card_there nothing.1) refl in
+        let plain : placed_at line (definition codes S so.before card_there) ≡ early.placed_at line place_there = plain_so codes S line (place S so.before) card_there.body bare ∙ ap (early.placed_at line) (sym none) in
         record {
           before = card_there ∷ so.before;
           done = so.done ++ early.placed_at line place_there ∷ [];
@@ -215,7 +278,7 @@ module _ (codes text : List ℕ) (S : List Entry) (items : List Placed) (i : ℕ
           few = omega (arith, few_there);
           within = rest_within;
           many_owners = so.many_owners;
-          owns = λ at small. rw (owns-skip S so.before card_there at none) (so.owns at small);
+          owns = λ at small. rw (owns-skip S so.before card_there at nothing.1) (so.owns at small);
         }
 
     -- a card whose word is at fault, or whose place is taken
@@ -234,7 +297,7 @@ module _ (codes text : List ℕ) (S : List Entry) (items : List Placed) (i : ℕ
     making_more at first word there first_is none word_is =
         let faultless : word_fault S so.before card_there ≡ None = fault_there at first there first_is ∙ none in
         let same : word_at codes S (place S so.before) card_there.body ≡ word = rw (← at_there at there) (sym word_is) in
-        let made_so : placed_at line (definition codes S so.before card_there) ≡ with_word at word = rw (there, same) refl in
+        let made_so : placed_at line (definition codes S so.before card_there) ≡ with_word at word = worded_so codes S line (place S so.before) card_there.body (has_there at there) ∙ rw (same, ← at_there at there) refl in
         let items_so : set items i (with_word at word) ≡ so.done ++ with_word at word ∷ unmade S (card_there ∷ so.before) rest =
         ap (λ (xs : List Placed). set xs i (with_word at word)) item_there
         ∙ ap (λ (n : ℕ). set (so.done ++ early.placed_at line place_there ∷ unmade S (card_there ∷ so.before) rest) n (with_word at word)) so.many
@@ -253,7 +316,7 @@ module _ (codes text : List ℕ) (S : List Entry) (items : List Placed) (i : ℕ
           few = omega (arith, few_there);
           within = rest_within;
           many_owners = omega (arith, so.many_owners, length-set owners at (i + 1));
-          owns = λ q small. rw so.many_before (owns-set S owners so.before card_there at q so.many_owners (small_there at there) there (so.owns q small));
+          owns = λ q small. rw so.many_before (owns-set S owners so.before card_there at q so.many_owners (small_there at there) (at_there at there) (worded card_there.body (has_there at there)) (so.owns q small));
         }
 
   -- no line is left behind the last card

@@ -1,13 +1,13 @@
 //! The assembler: the phases, one after the other.
 
-ghost use Rattle.std.specs.Prelude.{◌≡◌, ◌≤◌, ◌⊎◌, List, Option, length, map, All, None, OnOk, IfOk, IfErr, IsOkAnd, IsErrOf};
-ghost use Rattle.ags_image.specs.Image.{PlacedWord, IsImageOf};
+ghost use Rattle.std.specs.Prelude.{◌≡◌, ◌≤◌, ◌⊎◌, length, All, None, OnOk, IfOk, IfErr, IsOkAnd, IsErrOf};
+ghost use Rattle.ags_image.specs.Image.{IsImageOf};
 ghost use Rattle.ags_places.specs.declared.source_error.SourceError.{SourceError};
 ghost use Rattle.ags_places.specs.Deck.{card_lines, cards_in};
 ghost use Rattle.ags_places.specs.Source.{IsPlaced};
 ghost use Rattle.ags_asm.specs.Making.{Stops};
 ghost use Rattle.ags_asm.specs.Word.{definitions, first_word_fault};
-ghost use Rattle.ags_asm.specs.Source.{AreSpans, Defines, IsAssembled, IsFaulty, IsInMemory, IsRefused, defined, placed_cards, placed_words};
+ghost use Rattle.ags_asm.specs.Source.{AreSpans, CardWords, Defines, IsAssembled, IsFaulty, IsInMemory, IsRefused, card_words, placed_cards, placed_words};
 ghost use Rattle.ags_places.specs.Limit.{source_limit};
 
 use crate::filling::image_of;
@@ -74,12 +74,12 @@ pub fn assemble(alloc: Global, bytes: &[u8], codes: &Codes) -> Result<Assembled,
     // It is a source without a fault, and these are its cards, whose places and words are those that it defines, the one list of
     // pairs that fits them, and the image of the words; or its first fault is this one.
     ensures assembled { IfOk result (λ made. IsAssembled codes.now bytes.now made.cards.items made.symbols made.image) }
-    ensures defines { IfOk result (λ made. Defines codes.now bytes.now (map defined made.cards.items)) }
-    ensures image { IfOk result (λ made. IsImageOf (placed_words (map defined made.cards.items)) made.image) }
+    ensures defines { IfOk result (λ made. Defines codes.now bytes.now (card_words made)) }
+    ensures image { IfOk result (λ made. IsImageOf (placed_words (card_words made)) made.image) }
     ensures refused { IfErr result (IsRefused bytes.now) }
 
     // A source without a fault is assembled, and one with a fault is refused for it, unless memory runs out.
-    ensures faultless { (words : List (Option PlacedWord)) → Defines codes.now bytes.now words
+    ensures faultless { (words : CardWords) → Defines codes.now bytes.now words
         → IsOkAnd result (λ made. made.cards.items ≡ placed_cards (card_lines bytes.now) words) ⊎ IsErrOf result AssembleError.NoMemory }
     ensures faulty { (error : SourceError) → IsFaulty bytes.now error
         → IsErrOf result (AssembleError.Source error) ⊎ IsErrOf result AssembleError.NoMemory }

@@ -5,9 +5,9 @@ ghost use Rattle.ags_card.specs.Reading.{reading};
 ghost use Rattle.ags_places.specs.Deck.{card_of, card_lines, cards_in};
 ghost use Rattle.ags_places.specs.Fault.{or_else};
 ghost use Rattle.ags_places.specs.Source.{IsPlaced, IsInMemory};
-ghost use Rattle.ags_asm.specs.Making.{taken_by, Stops};
+ghost use Rattle.ags_asm.specs.Making.{taken_by, word_at, Stops};
 ghost use Rattle.ags_asm.specs.Source.{placed_cards};
-ghost use Rattle.ags_asm.specs.Word.{definitions, first_word_fault, word_at, word_fault_at};
+ghost use Rattle.ags_asm.specs.Word.{definitions, first_word_fault, word_fault_at};
 ghost use Rattle.ags_places.specs.Limit.{source_limit};
 
 use crate::words::word_of_line;

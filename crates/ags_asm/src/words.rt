@@ -5,7 +5,8 @@ ghost use Rattle.ags_card.specs.Reading.{reading};
 ghost use Rattle.ags_symbol.specs.Symbol.{sum_of};
 ghost use Rattle.ags_places.specs.Deck.{card_of};
 ghost use Rattle.ags_places.specs.Place.{operand};
-ghost use Rattle.ags_asm.specs.Word.{address_fault, word_at, word_fault_at};
+ghost use Rattle.ags_asm.specs.Making.{word_at};
+ghost use Rattle.ags_asm.specs.Word.{address_fault, word_fault_at};
 
 use ags_card::{Body, Terms, read_card};
 use ags_isa::{Codes, encode};
