@@ -1,6 +1,6 @@
 -- What a source defines are words of the memory. The crates above cite `words_of_memory`, behind the law
 -- `source_defines_words_of_the_memory`.
-use Rattle.std.proofs.Common.{◌≡◌, ℕ, zero, suc, get_or, ◌+◌, ◌<◌, ◌≤◌, ◌^◌, Bool, true, false, cond, List, [], ◌∷◌, length, All, Option, Some, None, unwrap_or, refl, ap, subst, inl, inr, arith, ℤ, pos, negsuc}
+use Rattle.std.proofs.Common.{◌≡◌, ℕ, zero, suc, get_or, ◌+◌, ◌<◌, ◌≤◌, ◌^◌, Bool, true, false, cond, List, [], ◌∷◌, length, All, Option, Some, None, unwrap_or, refl, subst, inl, inr, arith, ℤ, pos, negsuc}
 use Rattle.std.specs.Prelude.{Result, Ok, Err, IfSome, IsOk, unsigned_abs}
 use Rattle.std.specs.List.{Contains}
 use Rattle.std.proofs.lemmas.Bool.{leb-true, and_parts}
@@ -24,7 +24,7 @@ use Rattle.ags_symbol.specs.Symbol.{Entry, sum_of}
 use Rattle.ags_places.specs.declared.source_error.SourceKind.{SourceKind}
 use Rattle.ags_places.specs.declared.source_error.SourceKind.TheVariants.{AddressRange}
 use Rattle.ags_places.specs.Deck.{card_of, card_lines, cards_in, readings}
-use Rattle.ags_places.specs.Fault.{card_fault, is_place, or_else, early_fault, first_card_fault, first_place_fault}
+use Rattle.ags_places.specs.Fault.{card_fault, is_place, early_fault, first_card_fault, first_place_fault}
 use Rattle.ags_places.specs.Place.{operand, place, place_of_word, places_after}
 use Rattle.ags_places.proofs.PlacingLemmas.{words_within}
 use Rattle.ags_asm.specs.Source.{Defines, placed_words}

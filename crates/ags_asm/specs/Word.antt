@@ -80,7 +80,7 @@ unfoldable pub owner : List Entry → ℕ → List Card → Option ℕ
 owner S q [] = None
 owner S q (card ∷ before) = if is_among q (place S before) (count card.body) then Some (length before + 1) else owner S q before
 
--- that the least of so many places from one on that is owned is owned
+-- of so many places from one on the least that is owned, told by its owner
 abbrev pub taken_from : (ℕ → Option ℕ) → (at many : ℕ) → Option SourceKind
 taken_from owned at zero = None
 taken_from owned at (suc many) = or_else (option_map PlaceTwice (owned at)) (taken_from owned (at + 1) many)
