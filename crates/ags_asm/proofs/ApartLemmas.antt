@@ -1,23 +1,53 @@
--- In a source without a fault no card's word is put where an earlier one's is. The crates above cite `each_place_once`,
+-- In a source without a fault no card has a word where an earlier one has one. The crates above cite `each_place_once`,
 -- behind the law `source_defines_each_place_once`.
-use Rattle.std.proofs.Common.{◌≡◌, ◌≢◌, ◌⊎◌, ℕ, ◌+◌, Bool, true, false, cond, List, [], ◌∷◌, length, get_or, Option, Some, None, option_map, refl, sym, ap, subst, ◌∙◌, inl, inr, arith, eq-eqb}
-use Rattle.std.specs.List.{Contains}
-use Rattle.std.proofs.lemmas.Bool.{true≢false}
-use Rattle.std.proofs.lemmas.List.Elements.{Contains-get_or, Contains-append_cases, Contains-push_cases}
+use Rattle.std.proofs.Common.{◌≡◌, ◌≢◌, ℕ, zero, suc, ◌+◌, ◌<◌, ◌≤◌, Bool, true, false, cond, List, [], ◌∷◌, ◌++◌, length, get_or, Option, Some, None, option_map, refl, sym, ap, subst, ◌∙◌, arith, inl, inr}
+use Rattle.std.specs.Prelude.{All}
+use Rattle.std.specs.List.{Contains, AllPairs}
+use Rattle.std.proofs.lemmas.Bool.{true≢false, le-leb, lt-ltb}
+use Rattle.std.proofs.lemmas.List.Elements.{All-append, Contains-append_cases, Contains-get_or}
 use Rattle.std.proofs.lemmas.List.Kept.{AllPairs-cons}
 use Rattle.ags_text.specs.Fault.{or_later, first_fault}
 use Rattle.ags_image.specs.Image.{PlacedWord, EachPlaceOnce}
+use Rattle.ags_card.specs.declared.cards.Body.{Body}
+use Rattle.ags_card.specs.declared.cards.Body.TheVariants.{Comment, Order, Org, Equ, Bss, Dec, Oct, End}
 use Rattle.ags_card.specs.declared.cards.Card.{Card}
 use Rattle.ags_symbol.specs.Symbol.{Entry}
+use Rattle.ags_symbol.proofs.FoundLemmas.{Contains-cons, Contains-first, Contains-later}
 use Rattle.ags_places.specs.declared.source_error.SourceKind.{SourceKind}
 use Rattle.ags_places.specs.declared.source_error.SourceKind.TheVariants.{PlaceTwice}
 use Rattle.ags_places.specs.Deck.{cards}
 use Rattle.ags_places.specs.Fault.{or_else, early_fault}
-use Rattle.ags_places.specs.Place.{place, place_of_word}
+use Rattle.ags_places.specs.Place.{count, place}
 use Rattle.ags_asm.specs.Source.{Defines, placed_words}
-use Rattle.ags_asm.specs.Word.{word_at, placed_word, definition, definitions, definitions_after, word_fault_at, stands_at, owner, taken, word_fault, first_word_fault}
+use Rattle.ags_asm.specs.Word.{CardWords, definition, definitions, definitions_after, first_word_fault, is_among, owner, placed_from, taken, taken_from, word_fault, word_fault_at, words_at}
 
--- ---- no fault
+-- ---- words at places
+
+pub in_from : (at : ℕ) (words : List ℕ) (one : PlacedWord) → Contains (placed_from at words) one → (i : ℕ) × (i < length words) × (one.place ≡ at + i) × (one.word ≡ get_or words i 0)
+in_from at [] one among = absurd (omega (arith, among.1))
+in_from at (word ∷ words) one among = elim (Contains-cons (record { place = at; word = word }) one (placed_from (at + 1) words) among) [
+  | inl this ↦ (0, omega arith, ap (λ (p : PlacedWord). p.place) (sym this) ∙ omega arith, ap (λ (p : PlacedWord). p.word) (sym this))
+  | inr later ↦ let rest = in_from (at + 1) words one later in (suc rest.0, omega (arith, rest.1), omega (arith, rest.2), rest.3)
+]
+
+same_from : (at : ℕ) (words : List ℕ) (one other : PlacedWord) → Contains (placed_from at words) one → Contains (placed_from at words) other → one.place ≡ other.place → one.word ≡ other.word
+same_from at words one other this that same =
+    let a = in_from at words one this in
+    let b = in_from at words other that in
+    let index : a.0 ≡ b.0 = omega (arith, a.2, b.2, same) in
+    a.3 ∙ ap (λ (i : ℕ). get_or words i 0) index ∙ sym b.3
+
+pub words_counted : (codes : List ℕ) (S : List Entry) (at : ℕ) (body : Body) → length (words_at codes S at body) ≡ count body
+words_counted codes S at Comment = refl
+words_counted codes S at (Order order terms indexed) = refl
+words_counted codes S at (Org terms) = refl
+words_counted codes S at (Equ terms) = refl
+words_counted codes S at (Bss terms) = refl
+words_counted codes S at (Dec decimal) = refl
+words_counted codes S at (Oct word) = refl
+words_counted codes S at End = refl
+
+-- ---- no place has two words in a source without a fault of the phase of words
 
 pub none_later : (number : ℕ) (head : Option SourceKind) (later : Option (ℕ × SourceKind)) → or_later number head later ≡ None → (head ≡ None) × (later ≡ None)
 none_later number None later none = (refl, none)
@@ -27,86 +57,118 @@ pub second_none : {F : Type 0} (first later : Option F) → or_else first later 
 second_none None later none = none
 second_none (Some fault) later none = absurd cc
 
--- a card's word that has no fault has no owner before
+pub first_none : {F : Type 0} (first later : Option F) → or_else first later ≡ None → first ≡ None
+first_none None later none = refl
+first_none (Some fault) later none = absurd cc
+
 not_taken : (owned : Option ℕ) → ◌≡◌ {A = Option SourceKind} (option_map PlaceTwice owned) None → owned ≡ None
 not_taken None none = refl
 not_taken (Some number) none = absurd cc
 
--- where the place is a card's, no earlier one owns it
-pub unowned_here : (S : List Entry) (before : List Card) (at : ℕ) (stands : Option ℕ) → taken S before stands ≡ None → stands ≡ Some at → owner S at before ≡ None
-unowned_here S before at None none is = absurd cc
-unowned_here S before at (Some other) none is =
-    let same : other ≡ at = cc in
-    subst (λ (place : ℕ). owner S place before ≡ None) same (not_taken (owner S other before) none)
+-- none of the places is owned
+pub unowned_from : (owned : ℕ → Option ℕ) (at many : ℕ) (i : ℕ) → taken_from owned at many ≡ None → i < many → owned (at + i) ≡ None
+unowned_from owned at zero i none within = absurd (omega (arith, within))
+unowned_from owned at (suc many) zero none within =
+    let here = not_taken (owned at) (first_none (option_map PlaceTwice (owned at)) (taken_from owned (at + 1) many) none) in
+    let same : at + 0 ≡ at = omega arith in
+    rw same here
+unowned_from owned at (suc many) (suc i) none within =
+    let later = unowned_from owned (at + 1) many i (second_none (option_map PlaceTwice (owned at)) (taken_from owned (at + 1) many) none) (omega arith) in
+    let same : at + suc i ≡ at + 1 + i = omega arith in
+    rw same later
 
--- where a place is owned by no card, the nearest does not stand there, nor do those before it
-not_here : (here : Bool) (n : ℕ) (later : Option ℕ) → cond here (Some n) later ≡ None → (here ≡ false) × (later ≡ None)
+pub among_so : (q at many : ℕ) → at ≤ q → q < at + many → is_among q at many ≡ true
+among_so q at many from below = rw (le-leb at q from, lt-ltb q (at + many) below) refl
+
+pub not_here : (here : Bool) (n : ℕ) (later : Option ℕ) → cond here (Some n) later ≡ None → (here ≡ false) × (later ≡ None)
 not_here true n later none = absurd cc
 not_here false n later none = (refl, none)
 
--- the word of a card stands at its place
-pub stands_of : (word : ℕ) (stands : Option ℕ) (one : PlacedWord) → placed_word word stands ≡ Some one → stands ≡ Some one.place
-stands_of word None one is = absurd cc
-stands_of word (Some at) one is =
-    let same : ◌≡◌ {A = PlacedWord} (record { place = at; word = word }) one = cc in
-    ap (λ (p : PlacedWord). Some p.place) same
-
--- ---- the words of cards
-
--- the words behind a card are its own, or of those that follow
-pub word_cases : (first : Option PlacedWord) (rest : List (Option PlacedWord)) (one : PlacedWord) → Contains (placed_words (first ∷ rest)) one → (first ≡ Some one) ⊎ Contains (placed_words rest) one
-word_cases None rest one among = inr among
-word_cases (Some first) rest one among = elim (Contains-append_cases (first ∷ []) (placed_words rest) one among) [
-  | inr later ↦ inr later
-  | inl here ↦ elim (Contains-push_cases [] first one here) [
-    | inl nothing ↦ absurd (omega (arith, nothing.1))
-    | inr same ↦ inl (ap (λ (p : PlacedWord). Some p) same)
-  ]
-]
-
--- their places are owned by no card before them
-unowned : (codes : List ℕ) (S : List Entry) (before cards : List Card) (one : PlacedWord) → first_fault (word_fault S) before cards ≡ None
+-- the words of cards are at places that no card before them owns
+pub unowned : (codes : List ℕ) (S : List Entry) (before cards : List Card) (one : PlacedWord) → first_fault (word_fault S) before cards ≡ None
     → Contains (placed_words (definitions_after codes S before cards)) one → owner S one.place before ≡ None
 unfolding first_fault definitions_after owner
 unowned codes S before [] one none among = absurd (omega (arith, among.1))
 unowned codes S before (card ∷ cards) one none among =
     let parts = none_later (length before + 1) (word_fault S before card) (first_fault (word_fault S) (card ∷ before) cards) none in
-    let stands = place_of_word (place S before) card.body in
-    elim (word_cases (definition codes S before card) (definitions_after codes S (card ∷ before) cards) one among) [
+    let at = place S before in
+    elim (Contains-append_cases (definition codes S before card) (placed_words (definitions_after codes S (card ∷ before) cards)) one among) [
       | inl here ↦
-          unowned_here S before one.place stands (second_none (word_fault_at S (place S before) card.body) (taken S before stands) parts.0)
-          (stands_of (word_at codes S (place S before) card.body) stands one here)
-      | inr later ↦ (not_here (stands_at one.place stands) (length before + 1) (owner S one.place before) (unowned codes S (card ∷ before) cards one parts.1 later)).1
+          let so = in_from at (words_at codes S at card.body) one here in
+          let free = second_none (word_fault_at S at card.body) (taken S before card) parts.0 in
+          subst (λ (q : ℕ). owner S q before ≡ None) (sym so.2) (unowned_from (λ (q : ℕ). owner S q before) at (count card.body) so.0 free (rw (← words_counted codes S at card.body) so.1))
+      | inr later ↦ (not_here (is_among one.place at (count card.body)) (length before + 1) (owner S one.place before) (unowned codes S (card ∷ before) cards one parts.1 later)).1
     ]
 
--- and by none but one
-apart_first : (codes : List ℕ) (S : List Entry) (before cards : List Card) (card : Card) (one other : PlacedWord) → definition codes S before card ≡ Some one
-    → owner S other.place (card ∷ before) ≡ None → one.place ≢ other.place
+-- of one place there is one word
+abbrev pub OneWord : List PlacedWord → Type 0
+OneWord all = (one other : PlacedWord) → Contains all one → Contains all other → one.place ≡ other.place → one.word ≡ other.word
+
+-- a card's own place is owned behind it
+pub held : (codes : List ℕ) (S : List Entry) (before : List Card) (card : Card) (one : PlacedWord) → Contains (definition codes S before card) one → owner S one.place (card ∷ before) ≡ None → ⊥
 unfolding owner
-apart_first codes S before cards card one other is none same =
-    let stands = stands_of (word_at codes S (place S before) card.body) (place_of_word (place S before) card.body) one is in
-    let parts = not_here (stands_at other.place (place_of_word (place S before) card.body)) (length before + 1) (owner S other.place before) none in
-    true≢false (sym (ap (stands_at other.place) stands ∙ eq-eqb one.place other.place same) ∙ parts.0)
+held codes S before card one here none =
+    let at = place S before in
+    let so = in_from at (words_at codes S at card.body) one here in
+    let few = words_counted codes S at card.body in
+    let this : is_among one.place at (count card.body) ≡ true = among_so one.place at (count card.body) (omega (arith, so.2)) (omega (arith, so.2, so.1, few)) in
+    true≢false (sym this ∙ (not_here (is_among one.place at (count card.body)) (length before + 1) (owner S one.place before) none).0)
 
-once_step : (codes : List ℕ) (S : List Entry) (before cards : List Card) (card : Card) (first : Option PlacedWord) → definition codes S before card ≡ first
-    → ((other : PlacedWord) → Contains (placed_words (definitions_after codes S (card ∷ before) cards)) other → owner S other.place (card ∷ before) ≡ None)
-    → EachPlaceOnce (placed_words (definitions_after codes S (card ∷ before) cards)) → EachPlaceOnce (placed_words (first ∷ definitions_after codes S (card ∷ before) cards))
-once_step codes S before cards card None is none once = once
-once_step codes S before cards card (Some one) is none once =
+pub one_word_along : (codes : List ℕ) (S : List Entry) (before cards : List Card) → first_fault (word_fault S) before cards ≡ None → OneWord (placed_words (definitions_after codes S before cards))
+unfolding first_fault definitions_after
+one_word_along codes S before [] none one other this that same = absurd (omega (arith, this.1))
+one_word_along codes S before (card ∷ cards) none one other this that same =
+    let parts = none_later (length before + 1) (word_fault S before card) (first_fault (word_fault S) (card ∷ before) cards) none in
+    let at = place S before in
+    let mine = definition codes S before card in
     let rest = placed_words (definitions_after codes S (card ∷ before) cards) in
-    AllPairs-cons (λ (p q : PlacedWord). p.place ≢ q.place) one rest
-    (λ k d within. apart_first codes S before cards card one (get_or rest k d) is (none (get_or rest k d) (Contains-get_or rest k d within))) once
+    elim (Contains-append_cases mine rest one this) [
+      | inl here ↦ elim (Contains-append_cases mine rest other that) [
+        | inl there ↦ same_from at (words_at codes S at card.body) one other here there same
+        | inr later ↦ absurd (held codes S before card one here (subst (λ (q : ℕ). owner S q (card ∷ before) ≡ None) (sym same) (unowned codes S (card ∷ before) cards other parts.1 later)))
+      ]
+      | inr later ↦ elim (Contains-append_cases mine rest other that) [
+        | inl here ↦ absurd (held codes S before card other here (subst (λ (q : ℕ). owner S q (card ∷ before) ≡ None) same (unowned codes S (card ∷ before) cards one parts.1 later)))
+        | inr there ↦ one_word_along codes S (card ∷ before) cards parts.1 one other later there same
+      ]
+    ]
 
-once_along : (codes : List ℕ) (S : List Entry) (before cards : List Card) → first_fault (word_fault S) before cards ≡ None → EachPlaceOnce (placed_words (definitions_after codes S before cards))
+-- ---- so each place comes once
+
+behind : {X : Type 0} (R : X → X → Type 0) (x : X) (xs : List X) → AllPairs R (x ∷ xs) → AllPairs R xs
+behind R x xs pairs = λ i j d first within. pairs (suc i) (suc j) d (omega arith) (omega arith)
+
+of_first : {X : Type 0} (R : X → X → Type 0) (x : X) (xs : List X) → AllPairs R (x ∷ xs) → All (R x) xs
+of_first R x xs pairs = λ k d within. pairs 0 (suc k) d (omega arith) (omega (arith, within))
+
+joined : {X : Type 0} (R : X → X → Type 0) (xs ys : List X) → AllPairs R xs → AllPairs R ys → ((x y : X) → Contains xs x → Contains ys y → R x y) → AllPairs R (xs ++ ys)
+joined R [] ys one other across = other
+joined R (x ∷ xs) ys one other across =
+    AllPairs-cons R x (xs ++ ys) (All-append (R x) xs ys (of_first R x xs one) (λ k d within. across x (get_or ys k d) (Contains-first x xs) (Contains-get_or ys k d within)))
+    (joined R xs ys (behind R x xs one) other (λ a b here there. across a b (Contains-later x a xs here) there))
+
+from_once : (at : ℕ) (words : List ℕ) → EachPlaceOnce (placed_from at words)
+from_once at [] = λ i j d first within. absurd (omega (arith, first, within))
+from_once at (word ∷ words) =
+    let one : PlacedWord = record { place = at; word = word } in
+    AllPairs-cons (λ (p q : PlacedWord). p.place ≢ q.place) one (placed_from (at + 1) words)
+    (λ k d within.
+    let so = in_from (at + 1) words (get_or (placed_from (at + 1) words) k d) (Contains-get_or (placed_from (at + 1) words) k d within) in
+    λ same. omega (arith, so.2, same))
+    (from_once (at + 1) words)
+
+pub once_along : (codes : List ℕ) (S : List Entry) (before cards : List Card) → first_fault (word_fault S) before cards ≡ None → EachPlaceOnce (placed_words (definitions_after codes S before cards))
 unfolding first_fault definitions_after
 once_along codes S before [] none = λ i j d first within. absurd (omega (arith, first, within))
 once_along codes S before (card ∷ cards) none =
     let parts = none_later (length before + 1) (word_fault S before card) (first_fault (word_fault S) (card ∷ before) cards) none in
-    once_step codes S before cards card (definition codes S before card) refl (λ other. unowned codes S (card ∷ before) cards other parts.1) (once_along codes S (card ∷ before) cards parts.1)
+    joined (λ (p q : PlacedWord). p.place ≢ q.place) (definition codes S before card) (placed_words (definitions_after codes S (card ∷ before) cards))
+    (from_once (place S before) (words_at codes S (place S before) card.body)) (once_along codes S (card ∷ before) cards parts.1)
+    (λ one other here there same. held codes S before card one here (subst (λ (q : ℕ). owner S q (card ∷ before) ≡ None) (sym same) (unowned codes S (card ∷ before) cards other parts.1 there)))
 
 pub words_once : (codes text : List ℕ) (S : List Entry) → first_word_fault S text ≡ None → EachPlaceOnce (placed_words (definitions codes S (cards text)))
 words_once codes text S none = once_along codes S [] (cards text) none
 
-pub each_place_once : (codes text : List ℕ) (defined : List (Option PlacedWord)) → Defines codes text defined → EachPlaceOnce (placed_words defined)
+pub each_place_once : (codes text : List ℕ) (defined : CardWords) → Defines codes text defined → EachPlaceOnce (placed_words defined)
 each_place_once codes text defined so =
     rw so.words (words_once codes text so.symbols (second_none (early_fault so.symbols text) (first_word_fault so.symbols text) so.faultless))

@@ -1,106 +1,68 @@
--- What the phases tell, put together.
-use Rattle.std.proofs.Common.{◌≡◌, ℕ, suc, ◌+◌, ◌<◌, List, [], ◌∷◌, ◌++◌, length, take, map, All, Option, Some, None, refl, ap, ◌∙◌, arith, inl, inr}
-use Rattle.std.specs.Prelude.{Result, Ok, Err, IfOk, IfErr, IfSome, IsOkAnd, IsErrOf, ◌⊎◌}
-use Rattle.std.proofs.lemmas.List.Elements.{All-head, All-tail, All-cons}
+-- What the assembler answers, put together.
+use Rattle.std.proofs.Common.{◌≡◌, ℕ, suc, ◌+◌, List, [], ◌∷◌, length, map, refl, ap, ◌∙◌, arith, inl, inr}
+use Rattle.std.specs.Prelude.{Result, Ok, Err, IfOk, IfErr, IsOkAnd, IsErrOf, ◌⊎◌}
 use Rattle.ags_text.specs.Line.{LineAt, Follow}
-use Rattle.ags_image.specs.Image.{PlacedWord, EachPlaceOnce, IsImageOf}
+use Rattle.ags_image.specs.Image.{IsImageOf}
+use Rattle.ags_card.specs.declared.cards.Body.{Body}
+use Rattle.ags_card.specs.declared.cards.Body.TheVariants.{Comment, Order, Org, Equ, Bss, Dec, Oct, End}
 use Rattle.ags_card.specs.declared.cards.Card.{Card}
 use Rattle.ags_card.specs.Reading.{reading}
 use Rattle.ags_symbol.specs.Symbol.{Entry}
-use Rattle.ags_places.specs.declared.placed.Placed.{Placed}
 use Rattle.ags_places.specs.declared.source_error.SourceError.{SourceError}
 use Rattle.ags_places.specs.declared.source_error.AssembleError.{AssembleError}
 use Rattle.ags_places.specs.declared.source_error.AssembleError.TheVariants.{Source, NoMemory}
 use Rattle.ags_places.specs.Deck.{card_of, card_lines, cards_in, cards}
-use Rattle.ags_places.specs.Place.{place, place_of_word, places_after}
-use Rattle.ags_places.specs.Source as early
-use Rattle.ags_places.proofs.PlacingLemmas.{lines_of_cards_follow, words_within}
+use Rattle.ags_places.specs.Place.{place}
+use Rattle.ags_places.proofs.PlacingLemmas.{lines_of_cards_follow}
 use Rattle.ags_asm.specs.declared.assembling.Assembled.{Assembled}
-use Rattle.ags_asm.specs.Making.{Stops}
-use Rattle.ags_asm.specs.Source.{AreSpans, IsInMemory, defined, placed_at, placed_cards, placed_words, Defines, IsFaulty, IsAssembled, IsRefused}
-use Rattle.ags_asm.specs.Word.{word_at, placed_word, definition, definitions, definitions_after, first_word_fault}
-use Rattle.ags_asm.proofs.ApartLemmas.{words_once}
+use Rattle.ags_asm.specs.Source.{AreSpans, card_words, defined, placed_at, placed_cards, placed_words, Defines, IsFaulty, IsAssembled, IsRefused}
+use Rattle.ags_asm.specs.Word.{CardWords, words_at, placed_from, definitions, definitions_after}
 use Rattle.ags_asm.proofs.MeaningLemmas.{one_meaning, one_fault, not_both, length-definitions}
 
 -- ---- placed cards and what they define
 
-defined-placed_at : (line : LineAt) (one : Option PlacedWord) → defined (placed_at line one) ≡ one
-defined-placed_at line None = refl
-defined-placed_at line (Some word) = refl
+defined-placed_at : (codes : List ℕ) (S : List Entry) (line : LineAt) (at : ℕ) (body : Body) → defined (placed_at line (placed_from at (words_at codes S at body))) ≡ placed_from at (words_at codes S at body)
+defined-placed_at codes S line at Comment = refl
+defined-placed_at codes S line at (Order order terms indexed) = refl
+defined-placed_at codes S line at (Org terms) = refl
+defined-placed_at codes S line at (Equ terms) = refl
+defined-placed_at codes S line at (Bss terms) = refl
+defined-placed_at codes S line at (Dec decimal) = refl
+defined-placed_at codes S line at (Oct word) = refl
+defined-placed_at codes S line at End = refl
 
-defined-placed_cards : (lines : List LineAt) (words : List (Option PlacedWord)) → length words ≡ length lines → map defined (placed_cards lines words) ≡ words
-defined-placed_cards [] [] same = refl
-defined-placed_cards [] (one ∷ words) same = absurd (omega arith)
-defined-placed_cards (line ∷ lines) [] same = absurd (omega arith)
-defined-placed_cards (line ∷ lines) (one ∷ words) same = rw (defined-placed_at line one, defined-placed_cards lines words (omega arith)) refl
+defined-placed_cards : (codes : List ℕ) (S : List Entry) (before : List Card) (lines : List LineAt) → map defined (placed_cards lines (definitions_after codes S before (cards_in lines))) ≡ definitions_after codes S before (cards_in lines)
+unfolding definitions_after
+defined-placed_cards codes S before [] = refl
+defined-placed_cards codes S before (line ∷ lines) =
+    let card = card_of (reading line.bytes) in
+    rw (defined-placed_at codes S line (place S before) card.body, defined-placed_cards codes S (card ∷ before) lines) refl
 
 pub defined_are : (codes text : List ℕ) (S : List Entry) → map defined (placed_cards (card_lines text) (definitions codes S (cards text))) ≡ definitions codes S (cards text)
-defined_are codes text S = defined-placed_cards (card_lines text) (definitions codes S (cards text)) (length-definitions codes text S)
+defined_are codes text S = defined-placed_cards codes S [] (card_lines text)
 
 -- one for each line
-length-placed_cards : (lines : List LineAt) (words : List (Option PlacedWord)) → length words ≡ length lines → length (placed_cards lines words) ≡ length lines
+length-placed_cards : (lines : List LineAt) (words : CardWords) → length words ≡ length lines → length (placed_cards lines words) ≡ length lines
 length-placed_cards [] words same = refl
 length-placed_cards (line ∷ lines) [] same = same
 length-placed_cards (line ∷ lines) (one ∷ words) same = ap suc (length-placed_cards lines words (omega arith))
 
 -- their spans follow each other
-spans_along : (text : List ℕ) (from : ℕ) (lines : List LineAt) (words : List (Option PlacedWord)) → Follow text from lines → AreSpans from (length text) (placed_cards lines words)
+spans_along : (text : List ℕ) (from : ℕ) (lines : List LineAt) (words : CardWords) → Follow text from lines → AreSpans from (length text) (placed_cards lines words)
 spans_along text from [] words follow = tt
 spans_along text from (line ∷ lines) [] follow = tt
-spans_along text from (line ∷ lines) (None ∷ words) follow = (follow.0, omega arith, follow.1.within, spans_along text (line.start + length line.bytes + 1) lines words follow.2)
-spans_along text from (line ∷ lines) (Some one ∷ words) follow = (follow.0, omega arith, follow.1.within, spans_along text (line.start + length line.bytes + 1) lines words follow.2)
-
--- their words stand in the memory
-stands_within : (line : LineAt) (word : ℕ) (at : Option ℕ) → IfSome at (λ place. place < 4096) → IsInMemory (placed_at line (placed_word word at))
-stands_within line word None within = tt
-stands_within line word (Some at) within = within
-
-within_along : (codes : List ℕ) (S : List Entry) (before : List Card) (lines : List LineAt) → All (λ at. IfSome at (λ place. place < 4096)) (places_after S before (cards_in lines))
-    → All IsInMemory (placed_cards lines (definitions_after codes S before (cards_in lines)))
-unfolding definitions_after places_after
-within_along codes S before [] within = λ k d lt. absurd (omega (arith, lt))
-within_along codes S before (line ∷ lines) within =
-    let card = card_of (reading line.bytes) in
-    let stands = place_of_word (place S before) card.body in
-    All-cons IsInMemory (placed_at line (definition codes S before card)) (placed_cards lines (definitions_after codes S (card ∷ before) (cards_in lines)))
-    (stands_within line (word_at codes S (place S before) card.body) stands (All-head (λ at. IfSome at (λ place. place < 4096)) stands (places_after S (card ∷ before) (cards_in lines)) within))
-    (within_along codes S (card ∷ before) lines (All-tail (λ at. IfSome at (λ place. place < 4096)) stands (places_after S (card ∷ before) (cards_in lines)) within))
-
--- ---- the phases
-
-pub made_within : (codes text : List ℕ) (placed made : List Placed) (S : List Entry) → early.IsPlaced text placed S → made ≡ placed_cards (card_lines text) (definitions codes S (cards text)) → All IsInMemory made
-made_within codes text placed made S so is = rw is (within_along codes S [] (card_lines text) (words_within text S so.fits so.faultless))
-
-pub made_once : (codes text : List ℕ) (made : List Placed) (S : List Entry) → made ≡ placed_cards (card_lines text) (definitions codes S (cards text)) → first_word_fault S text ≡ None
-    → EachPlaceOnce (placed_words (map defined made))
-made_once codes text made S is none = rw (is, defined_are codes text S) (words_once codes text S none)
-
-pub refused_early : (text : List ℕ) (error : AssembleError) → early.IsRefused text error → IsRefused text error
-refused_early text (Source error) so = record { symbols = so.symbols; fits = so.fits; first = rw so.first refl }
-refused_early text NoMemory so = tt
-
-pub refused_words : (text : List ℕ) (placed : List Placed) (S : List Entry) (error : AssembleError) → early.IsPlaced text placed S → Stops (first_word_fault S text) error → IsRefused text error
-refused_words text placed S (Source error) so stops = record { symbols = S; fits = so.fits; first = rw so.faultless stops }
-refused_words text placed S NoMemory so stops = tt
-
-pub assembled : (codes text : List ℕ) (placed made : List Placed) (S : List Entry) (image : List (Option ℕ)) → early.IsPlaced text placed S → made ≡ placed_cards (card_lines text) (definitions codes S (cards text))
-    → first_word_fault S text ≡ None → IsImageOf (placed_words (map defined made)) image → IsAssembled codes text made S image
-assembled codes text placed made S image so is none image_is = record {
-  fits = so.fits;
-  faultless = rw (so.faultless, none) refl;
-  cards_are = is;
-  image_is = rw (is, defined_are codes text S) at image_is;
-}
+spans_along text from (line ∷ lines) ([] ∷ words) follow = (follow.0, omega arith, follow.1.within, spans_along text (line.start + length line.bytes + 1) lines words follow.2)
+spans_along text from (line ∷ lines) ((one ∷ more) ∷ words) follow = (follow.0, omega arith, follow.1.within, spans_along text (line.start + length line.bytes + 1) lines words follow.2)
 
 -- ---- the answer
 
 module _ (codes text : List ℕ) where
-  pub defines_made : (result : Result Assembled AssembleError) → IfOk result (λ made. IsAssembled codes text made.cards.items made.symbols made.image) → IfOk result (λ made. Defines codes text (map defined made.cards.items))
+  pub defines_made : (result : Result Assembled AssembleError) → IfOk result (λ made. IsAssembled codes text made.cards.items made.symbols made.image) → IfOk result (λ made. Defines codes text (card_words made))
   defines_made (Ok made) so = record { symbols = made.symbols; fits = so.fits; faultless = so.faultless; words = rw so.cards_are (defined_are codes text made.symbols) }
   defines_made (Err error) so = tt
 
   pub image_made : (result : Result Assembled AssembleError) → IfOk result (λ made. IsAssembled codes text made.cards.items made.symbols made.image)
-      → IfOk result (λ made. IsImageOf (placed_words (map defined made.cards.items)) made.image)
+      → IfOk result (λ made. IsImageOf (placed_words (card_words made)) made.image)
   image_made (Ok made) so = rw (so.cards_are, defined_are codes text made.symbols) so.image_is
   image_made (Err error) so = tt
 
@@ -113,7 +75,7 @@ module _ (codes text : List ℕ) where
   spans_made (Err error) so = tt
 
 pub words_exactly : (codes text : List ℕ) (result : Result Assembled AssembleError) → IfOk result (λ made. IsAssembled codes text made.cards.items made.symbols made.image) → IfErr result (IsRefused text)
-    → (words : List (Option PlacedWord)) → Defines codes text words → (IsOkAnd result (λ made. made.cards.items ≡ placed_cards (card_lines text) words)) ⊎ (IsErrOf result NoMemory)
+    → (words : CardWords) → Defines codes text words → (IsOkAnd result (λ made. made.cards.items ≡ placed_cards (card_lines text) words)) ⊎ (IsErrOf result NoMemory)
 words_exactly codes text (Ok made) is refused words defines =
     let mine : Defines codes text (definitions codes made.symbols (cards text)) = record { symbols = made.symbols; fits = is.fits; faultless = is.faultless; words = refl } in
     inl (is.cards_are ∙ ap (placed_cards (card_lines text)) (one_meaning codes text (definitions codes made.symbols (cards text)) words mine defines))
@@ -127,13 +89,3 @@ faulty_exactly codes text (Ok made) is refused error faulty =
     absurd (not_both codes text (definitions codes made.symbols (cards text)) error mine faulty)
 faulty_exactly codes text (Err (Source other)) is refused error faulty = inl (ap (λ (e : SourceError). Err (Source e)) (one_fault text other error refused faulty))
 faulty_exactly codes text (Err NoMemory) is refused error faulty = inr refl
-
--- ---- a list that was written through a slice
-
--- what is read of it is what was written
-front_written : (xs ys : List Placed) → take (length xs) (xs ++ ys) ≡ xs
-front_written [] ys = refl
-front_written (x ∷ xs) ys = ap (λ (rest : List Placed). x ∷ rest) (front_written xs ys)
-
-pub written : (xs ys : List Placed) (n : ℕ) → n ≡ length xs → take n (xs ++ ys) ≡ xs
-written xs ys n same = rw same (front_written xs ys)

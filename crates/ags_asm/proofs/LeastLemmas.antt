@@ -1,6 +1,5 @@
 -- The fault that is told of a source is the least of all that its cards are faulty by.
 use Rattle.std.proofs.Common.{◌≡◌, ℕ, ◌<◌, List, [], Option, Some, None, refl, sym, ap, subst, ◌∙◌, inl, inr, arith}
-use Rattle.ags_image.specs.Image.{PlacedWord}
 use Rattle.ags_card.specs.declared.cards.Card.{Card}
 use Rattle.ags_card.specs.declared.cards.CardFault.{CardFault}
 use Rattle.ags_card.specs.declared.cards.CardFault.TheVariants as card
@@ -18,7 +17,7 @@ use Rattle.ags_places.proofs.PlaceFaultLemmas.{place_fault_holds, place_fault_le
 use Rattle.ags_asm.specs.Faulty.{ArePlacedBefore, HasWordFault, IsFaultyCard, IsLeastFaulty, IsMismadeBy, NoneBefore, Phase, phase_number, phase_of}
 use Rattle.ags_asm.specs.Faulty.Phase.{Cards, Places, Words}
 use Rattle.ags_asm.specs.Source.{Defines, IsFaulty}
-use Rattle.ags_asm.specs.Word.{first_word_fault}
+use Rattle.ags_asm.specs.Word.{CardWords, first_word_fault}
 use Rattle.ags_asm.proofs.MeaningLemmas.{each_means}
 use Rattle.ags_asm.proofs.WordFaultLemmas.{word_fault_holds, word_fault_least, word_faultless}
 
@@ -142,7 +141,7 @@ both_none : {F : Type 0} (first later : Option F) → or_else first later ≡ No
 both_none None later none = (refl, none)
 both_none (Some fault) later none = absurd cc
 
-pub defined_faultless : (codes text : List ℕ) (defined : List (Option PlacedWord)) → Defines codes text defined → (phase : Phase) (card : ℕ) (kind : SourceKind)
+pub defined_faultless : (codes text : List ℕ) (defined : CardWords) → Defines codes text defined → (phase : Phase) (card : ℕ) (kind : SourceKind)
     → IsFaultyCard text phase card kind → ⊥
 defined_faultless codes text defined so phase card kind faulty =
     let (early, word) = both_none (early_fault so.symbols text) (first_word_fault so.symbols text) so.faultless in

@@ -1,9 +1,16 @@
 pub mod ApartLemmas
 pub mod AssembleLemmas
-pub mod FillingLemmas
+pub mod FaultLemmas
+pub mod HalfMadeLemmas
+pub mod KeptLemmas
 pub mod LeastLemmas
 pub mod MakingLemmas
 pub mod MeaningLemmas
 pub mod MemoryLemmas
+pub mod OwnedLemmas
 pub mod OwnerLemmas
+pub mod PassLemmas
+pub mod PlacingLemmas
+pub mod ReadingLemmas
 pub mod WordFaultLemmas
+pub mod WordedLemmas

@@ -6,7 +6,6 @@
 use Rattle.std.proofs.Common.{◌≡◌, ℕ, suc, List, [], ◌∷◌, length, Option, Some, None, refl, sym, ap, subst, ◌∙◌, inl, inr}
 use Rattle.std.specs.Prelude.{◌⊎◌}
 use Rattle.std.proofs.lemmas.List.{length-map}
-use Rattle.ags_image.specs.Image.{PlacedWord}
 use Rattle.ags_card.specs.declared.cards.Card.{Card}
 use Rattle.ags_card.specs.Reading.{reading}
 use Rattle.ags_symbol.specs.Symbol.{Entry}
@@ -16,11 +15,11 @@ use Rattle.ags_places.specs.Deck.{card_of, card_lines, cards}
 use Rattle.ags_places.specs.Place.{Fits}
 use Rattle.ags_places.proofs.RunningLemmas.{some_fits, fits_one}
 use Rattle.ags_asm.specs.Source.{source_fault, Defines, IsFaulty}
-use Rattle.ags_asm.specs.Word.{definitions, definitions_after}
+use Rattle.ags_asm.specs.Word.{CardWords, definitions, definitions_after}
 
 -- ---- a text means one thing
 
-pub one_meaning : (codes text : List ℕ) (defined other : List (Option PlacedWord)) → Defines codes text defined → Defines codes text other → defined ≡ other
+pub one_meaning : (codes text : List ℕ) (defined other : CardWords) → Defines codes text defined → Defines codes text other → defined ≡ other
 one_meaning codes text defined other one two =
     let same = fits_one one.symbols two.symbols (cards text) one.fits two.fits in
     one.words ∙ ap (λ (S : List Entry). definitions codes S (cards text)) same ∙ sym two.words
@@ -35,7 +34,7 @@ one_fault text error other one two =
     let same = fits_one one.symbols two.symbols (cards text) one.fits two.fits in
     error_of error other (sym one.first ∙ ap (λ (S : List Entry). source_fault S text) same ∙ two.first)
 
-pub not_both : (codes text : List ℕ) (defined : List (Option PlacedWord)) (error : SourceError) → Defines codes text defined → IsFaulty text error → ⊥
+pub not_both : (codes text : List ℕ) (defined : CardWords) (error : SourceError) → Defines codes text defined → IsFaulty text error → ⊥
 not_both codes text defined error defines faulty =
     let same = fits_one defines.symbols faulty.symbols (cards text) defines.fits faulty.fits in
     let none : source_fault faulty.symbols text ≡ None = subst (λ (S : List Entry). source_fault S text ≡ None) same defines.faultless in
@@ -45,11 +44,11 @@ not_both codes text defined error defines faulty =
 -- ---- no text means nothing
 
 means_by : (codes text : List ℕ) (S : List Entry) (found : Option (ℕ × SourceKind)) → Fits S (cards text) → source_fault S text ≡ found
-    → ((defined : List (Option PlacedWord)) × Defines codes text defined) ⊎ ((error : SourceError) × IsFaulty text error)
+    → ((defined : CardWords) × Defines codes text defined) ⊎ ((error : SourceError) × IsFaulty text error)
 means_by codes text S None fits is = inl (definitions codes S (cards text), record { symbols = S; fits = fits; faultless = is; words = refl })
 means_by codes text S (Some fault) fits is = inr (record { card = fault.0; kind = fault.1 }, record { symbols = S; fits = fits; first = is })
 
-pub each_means : (codes text : List ℕ) → ((defined : List (Option PlacedWord)) × Defines codes text defined) ⊎ ((error : SourceError) × IsFaulty text error)
+pub each_means : (codes text : List ℕ) → ((defined : CardWords) × Defines codes text defined) ⊎ ((error : SourceError) × IsFaulty text error)
 each_means codes text =
     let some = some_fits (cards text) in
     means_by codes text some.0 (source_fault some.0 text) some.1 refl
@@ -64,5 +63,5 @@ length-definitions_after codes S before (card ∷ cards) = ap suc (length-defini
 pub length-definitions : (codes text : List ℕ) (S : List Entry) → length (definitions codes S (cards text)) ≡ length (card_lines text)
 length-definitions codes text S = length-definitions_after codes S [] (cards text) ∙ length-map (card_lines text) (λ line. card_of (reading line.bytes))
 
-pub one_for_each : (codes text : List ℕ) (defined : List (Option PlacedWord)) → Defines codes text defined → length defined ≡ length (card_lines text)
+pub one_for_each : (codes text : List ℕ) (defined : CardWords) → Defines codes text defined → length defined ≡ length (card_lines text)
 one_for_each codes text defined so = ap length so.words ∙ length-definitions codes text so.symbols

@@ -1,11 +1,11 @@
 -- What a source defines are words of the memory. The crates above cite `words_of_memory`, behind the law
 -- `source_defines_words_of_the_memory`.
-use Rattle.std.proofs.Common.{◌≡◌, ℕ, ◌+◌, ◌<◌, ◌≤◌, ◌^◌, Bool, true, false, cond, List, [], ◌∷◌, length, All, Option, Some, None, unwrap_or, refl, ap, subst, inl, inr, arith, ℤ, pos, negsuc}
+use Rattle.std.proofs.Common.{◌≡◌, ℕ, zero, suc, get_or, ◌+◌, ◌<◌, ◌≤◌, ◌^◌, Bool, true, false, cond, List, [], ◌∷◌, length, All, Option, Some, None, unwrap_or, refl, subst, inl, inr, arith, ℤ, pos, negsuc}
 use Rattle.std.specs.Prelude.{Result, Ok, Err, IfSome, IsOk, unsigned_abs}
 use Rattle.std.specs.List.{Contains}
 use Rattle.std.proofs.lemmas.Bool.{leb-true, and_parts}
-use Rattle.std.proofs.lemmas.List.Elements.{All-head, All-tail}
-use Rattle.ags_text.specs.Fault.{first_fault}
+use Rattle.std.proofs.lemmas.List.Elements.{All-head, All-tail, Contains-append_cases}
+use Rattle.ags_text.specs.Fault.{first_fault, or_later}
 use Rattle.ags_text.specs.Line.{LineAt}
 use Rattle.ags_word.specs.Word.{fits, word_of_value}
 use Rattle.ags_word.proofs.WordLaws.{wrap_below, word_of_value-fits, word_of_value-not}
@@ -23,15 +23,13 @@ use Rattle.ags_card.proofs.LimitLaws.{card_limits}
 use Rattle.ags_symbol.specs.Symbol.{Entry, sum_of}
 use Rattle.ags_places.specs.declared.source_error.SourceKind.{SourceKind}
 use Rattle.ags_places.specs.declared.source_error.SourceKind.TheVariants.{AddressRange}
-use Rattle.ags_places.specs.Deck.{card_of, card_lines, cards_in}
-use Rattle.ags_places.specs.Fault.{is_place, or_else, early_fault, first_card_fault, first_place_fault}
+use Rattle.ags_places.specs.Deck.{card_of, card_lines, cards_in, readings}
+use Rattle.ags_places.specs.Fault.{card_fault, is_place, early_fault, first_card_fault, first_place_fault}
 use Rattle.ags_places.specs.Place.{operand, place, place_of_word, places_after}
 use Rattle.ags_places.proofs.PlacingLemmas.{words_within}
-use Rattle.ags_asm.specs.Making.{AreCards}
 use Rattle.ags_asm.specs.Source.{Defines, placed_words}
-use Rattle.ags_asm.specs.Word.{address_fault, word_at, placed_word, definition, definitions_after, word_fault_at, taken, word_fault, first_word_fault}
-use Rattle.ags_asm.proofs.ApartLemmas.{none_later, second_none, stands_of, word_cases}
-use Rattle.ags_asm.proofs.MakingLemmas.{are_cards, first_none}
+use Rattle.ags_asm.specs.Word.{CardWords, address_fault, words_at, definition, definitions_after, word_fault_at, taken, word_fault, first_word_fault}
+use Rattle.ags_asm.proofs.ApartLemmas.{none_later, first_none, second_none, in_from}
 
 -- ---- the word of a card
 
@@ -53,15 +51,34 @@ value_small : (value : ℤ) (b : Bool) → fits value ≡ b → unwrap_or (word_
 value_small value true is = rw (word_of_value-fits value is) (wrap_below value)
 value_small value false is = rw (word_of_value-not value is) (omega arith)
 
-word_small : (codes : List ℕ) (S : List Entry) (at : ℕ) (body : Body) → AreCodes codes → KeepsLimits body → word_fault_at S at body ≡ None → word_at codes S at body < 2 ^ 18
-word_small codes S at Comment are limits none = omega arith
-word_small codes S at (Order order terms indexed) are limits none = order_word-below codes are order indexed (unsigned_abs (operand S at terms)) (address_small (sum_of S at terms) none)
-word_small codes S at (Org terms) are limits none = omega arith
-word_small codes S at (Equ terms) are limits none = omega arith
-word_small codes S at (Bss terms) are limits none = omega arith
-word_small codes S at (Dec decimal) are limits none = value_small (nearest_value decimal) (fits (nearest_value decimal)) refl
-word_small codes S at (Oct word) are limits none = limits
-word_small codes S at End are limits none = omega arith
+only : (word : ℕ) (i : ℕ) → i < 1 → word < 2 ^ 18 → get_or (word ∷ []) i 0 < 2 ^ 18
+only word zero within small = small
+only word (suc i) within small = absurd (omega (arith, within))
+
+no_more : (i : ℕ) → i < 0 → get_or {A = ℕ} [] i 0 < 2 ^ 18
+no_more i within = absurd (omega (arith, within))
+
+words_small : (codes : List ℕ) (S : List Entry) (at : ℕ) (body : Body) (i : ℕ) → AreCodes codes → KeepsLimits body → word_fault_at S at body ≡ None → i < length (words_at codes S at body)
+    → get_or (words_at codes S at body) i 0 < 2 ^ 18
+words_small codes S at Comment i are limits none within = no_more i within
+words_small codes S at (Order order terms indexed) i are limits none within =
+    only _ i within (order_word-below codes are order indexed (unsigned_abs (operand S at terms)) (address_small (sum_of S at terms) none))
+words_small codes S at (Org terms) i are limits none within = no_more i within
+words_small codes S at (Equ terms) i are limits none within = no_more i within
+words_small codes S at (Bss terms) i are limits none within = no_more i within
+words_small codes S at (Dec decimal) i are limits none within = only _ i within (value_small (nearest_value decimal) (fits (nearest_value decimal)) refl)
+words_small codes S at (Oct word) i are limits none within = only word i within limits
+words_small codes S at End i are limits none within = no_more i within
+
+place_small : (codes : List ℕ) (S : List Entry) (at : ℕ) (body : Body) (i : ℕ) → IfSome (place_of_word at body) (λ place. place < 4096) → i < length (words_at codes S at body) → at + i < 4096
+place_small codes S at Comment i small within = absurd (omega (arith, within))
+place_small codes S at (Order order terms indexed) i small within = omega (arith, small, within)
+place_small codes S at (Org terms) i small within = absurd (omega (arith, within))
+place_small codes S at (Equ terms) i small within = absurd (omega (arith, within))
+place_small codes S at (Bss terms) i small within = absurd (omega (arith, within))
+place_small codes S at (Dec decimal) i small within = omega (arith, small, within)
+place_small codes S at (Oct word) i small within = omega (arith, small, within)
+place_small codes S at End i small within = absurd (omega (arith, within))
 
 -- ---- of each card
 
@@ -69,41 +86,38 @@ limits_of : (bytes : List ℕ) (read : Result Card CardFault) → reading bytes 
 limits_of bytes (Ok card) is ok = card_limits bytes card is
 limits_of bytes (Err fault) is ok = absurd cc
 
-first_word : (first later : Option SourceKind) → or_else first later ≡ None → first ≡ None
-first_word None later none = refl
-first_word (Some kind) later none = absurd cc
+card_here : (number : ℕ) (read : Result Card CardFault) (later : Option (ℕ × SourceKind)) → or_later number (card_fault [] read) later ≡ None → IsOk read × (later ≡ None)
+card_here number (Ok card) later none = (refl, none)
+card_here number (Err fault) later none = absurd cc
 
--- the word of a definition
-word_of : (word : ℕ) (stands : Option ℕ) (one : PlacedWord) → placed_word word stands ≡ Some one → word ≡ one.word
-word_of word None one is = absurd cc
-word_of word (Some at) one is =
-    let same : ◌≡◌ {A = PlacedWord} (record { place = at; word = word }) one = cc in
-    ap (λ (p : PlacedWord). p.word) same
-
-memory_along : (codes : List ℕ) (S : List Entry) (before : List Card) (lines : List LineAt) (one : PlacedWord) → AreCodes codes → AreCards lines
+memory_along : (codes : List ℕ) (S : List Entry) (before : List Card) (lines : List LineAt) (was : List (Result Card CardFault)) (one : PlacedWord) → AreCodes codes → first_fault card_fault was (readings lines) ≡ None
     → All (λ at. IfSome at (λ place. place < 4096)) (places_after S before (cards_in lines)) → first_fault (word_fault S) before (cards_in lines) ≡ None
     → Contains (placed_words (definitions_after codes S before (cards_in lines))) one → IsMemoryWord one
 unfolding first_fault definitions_after places_after
-memory_along codes S before [] one are read within none among = absurd (omega (arith, among.1))
-memory_along codes S before (line ∷ lines) one are read within none among =
+memory_along codes S before [] was one are read within none among = absurd (omega (arith, among.1))
+memory_along codes S before (line ∷ lines) was one are read within none among =
     let card = card_of (reading line.bytes) in
-    let stands = place_of_word (place S before) card.body in
+    let at = place S before in
+    let stands = place_of_word at card.body in
+    let lines_read = card_here (length was + 1) (reading line.bytes) (first_fault card_fault (reading line.bytes ∷ was) (readings lines)) read in
     let parts = none_later (length before + 1) (word_fault S before card) (first_fault (word_fault S) (card ∷ before) (cards_in lines)) none in
-    elim (word_cases (definition codes S before card) (definitions_after codes S (card ∷ before) (cards_in lines)) one among) [
+    elim (Contains-append_cases (definition codes S before card) (placed_words (definitions_after codes S (card ∷ before) (cards_in lines))) one among) [
       | inl here ↦
-          let at : stands ≡ Some one.place = stands_of (word_at codes S (place S before) card.body) stands one here in
+          let so = in_from at (words_at codes S at card.body) one here in
           let inside : IfSome stands (λ place. place < 4096) = All-head (λ at. IfSome at (λ place. place < 4096)) stands (places_after S (card ∷ before) (cards_in lines)) within in
-          let faultless = first_word (word_fault_at S (place S before) card.body) (taken S before stands) parts.0 in
-          let small = word_small codes S (place S before) card.body are (limits_of line.bytes (reading line.bytes) refl read.0) faultless in
-          record { place = rw at at inside; word = rw (word_of (word_at codes S (place S before) card.body) stands one here) at small }
+          let faultless = first_none (word_fault_at S at card.body) (taken S before card) parts.0 in
+          record {
+            place = omega (arith, so.2, place_small codes S at card.body so.0 inside so.1);
+            word = rw so.3 (words_small codes S at card.body so.0 are (limits_of line.bytes (reading line.bytes) refl lines_read.0) faultless so.1);
+          }
       | inr later ↦
-          memory_along codes S (card ∷ before) lines one are read.1
+          memory_along codes S (card ∷ before) lines (reading line.bytes ∷ was) one are lines_read.1
           (All-tail (λ at. IfSome at (λ place. place < 4096)) stands (places_after S (card ∷ before) (cards_in lines)) within) parts.1 later
     ]
 
-pub words_of_memory : (codes text : List ℕ) (defined : List (Option PlacedWord)) → AreCodes codes → Defines codes text defined → (one : PlacedWord) → Contains (placed_words defined) one → IsMemoryWord one
+pub words_of_memory : (codes text : List ℕ) (defined : CardWords) → AreCodes codes → Defines codes text defined → (one : PlacedWord) → Contains (placed_words defined) one → IsMemoryWord one
 words_of_memory codes text defined are so one among =
     let early = first_none (early_fault so.symbols text) (first_word_fault so.symbols text) so.faultless in
-    let read = are_cards [] (card_lines text) (first_none (first_card_fault text) (first_place_fault so.symbols text) early) in
-    memory_along codes so.symbols [] (card_lines text) one are read (words_within text so.symbols so.fits early)
-    (second_none (early_fault so.symbols text) (first_word_fault so.symbols text) so.faultless) (subst (λ (words : List (Option PlacedWord)). Contains (placed_words words) one) so.words among)
+    let read = first_none (first_card_fault text) (first_place_fault so.symbols text) early in
+    memory_along codes so.symbols [] (card_lines text) [] one are read (words_within text so.symbols so.fits early)
+    (second_none (early_fault so.symbols text) (first_word_fault so.symbols text) so.faultless) (subst (λ (words : CardWords). Contains (placed_words words) one) so.words among)

@@ -1,5 +1,5 @@
 -- The first fault of the phase of words is the least of all.
-use Rattle.std.proofs.Common.{◌≡◌, ℕ, ◌≤◌, Bool, true, false, cond, List, [], ◌∷◌, reverse, Option, Some, None, option_map, refl, sym, ap, subst, ◌∙◌, ◌⊎◌, inl, inr, arith}
+use Rattle.std.proofs.Common.{◌≡◌, ℕ, zero, suc, ◌+◌, ◌<◌, ◌≤◌, Bool, true, false, cond, List, [], ◌∷◌, reverse, Option, Some, None, option_map, refl, sym, ap, subst, ◌∙◌, ◌⊎◌, inl, inr, arith}
 use Rattle.std.specs.Prelude.{is_some, ℤ, pos}
 use Rattle.std.specs.List.{Contains, filter_map, cons_option}
 use Rattle.ags_word.specs.Word.{fits}
@@ -17,14 +17,14 @@ use Rattle.ags_places.specs.declared.source_error.SourceKind.TheVariants.{BadByt
 use Rattle.ags_places.specs.Deck.{cards}
 use Rattle.ags_places.specs.Fault.{is_place, or_else}
 use Rattle.ags_places.specs.Faulty.{HoldsAt, kind_number}
-use Rattle.ags_places.specs.Place.{Fits, place, place_of_word}
+use Rattle.ags_places.specs.Place.{Fits, count, place}
 use Rattle.ags_places.proofs.FirstLemmas.{NoLater, Tells, first_holds, first_least, first_none}
 use Rattle.ags_places.proofs.NameLemmas.{names_fit}
 use Rattle.ags_places.proofs.RangeLemmas.{outside, outside_fails}
 use Rattle.ags_places.proofs.RunningLemmas.{fits_one}
-use Rattle.ags_asm.specs.Faulty.{HasWordFault, IsMismadeBy, NamesNoCard, StandsBefore}
-use Rattle.ags_asm.specs.Word.{address_fault, first_word_fault, owner, taken, word_fault, word_fault_at}
-use Rattle.ags_asm.proofs.OwnerLemmas.{owner_stands, owner_none}
+use Rattle.ags_asm.specs.Faulty.{HasWordAt, HasWordFault, IsMismadeBy, NamesNoCard, StandsBefore}
+use Rattle.ags_asm.specs.Word.{address_fault, first_word_fault, owner, taken, taken_from, word_fault, word_fault_at}
+use Rattle.ags_asm.proofs.OwnerLemmas.{owner_stands, owner_none, unowned_here}
 
 -- ---- the symbols that cards define
 
@@ -77,6 +77,30 @@ card_symbol (first ∷ all) card name among is = elim (Contains-cons first card 
   | inl this ↦ this_symbol first.symbol name (filter_map (λ card. card.symbol) all) (ap (λ (c : Card). c.symbol) this ∙ is)
   | inr later ↦ later_symbol first.symbol name (filter_map (λ card. card.symbol) all) (card_symbol all card name later is)
 ]
+
+-- ---- places that are taken
+
+-- one of so many places from one on is owned, and that is the fault
+record Owned (owned : ℕ → Option ℕ) (at many : ℕ) (kind : SourceKind) : Type 0 where
+  there : ℕ
+  first : ℕ
+  from : at ≤ there
+  below : there < at + many
+  owned_by : owned there ≡ Some first
+  kind_is : PlaceTwice first ≡ kind
+
+owned_step : (owned : ℕ → Option ℕ) (at many : ℕ) (kind : SourceKind) (here : Option ℕ) → owned at ≡ here → (taken_from owned (at + 1) many ≡ Some kind → Owned owned (at + 1) many kind)
+    → or_else (option_map PlaceTwice here) (taken_from owned (at + 1) many) ≡ Some kind → Owned owned at (suc many) kind
+owned_step owned at many kind None is later told =
+    let so = later told in
+    record { there = so.there; first = so.first; from = omega (arith, so.from); below = omega (arith, so.below); owned_by = so.owned_by; kind_is = so.kind_is }
+owned_step owned at many kind (Some first) is later told =
+    let same : PlaceTwice first ≡ kind = cc in
+    record { there = at; first = first; from = omega arith; below = omega arith; owned_by = is; kind_is = same }
+
+owned_somewhere : (owned : ℕ → Option ℕ) (at many : ℕ) (kind : SourceKind) → taken_from owned at many ≡ Some kind → Owned owned at many kind
+owned_somewhere owned at zero kind told = absurd cc
+owned_somewhere owned at (suc many) kind told = owned_step owned at many kind (owned at) refl (owned_somewhere owned (at + 1) many kind) told
 
 module _ (S : List Entry) (all : List Card) (fitting : Fits S all) where
   names_are : names S ≡ symbols all
@@ -135,19 +159,14 @@ module _ (S : List Entry) (all : List Card) (fitting : Fits S all) where
     word_sound (Oct word) kind body is = absurd cc
     word_sound End kind body is = absurd cc
 
-    taken_sound : (stands : Option ℕ) (kind : SourceKind) → place_of_word (place S before) card.body ≡ stands → taken S before stands ≡ Some kind → IsMismadeBy S all kind before card
-    taken_sound None kind stands is = absurd cc
-    taken_sound (Some at) kind stands is = by_owner (owner S at before) refl is
-      where
-        by_owner : (owned : Option ℕ) → owner S at before ≡ owned → ◌≡◌ {A = Option SourceKind} (option_map PlaceTwice owned) (Some kind) → IsMismadeBy S all kind before card
-        by_owner None owned told = absurd cc
-        by_owner (Some first) owned told =
-            let same : PlaceTwice first ≡ kind = cc in
-            rw (sym same) (at, stands, owner_stands S at before first owned)
+    taken_sound : (kind : SourceKind) → taken S before card ≡ Some kind → IsMismadeBy S all kind before card
+    taken_sound kind is =
+        let so = owned_somewhere (λ q. owner S q before) (place S before) (count card.body) kind is in
+        rw (sym so.kind_is) (so.there, (so.from, so.below), owner_stands S so.there before so.first so.owned_by)
 
     by_word : (wrong : Option SourceKind) (kind : SourceKind) → word_fault_at S (place S before) card.body ≡ wrong
-        → or_else wrong (taken S before (place_of_word (place S before) card.body)) ≡ Some kind → IsMismadeBy S all kind before card
-    by_word None kind wrong is = taken_sound (place_of_word (place S before) card.body) kind refl is
+        → or_else wrong (taken S before card) ≡ Some kind → IsMismadeBy S all kind before card
+    by_word None kind wrong is = taken_sound kind is
     by_word (Some one) kind wrong is =
         let same : one ≡ kind = cc in
         word_sound card.body kind refl (wrong ∙ ap Some same)
@@ -162,7 +181,7 @@ module _ (S : List Entry) (all : List Card) (fitting : Fits S all) where
 
     told_word : (kind : SourceKind) → word_fault_at S (place S before) card.body ≡ Some kind → Told (kind_number kind)
     unfolding Told
-    told_word kind is = (kind, ap (λ (one : Option SourceKind). or_else one (taken S before (place_of_word (place S before) card.body))) is, omega arith)
+    told_word kind is = (kind, ap (λ (one : Option SourceKind). or_else one (taken S before card)) is, omega arith)
 
     at_most : (kind : SourceKind) → kind_number kind ≤ 16
     at_most BadByte = omega arith
@@ -182,21 +201,14 @@ module _ (S : List Entry) (all : List Card) (fitting : Fits S all) where
     at_most ValueRange = omega arith
     at_most (PlaceTwice first) = omega arith
 
-    taken_tells : (at first : ℕ) → place_of_word (place S before) card.body ≡ Some at → StandsBefore S before first at → Told 16
+    taken_tells : (at first : ℕ) → HasWordAt S before card at → StandsBefore S before first at → Told 16
     unfolding Told
-    taken_tells at first here stands = by_owner (owner S at before) refl
+    taken_tells at first here stands = by_fault (word_fault_at S (place S before) card.body) (taken S before card) refl refl
       where
-        by_fault : (wrong : Option SourceKind) (number : ℕ) → word_fault_at S (place S before) card.body ≡ wrong → taken S before (place_of_word (place S before) card.body) ≡ Some (PlaceTwice number)
-            → Told 16
-        by_fault None number wrong told =
-            (PlaceTwice number, ap (λ (one : Option SourceKind). or_else one (taken S before (place_of_word (place S before) card.body))) wrong ∙ told, omega arith)
-        by_fault (Some one) number wrong told =
-            (one, ap (λ (one : Option SourceKind). or_else one (taken S before (place_of_word (place S before) card.body))) wrong, at_most one)
-
-        by_owner : (owned : Option ℕ) → owner S at before ≡ owned → Told 16
-        by_owner None owned = absurd (owner_none S at before owned first stands)
-        by_owner (Some number) owned =
-            by_fault (word_fault_at S (place S before) card.body) number refl (ap (taken S before) here ∙ ap (option_map PlaceTwice) owned)
+        by_fault : (wrong found : Option SourceKind) → word_fault_at S (place S before) card.body ≡ wrong → taken S before card ≡ found → Told 16
+        by_fault (Some one) found wrong told = (one, ap (λ (one : Option SourceKind). or_else one (taken S before card)) wrong, at_most one)
+        by_fault None (Some one) wrong told = (one, ap (λ (one : Option SourceKind). or_else one (taken S before card)) wrong ∙ told, at_most one)
+        by_fault None None wrong told = absurd (owner_none S at before (unowned_here S before card at told here) first stands)
 
     mismade_least : (kind : SourceKind) → IsMismadeBy S all kind before card → (g : SourceKind) × (word_fault S before card ≡ Some g) × (kind_number g ≤ kind_number kind)
     unfolding Told

@@ -1,6 +1,6 @@
 -- The faulty cards of a source, by the phase, the card's number and the kind of fault, each kind by a condition of its own, as
 -- docs/SOURCE.md has them; and which of them is the least.
-use Rattle.std.specs.Prelude.{◌≡◌, ◌≢◌, ◌⊎◌, ℕ, ◌<◌, ◌≤◌, Bool, false, List, Some, pos, ◌<ℤ◌}
+use Rattle.std.specs.Prelude.{◌≡◌, ◌≢◌, ◌⊎◌, ℕ, ◌+◌, ◌<◌, ◌≤◌, Bool, false, List, Some, pos, ◌<ℤ◌}
 use Rattle.std.specs.List.{Contains}
 use Rattle.ags_word.specs.Word.{fits}
 use Rattle.ags_isa.specs.declared.orders.Order as isa
@@ -14,7 +14,7 @@ use Rattle.ags_places.specs.declared.source_error.SourceKind.{SourceKind}
 use Rattle.ags_places.specs.declared.source_error.SourceKind.TheVariants.{BadByte, LongCard, BadSymbol, UnknownOperation, MissingOperand, ExtraOperand, BadExpression, BadDecimal, BadOctal, SymbolTwice, UndefinedEarly, PlaceRange, Undefined, AddressRange, ValueRange, PlaceTwice}
 use Rattle.ags_places.specs.Deck.{cards}
 use Rattle.ags_places.specs.Faulty.{HasCardFault, HasPlaceFault, HoldsAt, IsBefore, kind_number}
-use Rattle.ags_places.specs.Place.{Fits, place, place_of_word}
+use Rattle.ags_places.specs.Place.{Fits, count, place}
 
 -- ---- the phase of words
 
@@ -29,9 +29,13 @@ NamesNoCard cards terms = (term : Term) × (name : List ℕ) × Contains terms t
 abbrev pub IsOrderOf : Card → List Term → Type 0
 IsOrderOf card terms = (order : isa.Order) × (indexed : Bool) × (card.body ≡ Order order terms indexed)
 
--- an earlier card, of that number, has its word at the place
+-- the card has a word at the place: its words stand from its own place on
+abbrev pub HasWordAt : List Entry → (before : List Card) → Card → (at : ℕ) → Type 0
+HasWordAt S before card at = (place S before ≤ at) × (at < place S before + count card.body)
+
+-- an earlier card, of that number, has a word at the place
 abbrev pub StandsBefore : List Entry → (before : List Card) → (number at : ℕ) → Type 0
-StandsBefore S before number at = (card : Card) × (earlier : List Card) × IsBefore before number card earlier × (place_of_word (place S earlier) card.body ≡ Some at)
+StandsBefore S before number at = (card : Card) × (earlier : List Card) × IsBefore before number card earlier × HasWordAt S earlier card at
 
 -- the nearest of them, whose number is the greatest
 abbrev pub StandsNearest : List Entry → (before : List Card) → (number at : ℕ) → Type 0
@@ -43,7 +47,7 @@ IsMismadeBy S cards Undefined before card = (terms : List Term) × IsOrderOf car
 IsMismadeBy S cards (AddressRange value) before card = (terms : List Term) × IsOrderOf card terms × (sum_of S (place S before) terms ≡ Some value)
     × ((value <ℤ pos 0) ⊎ (pos 4095 <ℤ value))
 IsMismadeBy S cards ValueRange before card = (decimal : Parts) × (card.body ≡ Dec decimal) × (fits (nearest_value decimal) ≡ false)
-IsMismadeBy S cards (PlaceTwice first) before card = (at : ℕ) × (place_of_word (place S before) card.body ≡ Some at) × StandsBefore S before first at
+IsMismadeBy S cards (PlaceTwice first) before card = (at : ℕ) × HasWordAt S before card at × StandsBefore S before first at
 IsMismadeBy S cards BadByte before card = ⊥
 IsMismadeBy S cards LongCard before card = ⊥
 IsMismadeBy S cards BadSymbol before card = ⊥

@@ -3,4 +3,9 @@ pub mod Faulty
 pub mod Source
 pub mod Word
 -- what serves inside
-pub mod Making
+pub mod HalfMade
+pub mod Made
+pub mod Pass
+pub mod Passing
+pub mod Waiting
+pub mod Worded

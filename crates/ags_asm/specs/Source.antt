@@ -1,7 +1,8 @@
 -- What a source means: the words that it defines, or its first fault.
 pub use Rattle.ags_places.specs.Source.{AreSpans, IsInMemory}
-use Rattle.std.specs.Prelude.{◌≡◌, ℕ, ◌+◌, List, [], ◌∷◌, length, Option, Some, None, option_map}
-use Rattle.std.specs.List.{filter_map}
+pub use Rattle.ags_asm.specs.Word.{CardWords}
+use Rattle.std.specs.Prelude.{◌≡◌, ℕ, ◌+◌, List, [], ◌∷◌, length, map, Option, Some, None}
+use Rattle.std.specs.List.{flat_map}
 use Rattle.ags_text.specs.Line.{LineAt}
 use Rattle.ags_image.specs.Image.{PlacedWord, IsImageOf}
 use Rattle.ags_symbol.specs.Symbol.{Entry}
@@ -13,6 +14,7 @@ use Rattle.ags_places.specs.declared.source_error.AssembleError.TheVariants.{Sou
 use Rattle.ags_places.specs.Deck.{card_lines, cards}
 use Rattle.ags_places.specs.Place.{Fits}
 use Rattle.ags_places.specs.Fault.{or_else, early_fault}
+use Rattle.ags_asm.specs.declared.assembling.Assembled.{Assembled}
 use Rattle.ags_asm.specs.Word.{definitions, first_word_fault}
 
 -- The first fault of a source, where S fits its cards: the phase of cards comes first, then that of places, then that of
@@ -20,9 +22,9 @@ use Rattle.ags_asm.specs.Word.{definitions, first_word_fault}
 abbrev pub source_fault : List Entry → List ℕ → Option (ℕ × SourceKind)
 source_fault S text = or_else (early_fault S text) (first_word_fault S text)
 
--- The text is a source without a fault, and these are the places and the words of its cards by the table of codes: one entry for
--- each card.
-pub record Defines (codes text : List ℕ) (defined : List (Option PlacedWord)) : Type 0 where
+-- The text is a source without a fault, and these are the words of its cards, each with its place, by the table of codes: one list
+-- for each card.
+pub record Defines (codes text : List ℕ) (defined : CardWords) : Type 0 where
   pub symbols : List Entry
   pub fits : Fits symbols (cards text)
   pub faultless : source_fault symbols text ≡ None
@@ -40,23 +42,32 @@ IsRefused text (Source error) = IsFaulty text error
 IsRefused text NoMemory = Unit {0}
 
 -- the words that the cards have, each with its place, in the order of the cards
-abbrev pub placed_words : List (Option PlacedWord) → List PlacedWord
-placed_words defined = filter_map (λ one. one) defined
+abbrev pub placed_words : CardWords → List PlacedWord
+placed_words defined = flat_map (λ words. words) defined
 
--- the place and the word of an assembled card
-abbrev pub defined : Placed → Option PlacedWord
-defined card = option_map (λ at. record { place = at; word = card.word }) card.place
+-- a word at its place, where there is one
+abbrev pub words_there : Option ℕ → ℕ → List PlacedWord
+words_there None word = []
+words_there (Some at) word = record { place = at; word = word } ∷ []
 
--- a card as it was assembled: the span of its line, and its place and word, where it has one
-abbrev pub placed_at : LineAt → Option PlacedWord → Placed
-placed_at line None = record { start = line.start; end = line.start + length line.bytes; place = None; word = 0 }
-placed_at line (Some one) = record { start = line.start; end = line.start + length line.bytes; place = Some one.place; word = one.word }
+-- the words of an assembled card, each with its place
+abbrev pub defined : Placed → List PlacedWord
+defined card = words_there card.place card.word
 
--- each line's card so, where there are as many entries as lines
-abbrev pub placed_cards : List LineAt → List (Option PlacedWord) → List Placed
+-- the words of an assembled source's cards
+abbrev pub card_words : Assembled → CardWords
+card_words made = map defined made.cards.items
+
+-- a card as it was assembled: the span of its line, and the place of its first word with that word, where it has one
+abbrev pub placed_at : LineAt → List PlacedWord → Placed
+placed_at line [] = record { start = line.start; end = line.start + length line.bytes; place = None; word = 0 }
+placed_at line (one ∷ more) = record { start = line.start; end = line.start + length line.bytes; place = Some one.place; word = one.word }
+
+-- each line's card so, where there are as many lists as lines
+abbrev pub placed_cards : List LineAt → CardWords → List Placed
 placed_cards [] defined = []
 placed_cards (line ∷ lines) [] = []
-placed_cards (line ∷ lines) (one ∷ defined) = placed_at line one ∷ placed_cards lines defined
+placed_cards (line ∷ lines) (words ∷ defined) = placed_at line words ∷ placed_cards lines defined
 
 -- The text is a source without a fault, these are its cards with their places and words, S is what its symbols stand for, and
 -- the image has exactly these words.

@@ -1,6 +1,6 @@
--- The words of a source's cards, each at its place, and what is wrong with them. The list S is that of the pairs that fit the
--- cards: here an operand is taken over all of them, also those of later cards.
-use Rattle.std.specs.Prelude.{ℕ, ◌+◌, Bool, false, ◌==◌, if◌then◌else◌, List, [], ◌∷◌, length, Option, Some, None, option_map, unwrap_or, is_some, ℤ, unsigned_abs}
+-- The words of a source's cards, each card's as a list from its place on, and what is wrong with them. The list S is that of the
+-- pairs that fit the cards: here an operand is taken over all of them, also those of later cards.
+use Rattle.std.specs.Prelude.{ℕ, zero, suc, ◌+◌, Bool, ◌&&◌, nat_le, nat_lt, if◌then◌else◌, List, [], ◌∷◌, length, Option, Some, None, option_map, unwrap_or, is_some, ℤ, unsigned_abs}
 use Rattle.ags_text.specs.Fault.{first_fault}
 use Rattle.ags_isa.specs.Naming.{order_word}
 use Rattle.ags_decimal.specs.Decimal.{decimal_word}
@@ -12,40 +12,45 @@ use Rattle.ags_symbol.specs.Symbol.{Entry, sum_of}
 use Rattle.ags_places.specs.declared.source_error.SourceKind.{SourceKind}
 use Rattle.ags_places.specs.declared.source_error.SourceKind.TheVariants.{Undefined, AddressRange, ValueRange, PlaceTwice}
 use Rattle.ags_places.specs.Deck.{cards}
-use Rattle.ags_places.specs.Place.{operand, place, place_of_word}
+use Rattle.ags_places.specs.Place.{count, operand, place}
 use Rattle.ags_places.specs.Fault.{is_place, or_else}
 
 -- The list `before` of a definition has the cards before one, nearest first.
 
 -- ---- words
 
--- The word of a card at its place, by the table of codes: of an order its code, its index and the address that its operand comes
--- to, of a DEC the word nearest to its value, of an OCT its own. It is 0 for a card without a word, and for one with a fault.
-abbrev pub word_at : List ℕ → List Entry → ℕ → Body → ℕ
-word_at codes S at Comment = 0
-word_at codes S at (Order order terms indexed) = order_word codes order indexed (unsigned_abs (operand S at terms))
-word_at codes S at (Org terms) = 0
-word_at codes S at (Equ terms) = 0
-word_at codes S at (Bss terms) = 0
-word_at codes S at (Dec decimal) = unwrap_or (decimal_word decimal) 0
-word_at codes S at (Oct word) = word
-word_at codes S at End = 0
+-- What the cards of a source have in the memory: for each card, in order, the list of its words, each with its place.
+abbrev pub CardWords : Type 0
+CardWords = List (List PlacedWord)
 
--- a word at its place, where there is one
-abbrev pub placed_word : ℕ → Option ℕ → Option PlacedWord
-placed_word word at = option_map (λ place. record { place = place; word = word }) at
+-- The words of a card at its place, by the table of codes: of an order its code, its index and the address that its operand comes
+-- to, of a DEC the word nearest to its value, of an OCT its own. A word is 0 where its card has a fault.
+abbrev pub words_at : List ℕ → List Entry → ℕ → Body → List ℕ
+words_at codes S at Comment = []
+words_at codes S at (Order order terms indexed) = order_word codes order indexed (unsigned_abs (operand S at terms)) ∷ []
+words_at codes S at (Org terms) = []
+words_at codes S at (Equ terms) = []
+words_at codes S at (Bss terms) = []
+words_at codes S at (Dec decimal) = unwrap_or (decimal_word decimal) 0 ∷ []
+words_at codes S at (Oct word) = word ∷ []
+words_at codes S at End = []
 
--- the place and the word of a card, where it has one
-abbrev pub definition : List ℕ → List Entry → List Card → Card → Option PlacedWord
-definition codes S before card = placed_word (word_at codes S (place S before) card.body) (place_of_word (place S before) card.body)
+-- words at a place and those behind it
+abbrev pub placed_from : ℕ → List ℕ → List PlacedWord
+placed_from at [] = []
+placed_from at (word ∷ words) = record { place = at; word = word } ∷ placed_from (at + 1) words
 
--- the places and the words of the cards that follow those before, one entry for each card
-unfoldable pub definitions_after : List ℕ → List Entry → List Card → List Card → List (Option PlacedWord)
+-- the words of a card, each with its place
+abbrev pub definition : List ℕ → List Entry → List Card → Card → List PlacedWord
+definition codes S before card = placed_from (place S before) (words_at codes S (place S before) card.body)
+
+-- the words of the cards that follow those before, one list for each card
+unfoldable pub definitions_after : List ℕ → List Entry → List Card → List Card → CardWords
 definitions_after codes S before [] = []
 definitions_after codes S before (card ∷ cards) = definition codes S before card ∷ definitions_after codes S (card ∷ before) cards
 
--- the places and the words of the cards, one entry for each card
-abbrev pub definitions : List ℕ → List Entry → List Card → List (Option PlacedWord)
+-- the words of the cards, one list for each card
+abbrev pub definitions : List ℕ → List Entry → List Card → CardWords
 definitions codes S cards = definitions_after codes S [] cards
 
 -- ---- faults of the phase of words
@@ -55,7 +60,7 @@ abbrev pub address_fault : Option ℤ → Option SourceKind
 address_fault None = Some Undefined
 address_fault (Some value) = if is_place value then None else Some (AddressRange value)
 
--- what is wrong with a card's word at its place
+-- what is wrong with a card's words at its place
 abbrev pub word_fault_at : List Entry → ℕ → Body → Option SourceKind
 word_fault_at S at Comment = None
 word_fault_at S at (Order order terms indexed) = address_fault (sum_of S at terms)
@@ -66,24 +71,27 @@ word_fault_at S at (Dec decimal) = if is_some (decimal_word decimal) then None e
 word_fault_at S at (Oct word) = None
 word_fault_at S at End = None
 
--- whether a word's place is this one
-abbrev pub stands_at : ℕ → Option ℕ → Bool
-stands_at at None = false
-stands_at at (Some place) = place == at
+-- whether a place is one of so many from a place on
+abbrev pub is_among : ℕ → (at many : ℕ) → Bool
+is_among q at many = nat_le at q && nat_lt q (at + many)
 
--- the number of the nearest card before whose word stands at the place
+-- the number of the nearest card before that has a word at the place
 unfoldable pub owner : List Entry → ℕ → List Card → Option ℕ
-owner S at [] = None
-owner S at (card ∷ before) = if stands_at at (place_of_word (place S before) card.body) then Some (length before + 1) else owner S at before
+owner S q [] = None
+owner S q (card ∷ before) = if is_among q (place S before) (count card.body) then Some (length before + 1) else owner S q before
 
--- an earlier card has its word at the place of this one
-abbrev pub taken : List Entry → List Card → Option ℕ → Option SourceKind
-taken S before None = None
-taken S before (Some at) = option_map PlaceTwice (owner S at before)
+-- of so many places from one on the least that is owned, told by its owner
+abbrev pub taken_from : (ℕ → Option ℕ) → (at many : ℕ) → Option SourceKind
+taken_from owned at zero = None
+taken_from owned at (suc many) = or_else (option_map PlaceTwice (owned at)) (taken_from owned (at + 1) many)
 
--- the fault of a card behind those before it: what is wrong with its word comes before that its place is taken
+-- an earlier card has a word at a place of this one: of its places the least that is taken counts
+abbrev pub taken : List Entry → List Card → Card → Option SourceKind
+taken S before card = taken_from (λ q. owner S q before) (place S before) (count card.body)
+
+-- the fault of a card behind those before it: what is wrong with its words comes before that a place is taken
 abbrev pub word_fault : List Entry → List Card → Card → Option SourceKind
-word_fault S before card = or_else (word_fault_at S (place S before) card.body) (taken S before (place_of_word (place S before) card.body))
+word_fault S before card = or_else (word_fault_at S (place S before) card.body) (taken S before card)
 
 -- the first fault of a source in the phase of words, where S fits its cards
 abbrev pub first_word_fault : List Entry → List ℕ → Option (ℕ × SourceKind)

@@ -1,20 +1,18 @@
-//! The assembler: the phases, one after the other.
+//! The assembler: a source's cards, each read once, and what came of them at its end.
 
-ghost use Rattle.std.specs.Prelude.{◌≡◌, ◌≤◌, ◌⊎◌, List, Option, length, map, All, None, OnOk, IfOk, IfErr, IsOkAnd, IsErrOf};
-ghost use Rattle.ags_image.specs.Image.{PlacedWord, IsImageOf};
+ghost use Rattle.std.specs.Prelude.{◌≡◌, ◌≤◌, ◌⊎◌, length, All, IfOk, IfErr, IsOkAnd, IsErrOf};
+ghost use Rattle.ags_image.specs.Image.{IsImageOf};
 ghost use Rattle.ags_places.specs.declared.source_error.SourceError.{SourceError};
-ghost use Rattle.ags_places.specs.Deck.{card_lines, cards_in};
-ghost use Rattle.ags_places.specs.Source.{IsPlaced};
-ghost use Rattle.ags_asm.specs.Making.{Stops};
-ghost use Rattle.ags_asm.specs.Word.{definitions, first_word_fault};
-ghost use Rattle.ags_asm.specs.Source.{AreSpans, Defines, IsAssembled, IsFaulty, IsInMemory, IsRefused, defined, placed_cards, placed_words};
+ghost use Rattle.ags_places.specs.Deck.{card_lines};
 ghost use Rattle.ags_places.specs.Limit.{source_limit};
+ghost use Rattle.ags_asm.specs.Pass.{IsClosed, IsPassed};
+ghost use Rattle.ags_asm.specs.Source.{AreSpans, CardWords, Defines, IsAssembled, IsFaulty, IsInMemory, IsRefused, card_words, placed_cards, placed_words};
 
-use crate::filling::image_of;
-use crate::making::make_words;
+use crate::passing::{Pass, read_cards};
+use crate::wording::fill_words;
 use ags_image::Image;
 use ags_isa::Codes;
-use ags_places::{AssembleError, Placed, PlacedSource, SOURCE_LIMIT, place_all};
+use ags_places::{AssembleError, Placed, SOURCE_LIMIT};
 use ags_symbol::Symbols;
 use std::alloc::Global;
 
@@ -29,35 +27,47 @@ pub struct Assembled {
     pub symbols: Symbols,
 }
 
-/// The cards of a placed source with their words.
-fn word_cards(
-    alloc: Global,
-    bytes: &[u8],
-    codes: &Codes,
-    symbols: &Symbols,
-    mut cards: Vec<Placed>,
-) -> Result<Vec<Placed>, AssembleError>
-    requires limit { length bytes.now ≤ source_limit }
-    requires placed { IsPlaced bytes.now cards.items symbols.now }
-    requires within { All IsInMemory cards.items }
-    ensures made { IfOk result (λ made. made.items ≡ placed_cards (card_lines bytes.now) (definitions codes.now symbols.now (cards_in (card_lines bytes.now)))) }
-    ensures faultless { OnOk result (first_word_fault symbols.now bytes.now ≡ None) }
-    ensures refused { IfErr result (Stops (first_word_fault symbols.now bytes.now)) }
+/// What a source whose cards were read comes to: the image of its words, its cards before their words are filled in, and its symbols.
+fn close_pass(codes: &Codes, bytes: &[u8], pass: Pass) -> Result<Assembled, AssembleError>
+    requires { IsPassed codes.now bytes.now pass }
+    ensures closed { IfOk result (λ made. IsClosed codes.now bytes.now made.cards.items made.symbols made.image) }
+    ensures refused { IfErr result (IsRefused bytes.now) }
 {
-    make_words(alloc, bytes, codes, symbols, &mut cards)?;
-    Ok(cards)
+    let Pass {
+        cards,
+        symbols,
+        mut words,
+        misplaced,
+        ..
+    } = pass;
+    if let Some(error) = misplaced {
+        return Err(AssembleError::Source(error));
+    }
+    if let Some(error) = words.close(codes, &symbols) {
+        return Err(AssembleError::Source(error));
+    }
+    Ok(Assembled {
+        image: words.image,
+        cards,
+        symbols,
+    })
 }
 
-/// The phases, one after the other, each on what the one before it made.
-fn run_phases(alloc: Global, bytes: &[u8], codes: &Codes) -> Result<Assembled, AssembleError>
+/// Reads a source, each card once, and closes it.
+fn assemble_once(alloc: Global, bytes: &[u8], codes: &Codes) -> Result<Assembled, AssembleError>
     requires { length bytes.now ≤ source_limit }
     ensures assembled { IfOk result (λ made. IsAssembled codes.now bytes.now made.cards.items made.symbols made.image) }
     ensures refused { IfErr result (IsRefused bytes.now) }
     ensures within { IfOk result (λ made. All IsInMemory made.cards.items) }
 {
-    let PlacedSource { cards, symbols } = place_all(alloc, bytes)?;
-    let cards = word_cards(alloc, bytes, codes, &symbols, cards)?;
-    let image = image_of(alloc, &cards)?;
+    let mut pass = Pass::new(alloc)?;
+    read_cards(codes, bytes, &mut pass)?;
+    let Assembled {
+        image,
+        mut cards,
+        symbols,
+    } = close_pass(codes, bytes, pass)?;
+    fill_words(&mut cards, &image);
     Ok(Assembled {
         image,
         cards,
@@ -74,12 +84,12 @@ pub fn assemble(alloc: Global, bytes: &[u8], codes: &Codes) -> Result<Assembled,
     // It is a source without a fault, and these are its cards, whose places and words are those that it defines, the one list of
     // pairs that fits them, and the image of the words; or its first fault is this one.
     ensures assembled { IfOk result (λ made. IsAssembled codes.now bytes.now made.cards.items made.symbols made.image) }
-    ensures defines { IfOk result (λ made. Defines codes.now bytes.now (map defined made.cards.items)) }
-    ensures image { IfOk result (λ made. IsImageOf (placed_words (map defined made.cards.items)) made.image) }
+    ensures defines { IfOk result (λ made. Defines codes.now bytes.now (card_words made)) }
+    ensures image { IfOk result (λ made. IsImageOf (placed_words (card_words made)) made.image) }
     ensures refused { IfErr result (IsRefused bytes.now) }
 
     // A source without a fault is assembled, and one with a fault is refused for it, unless memory runs out.
-    ensures faultless { (words : List (Option PlacedWord)) → Defines codes.now bytes.now words
+    ensures faultless { (words : CardWords) → Defines codes.now bytes.now words
         → IsOkAnd result (λ made. made.cards.items ≡ placed_cards (card_lines bytes.now) words) ⊎ IsErrOf result AssembleError.NoMemory }
     ensures faulty { (error : SourceError) → IsFaulty bytes.now error
         → IsErrOf result (AssembleError.Source error) ⊎ IsErrOf result AssembleError.NoMemory }
@@ -91,5 +101,5 @@ pub fn assemble(alloc: Global, bytes: &[u8], codes: &Codes) -> Result<Assembled,
     ensures within { IfOk result (λ made. All IsInMemory made.cards.items) }
     ensures spans { IfOk result (λ made. AreSpans 0 (length bytes.now) made.cards.items) }
 {
-    run_phases(alloc, bytes, codes)
+    assemble_once(alloc, bytes, codes)
 }

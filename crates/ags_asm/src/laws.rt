@@ -1,7 +1,7 @@
 //! Laws of sources: what a text means, and what it defines. Behind each clause is a lemma of `proofs/`, which the crates
 //! above cite.
 
-ghost use Rattle.std.specs.Prelude.{◌≡◌, ◌⊎◌, ◌↔◌, ℕ, List, [], Option, Some, None, length, reverse};
+ghost use Rattle.std.specs.Prelude.{◌≡◌, ◌⊎◌, ◌↔◌, ℕ, List, [], Some, None, length, reverse};
 ghost use Rattle.std.specs.List.{Contains};
 ghost use Rattle.ags_text.specs.Fault.{first_fault};
 ghost use Rattle.ags_isa.specs.Code.{AreCodes};
@@ -13,39 +13,39 @@ ghost use Rattle.ags_places.specs.Deck.{card_lines};
 ghost use Rattle.ags_places.specs.Faulty.{kind_number};
 ghost use Rattle.ags_symbol.specs.Symbol.{Entry};
 ghost use Rattle.ags_asm.specs.Faulty.{IsFaultyCard, IsLeastFaulty, Phase, StandsBefore, StandsNearest, phase_of};
-ghost use Rattle.ags_asm.specs.Source.{Defines, IsFaulty, placed_words};
+ghost use Rattle.ags_asm.specs.Source.{CardWords, Defines, IsFaulty, placed_words};
 ghost use Rattle.ags_asm.specs.Word.{owner, word_fault};
 
 /// A text means one thing by a table of codes: it defines one list of words, or it has one first fault, and never both.
 pub fn source_means_one_thing()
-    ensures words { (codes text : List ℕ) (one other : List (Option PlacedWord)) → Defines codes text one
+    ensures words { (codes text : List ℕ) (one other : CardWords) → Defines codes text one
         → Defines codes text other → one ≡ other }
     ensures fault { (text : List ℕ) (one other : SourceError) → IsFaulty text one → IsFaulty text other → one ≡ other }
-    ensures not_both { (codes text : List ℕ) (defined : List (Option PlacedWord)) (error : SourceError)
+    ensures not_both { (codes text : List ℕ) (defined : CardWords) (error : SourceError)
         → Defines codes text defined → IsFaulty text error → ⊥ }
 {}
 
 /// Each text means something: it defines words, or it has a first fault.
 pub fn each_text_has_a_meaning()
-    ensures { (codes text : List ℕ) → ((defined : List (Option PlacedWord)) × Defines codes text defined)
+    ensures { (codes text : List ℕ) → ((defined : CardWords) × Defines codes text defined)
         ⊎ ((error : SourceError) × IsFaulty text error) }
 {}
 
 /// What a source defines has each place once.
 pub fn source_defines_each_place_once()
-    ensures { (codes text : List ℕ) (defined : List (Option PlacedWord)) → Defines codes text defined
+    ensures { (codes text : List ℕ) (defined : CardWords) → Defines codes text defined
         → EachPlaceOnce (placed_words defined) }
 {}
 
 /// What a source defines are words of the memory: each is put at one of its places, and is below 2 ^ 18.
 pub fn source_defines_words_of_the_memory()
-    ensures { (codes text : List ℕ) (defined : List (Option PlacedWord)) → AreCodes codes → Defines codes text defined
+    ensures { (codes text : List ℕ) (defined : CardWords) → AreCodes codes → Defines codes text defined
         → (placed : PlacedWord) → Contains (placed_words defined) placed → IsMemoryWord placed }
 {}
 
-/// What a source defines has one entry for each of its cards.
+/// What a source defines has one list of words for each of its cards.
 pub fn each_card_has_its_definition()
-    ensures { (codes text : List ℕ) (defined : List (Option PlacedWord)) → Defines codes text defined
+    ensures { (codes text : List ℕ) (defined : CardWords) → Defines codes text defined
         → length defined ≡ length (card_lines text) }
 {}
 
@@ -56,12 +56,12 @@ pub fn least_fault_is_told()
         → IsLeastFaulty text (phase_of error.kind) error.card error.kind }
     ensures least { (text : List ℕ) (phase : Phase) (card : ℕ) (kind : SourceKind) → IsLeastFaulty text phase card kind
         → (error : SourceError) × IsFaulty text error × (error.card ≡ card) × (kind_number error.kind ≡ kind_number kind) }
-    ensures none { (codes text : List ℕ) (defined : List (Option PlacedWord)) → Defines codes text defined
+    ensures none { (codes text : List ℕ) (defined : CardWords) → Defines codes text defined
         → (phase : Phase) (card : ℕ) (kind : SourceKind) → IsFaultyCard text phase card kind → ⊥ }
 {}
 
-/// The owner of a place is the nearest of the earlier cards whose word stands there, and there is none exactly where no earlier
-/// card's does. Of cards without a fault of the phase of words only one has its word at a place, so there it is that one.
+/// The owner of a place is the nearest of the earlier cards that have a word there, and there is none exactly where no earlier
+/// card has one. Of cards without a fault of the phase of words only one has a word at a place, so there it is that one.
 pub fn owner_is_the_nearest_earlier_card()
     ensures some { (S : List Entry) (before : List Card) (number at : ℕ) → (owner S at before ≡ Some number) ↔ StandsNearest S before number at }
     ensures none { (S : List Entry) (before : List Card) (at : ℕ) → (owner S at before ≡ None) ↔ ((number : ℕ) → StandsBefore S before number at → ⊥) }

@@ -1,13 +1,17 @@
 //! The assembler: from a source's bytes to the image of its words, its cards with their places and words, and its
-//! symbols, or to its first fault. It stands on `ags_places` for the first two phases and makes the words, and
-//! `assemble` answers exactly what the definitions in `specs/` say of the text.
+//! symbols, or to its first fault. It reads each card once: an order whose symbols aren't all defined yet leaves a fix-up,
+//! which the end of the source closes. `ags_places` places the cards, and `assemble` answers exactly what the definitions in
+//! `specs/` say of the text, which speak of no pass.
 #![tactic(auto)]
 
 mod assembling;
-mod filling;
+mod closing;
+mod fix_ups;
+mod half_words;
 mod laws;
 mod making;
-mod words;
+mod passing;
+mod wording;
 
 pub use ags_places::{AssembleError, Placed, SOURCE_LIMIT, SourceError, SourceKind};
 pub use assembling::{Assembled, assemble};

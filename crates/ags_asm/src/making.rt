@@ -1,89 +1,79 @@
-//! The phase of words: each card's word, and no two at one place (docs/SOURCE.md, Faults).
+//! The words of a card at its place, as far as the symbols are known (docs/SOURCE.md, Orders, DEC and OCT).
 
-ghost use Rattle.std.specs.Prelude.{◌≡◌, ◌≤◌, length, replicate, All, None, Some, OnOk, IfOk, IfErr, IsOk, slice_range};
-ghost use Rattle.ags_card.specs.Reading.{reading};
-ghost use Rattle.ags_places.specs.Deck.{card_of, card_lines, cards_in};
-ghost use Rattle.ags_places.specs.Fault.{or_else};
-ghost use Rattle.ags_places.specs.Source.{IsPlaced, IsInMemory};
-ghost use Rattle.ags_asm.specs.Making.{taken_by, Stops};
-ghost use Rattle.ags_asm.specs.Source.{placed_cards};
-ghost use Rattle.ags_asm.specs.Word.{definitions, first_word_fault, word_at, word_fault_at};
-ghost use Rattle.ags_places.specs.Limit.{source_limit};
+ghost use Rattle.std.specs.Prelude.{◌≡◌, ◌+◌, ◌≤◌, ◌<◌, ◌++◌, List, Some, None, OnOk, IfOk, IfErr, unsigned_abs};
+ghost use Rattle.ags_symbol.specs.Symbol.{Entry};
+ghost use Rattle.ags_places.specs.Place.{count};
+ghost use Rattle.ags_asm.specs.Made.{IsMadeAs, WaitsAt};
+ghost use Rattle.ags_asm.specs.Word.{address_fault};
 
-use crate::words::word_of_line;
-use ags_isa::Codes;
-use ags_places::{AssembleError, Placed, SOURCE_LIMIT, SourceKind};
+use crate::fix_ups::{FixUp, Made};
+use ags_card::{Body, Terms};
+use ags_isa::{Codes, Order, encode};
+use ags_places::SourceKind;
 use ags_symbol::Symbols;
-use ags_word::{LOCATIONS, Word};
-use std::alloc::{AllocError, Global};
+use ags_word::LOCATIONS;
 
-/// For each place of the memory 0, since no card's word stands there yet.
-fn no_owners(alloc: Global) -> Result<Vec<u32>, AllocError>
-    ensures { IfOk result (λ owners. owners.items ≡ replicate 4096 0) }
+/// The address that a known operand comes to.
+pub(crate) fn address_of(value: i32) -> Result<u16, SourceKind>
+    ensures address { IfOk result (λ address. address ≡ unsigned_abs value) }
+    ensures small { IfOk result (λ address. address < 4096) }
+    ensures faultless { OnOk result (address_fault (Some value) ≡ None) }
+    ensures fault { IfErr result (λ kind. address_fault (Some value) ≡ Some kind) }
 {
-    vec![in alloc; 0u32; LOCATIONS as usize]
+    if value < 0 || value >= i32::from(LOCATIONS) {
+        return Err(SourceKind::AddressRange { value });
+    }
+    Ok(value as u16)
 }
 
-/// The line of a card.
-fn line_of<'a>(bytes: &'a [u8], card: &Placed) -> &'a [u8]
-    requires ordered { card.now.start ≤ card.now.end }
-    requires within { card.now.end ≤ length bytes.now }
-    ensures { result.now ≡ slice_range bytes.now card.now.start card.now.end }
-{
-    &bytes[card.start as usize..card.end as usize]
-}
-
-/// The word of a card whose place the card of the number `first` owns, or none where that is 0.
-fn place_once(
+/// An order, which waits where one of its symbols isn't defined yet.
+fn make_order(
     codes: &Codes,
     symbols: &Symbols,
+    number: u32,
     place: u16,
-    line: &[u8],
-    first: u32,
-) -> Result<Word, SourceKind>
-    requires place { place ≤ 4096 }
-    requires card { IsOk (reading line.now) }
-    ensures word { IfOk result (λ word. word ≡ word_at codes.now symbols.now place (card_of (reading line.now)).body) }
-    ensures faultless { OnOk result (or_else (word_fault_at symbols.now place (card_of (reading line.now)).body) (taken_by first) ≡ None) }
-    ensures fault { IfErr result (λ kind. or_else (word_fault_at symbols.now place (card_of (reading line.now)).body) (taken_by first) ≡ Some kind) }
+    order: Order,
+    terms: &Terms,
+    indexed: bool,
+) -> Made
+    requires { place < 4096 }
+    ensures there { WaitsAt place result }
+    ensures made { (later : List Entry) → IsMadeAs codes.now (symbols.now ++ later) number place (Body.Order order terms.now indexed) result }
 {
-    let word = word_of_line(codes, symbols, place, line)?;
-    if first != 0 {
-        return Err(SourceKind::PlaceTwice { first });
+    if let Some(value) = symbols.sum_of_terms(terms.items(), place) {
+        return match address_of(value) {
+            Ok(address) => Made::Word(encode(codes, order, indexed, address)),
+            Err(kind) => Made::Fault(kind),
+        };
     }
-    Ok(word)
+    let (sum, rest) = symbols.split(terms, place);
+    Made::Waits(FixUp {
+        card: number,
+        place,
+        order,
+        indexed,
+        sum,
+        rest,
+    })
 }
 
-/// Makes the words of a source's placed cards, or finds the first fault of the phase of words.
-pub(crate) fn make_words(
-    alloc: Global,
-    bytes: &[u8],
-    codes: &Codes,
-    symbols: &Symbols,
-    cards: &mut [Placed],
-) -> Result<(), AssembleError>
-    requires limit { length bytes.now ≤ source_limit }
-    requires placed { IsPlaced bytes.now cards.old symbols.now }
-    requires within { All IsInMemory cards.old }
-    ensures made { OnOk result (cards.new ≡ placed_cards (card_lines bytes.now) (definitions codes.now symbols.now (cards_in (card_lines bytes.now)))) }
-    ensures faultless { OnOk result (first_word_fault symbols.now bytes.now ≡ None) }
-    ensures refused { IfErr result (Stops (first_word_fault symbols.now bytes.now)) }
+/// What a card's words are made as at its place, whatever pairs come behind those that are known.
+pub(crate) fn make(codes: &Codes, symbols: &Symbols, number: u32, place: u16, body: &Body) -> Made
+    requires { place + count body.now ≤ 4096 }
+    ensures made { (later : List Entry) → IsMadeAs codes.now (symbols.now ++ later) number place body.now result }
+    ensures there { WaitsAt place result }
 {
-    // the number of the card whose word stands at each place, or 0
-    let mut owners = no_owners(alloc)?;
-    for index in 0..cards.len() {
-        let card = cards[index];
-        let Some(place) = card.place else {
-            continue;
-        };
-        let line = line_of(bytes, &card);
-        let first = owners[place as usize];
-        let word = match place_once(codes, symbols, place, line, first) {
-            Ok(word) => word,
-            Err(kind) => return Err(AssembleError::at(index, kind)),
-        };
-        owners[place as usize] = index as u32 + 1;
-        cards[index] = Placed { word, ..card };
+    match body {
+        Body::Comment | Body::Org(_) | Body::Equ(_) | Body::Bss(_) | Body::End => Made::Nothing,
+        Body::Order {
+            order,
+            terms,
+            indexed,
+        } => make_order(codes, symbols, number, place, *order, terms, *indexed),
+        Body::Dec(decimal) => match ags_decimal::word(decimal) {
+            Some(word) => Made::Word(word),
+            None => Made::Fault(SourceKind::ValueRange),
+        },
+        Body::Oct(word) => Made::Word(*word),
     }
-    Ok(())
 }

@@ -1,17 +1,17 @@
 -- What the bytes of a listing mean, and that a source's listing means its words.
-use Rattle.std.proofs.Common.{◌≡◌, ℕ, suc, ◌+◌, ◌<◌, Bool, true, false, ◌&&◌, List, [], ◌∷◌, length, take, drop, Option, Some, None, refl, sym, ap, subst, ◌∙◌, ◌⊎◌, inl, inr, arith}
+use Rattle.std.proofs.Common.{◌≡◌, ℕ, suc, ◌+◌, ◌<◌, Bool, true, false, ◌&&◌, List, [], ◌∷◌, ◌++◌, length, take, drop, Option, Some, None, refl, sym, ap, subst, ◌∙◌, ◌⊎◌, inl, inr, arith}
 use Rattle.std.specs.Prelude.{nat_lt, IfSome, if◌then◌else◌}
 use Rattle.std.specs.List.{All, Contains, list_all}
 use Rattle.std.proofs.lemmas.Bool.Decides.{nat_tests}
 use Rattle.std.proofs.lemmas.List.{length-take-le, length-drop}
-use Rattle.std.proofs.lemmas.List.Elements.{All-cons}
+use Rattle.std.proofs.lemmas.List.Elements.{All-cons, Contains-append_left, Contains-append_right, filter_map-append}
 use Rattle.ags_text.specs.Line.{LineAt, HasNoFeed, IsCutFrom, lines_of}
 use Rattle.ags_text.proofs.CutLemmas.{lines_are_cut}
 use Rattle.ags_isa.specs.Code.{AreCodes}
 use Rattle.ags_image.specs.Image.{PlacedWord, IsMemoryWord, IsImageOf}
 use Rattle.ags_card.specs.Reading.{reading}
 use Rattle.ags_places.specs.Deck.{deck, ends, card_lines}
-use Rattle.ags_asm.specs.Source.{Defines, placed_words}
+use Rattle.ags_asm.specs.Source.{CardWords, Defines, placed_words}
 use Rattle.ags_asm.proofs.ApartLemmas.{each_place_once}
 use Rattle.ags_asm.proofs.MeaningLemmas.{one_for_each}
 use Rattle.ags_asm.proofs.MemoryLemmas.{words_of_memory}
@@ -25,7 +25,7 @@ use Rattle.ags_image.proofs.MeaningLemmas.{each_means, one_reading}
 use Rattle.ags_image.proofs.ReadLemmas.{read_faultless}
 use Rattle.ags_listing.specs.declared.list_error.ListError.{ListError}
 use Rattle.ags_listing.specs.declared.list_error.ListError.TheVariants.{BadLine, PlaceTwice, NoMemory}
-use Rattle.ags_listing.specs.Listing.{PrintedCard, IsPrintable, printed_words, printed_from, listing}
+use Rattle.ags_listing.specs.Listing.{PrintedCard, IsPrintable, printed_words, printed_more, printed_card, printed_from, listing}
 use Rattle.ags_listing.specs.Reads.{is_ruled, is_space, said, put, listing_form, Reads, IsFaultyListing}
 use Rattle.ags_listing.proofs.ListingLemmas.{printed_reads}
 
@@ -121,12 +121,21 @@ cards_unbroken : (text : List ℕ) → AreUnbroken (card_lines text)
 cards_unbroken text = deck_unbroken (lines_of text) (cut_unbroken 0 text (lines_of text) (lines_are_cut text))
 
 -- the words of the printed cards are those that were defined
-words_are : (number : ℕ) (lines : List LineAt) (words : List (Option PlacedWord)) → length words ≡ length lines → printed_words (printed_from number lines words) ≡ placed_words words
+further_are : (number : ℕ) (words : List PlacedWord) → printed_words (printed_more number words) ≡ words
+further_are number [] = refl
+further_are number (one ∷ more) = ap (λ (ps : List PlacedWord). one ∷ ps) (further_are number more)
+
+words_of_card : (number : ℕ) (text : List ℕ) (words : List PlacedWord) → printed_words (printed_card number text words) ≡ words
+words_of_card number text [] = refl
+words_of_card number text (one ∷ more) = ap (λ (ps : List PlacedWord). one ∷ ps) (further_are number more)
+
+words_are : (number : ℕ) (lines : List LineAt) (defined : CardWords) → length defined ≡ length lines → printed_words (printed_from number lines defined) ≡ placed_words defined
 words_are number [] [] same = refl
-words_are number [] (one ∷ words) same = absurd (omega arith)
+words_are number [] (words ∷ defined) same = absurd (omega arith)
 words_are number (line ∷ lines) [] same = absurd (omega arith)
-words_are number (line ∷ lines) (None ∷ words) same = words_are (number + 1) lines words (omega (arith, same))
-words_are number (line ∷ lines) (Some placed ∷ words) same = ap (λ (ps : List PlacedWord). placed ∷ ps) (words_are (number + 1) lines words (omega (arith, same)))
+words_are number (line ∷ lines) (words ∷ defined) same =
+    filter_map-append (λ (card : PrintedCard). card.placed) (printed_card number line.bytes words) (printed_from (number + 1) lines defined)
+    ∙ rw (words_of_card number line.bytes words, words_are (number + 1) lines defined (omega (arith, same))) refl
 
 AllPrintable : List PrintedCard → Type 0
 AllPrintable [] = Unit {0}
@@ -137,31 +146,42 @@ unfolding AllPrintable
 all_printable [] are = λ k d within. absurd (omega arith)
 all_printable (card ∷ cards) are = All-cons IsPrintable card cards are.0 (all_printable cards are.1)
 
+both_printable : (cards others : List PrintedCard) → AllPrintable cards → AllPrintable others → AllPrintable (cards ++ others)
+unfolding AllPrintable
+both_printable [] others are too = too
+both_printable (card ∷ cards) others are too = (are.0, both_printable cards others are.1 too)
+
 -- each word is one of the memory
-AreOfMemory : List (Option PlacedWord) → Type 0
-AreOfMemory words = (one : PlacedWord) → Contains (placed_words words) one → IsMemoryWord one
+AreOfMemory : List PlacedWord → Type 0
+AreOfMemory words = (one : PlacedWord) → Contains words one → IsMemoryWord one
 
-first_of_memory : (one : Option PlacedWord) (words : List (Option PlacedWord)) → AreOfMemory (one ∷ words) → IfSome one IsMemoryWord
-unfolding AreOfMemory
-first_of_memory None words are = tt
-first_of_memory (Some placed) words are = are placed (0, omega arith, refl)
-
-others_of_memory : (one : Option PlacedWord) (words : List (Option PlacedWord)) → AreOfMemory (one ∷ words) → AreOfMemory words
-unfolding AreOfMemory
-others_of_memory None words are = are
-others_of_memory (Some placed) words are = λ other held. are other (suc held.0, omega (arith, held.1), held.2)
-
-printed_printable : (number : ℕ) (lines : List LineAt) (words : List (Option PlacedWord)) → AreUnbroken lines → AreOfMemory words
-    → AllPrintable (printed_from number lines words)
-unfolding AllPrintable AreUnbroken
-printed_printable number [] words unbroken are = tt
-printed_printable number (line ∷ lines) [] unbroken are = tt
-printed_printable number (line ∷ lines) (one ∷ words) unbroken are = (
-  record { within = first_of_memory one words are; unbroken = unbroken.0 },
-  printed_printable (number + 1) lines words unbroken.1 (others_of_memory one words are),
+further_printable : (number : ℕ) (words : List PlacedWord) → AreOfMemory words → AllPrintable (printed_more number words)
+unfolding AllPrintable AreOfMemory
+further_printable number [] are = tt
+further_printable number (one ∷ more) are = (
+  record { within = are one (0, omega arith, refl); unbroken = refl },
+  further_printable number more (λ other held. are other (suc held.0, omega (arith, held.1), held.2)),
 )
 
-pub written_reads : (codes text : List ℕ) (words : List (Option PlacedWord)) (image : List (Option ℕ)) → AreCodes codes
+card_printable : (number : ℕ) (text : List ℕ) (words : List PlacedWord) → HasNoFeed text → AreOfMemory words → AllPrintable (printed_card number text words)
+unfolding AllPrintable AreOfMemory
+card_printable number text [] unbroken are = (record { within = tt; unbroken = unbroken }, tt)
+card_printable number text (one ∷ more) unbroken are = (
+  record { within = are one (0, omega arith, refl); unbroken = unbroken },
+  further_printable number more (λ other held. are other (suc held.0, omega (arith, held.1), held.2)),
+)
+
+printed_printable : (number : ℕ) (lines : List LineAt) (defined : CardWords) → AreUnbroken lines → AreOfMemory (placed_words defined)
+    → AllPrintable (printed_from number lines defined)
+unfolding AllPrintable AreUnbroken AreOfMemory
+printed_printable number [] defined unbroken are = tt
+printed_printable number (line ∷ lines) [] unbroken are = tt
+printed_printable number (line ∷ lines) (words ∷ defined) unbroken are =
+    both_printable (printed_card number line.bytes words) (printed_from (number + 1) lines defined)
+    (card_printable number line.bytes words unbroken.0 (λ one among. are one (Contains-append_left words (placed_words defined) one among)))
+    (printed_printable (number + 1) lines defined unbroken.1 (λ one among. are one (Contains-append_right words (placed_words defined) one among)))
+
+pub written_reads : (codes text : List ℕ) (words : CardWords) (image : List (Option ℕ)) → AreCodes codes
     → Defines codes text words → IsImageOf (placed_words words) image → Reads (listing text words) image
 unfolding listing AreOfMemory
 written_reads codes text words image are defines filled =

@@ -1,14 +1,15 @@
 -- The listing, a card further, and by the lines of its source.
-use Rattle.std.proofs.Common.{◌≡◌, ℕ, ◌+◌, ◌<◌, ◌≤◌, List, [], ◌∷◌, ◌++◌, length, take, drop, get_or, Option, Some, None, map, refl, sym, ap, ◌∙◌, arith}
+use Rattle.std.proofs.Common.{◌≡◌, ℕ, ◌+◌, ◌<◌, ◌≤◌, List, [], ◌∷◌, ◌++◌, length, take, drop, get_or, Option, Some, None, option_map, map, refl, sym, ap, ◌∙◌, append_assoc, append-nil, arith}
 use Rattle.std.proofs.lemmas.List.{drop_more, drop_all}
 use Rattle.ags_text.specs.Line.{LineAt, LiesIn, Follow}
 use Rattle.ags_outside.specs.Sink.{appended, Wrote, WroteFront, wrote_nothing, wrote_piece, wrote_all, wrote_front}
 use Rattle.ags_places.specs.declared.placed.Placed.{Placed}
 use Rattle.ags_places.specs.Deck.{card_lines}
 use Rattle.ags_places.proofs.PlacingLemmas.{lines_of_cards_follow}
-use Rattle.ags_asm.specs.Source.{AreSpans, defined, placed_at, placed_cards}
+use Rattle.ags_asm.specs.declared.assembling.Assembled.{Assembled}
+use Rattle.ags_asm.specs.Source.{AreSpans, card_words, defined, placed_at, placed_cards, words_there}
 use Rattle.ags_image.specs.Image.{PlacedWord}
-use Rattle.ags_listing.specs.Listing.{AreCardsOf, listing_line, listing_text, printed_from, listing}
+use Rattle.ags_listing.specs.Listing.{AreCardsOf, PrintedCard, listing_line, listing_text, printed_card, printed_from, listing}
 use Rattle.ags_listing.specs.PlacedListing.{card_text, placed_line, placed_listing}
 
 -- ---- a card further
@@ -75,32 +76,50 @@ Sending-all old now source placed i so past =
 
 -- ---- by the lines
 
-defined-placed_at : (line : LineAt) (one : Option PlacedWord) → defined (placed_at line one) ≡ one
-defined-placed_at line None = refl
-defined-placed_at line (Some definition) = refl
+card_text-placed_at : (source : List ℕ) (line : LineAt) (words : List PlacedWord) → LiesIn source line → card_text source (placed_at line words) ≡ line.bytes
+card_text-placed_at source line [] lies = ap (λ (n : ℕ). take n (drop line.start source)) (omega arith) ∙ lies.bytes_are
+card_text-placed_at source line (one ∷ more) lies = ap (λ (n : ℕ). take n (drop line.start source)) (omega arith) ∙ lies.bytes_are
 
-card_text-placed_at : (source : List ℕ) (line : LineAt) (one : Option PlacedWord) → LiesIn source line → card_text source (placed_at line one) ≡ line.bytes
-card_text-placed_at source line None lies = ap (λ (n : ℕ). take n (drop line.start source)) (omega arith) ∙ lies.bytes_are
-card_text-placed_at source line (Some definition) lies = ap (λ (n : ℕ). take n (drop line.start source)) (omega arith) ∙ lies.bytes_are
+-- a card's line is that of its words
+line_of_words : (number : ℕ) (text : List ℕ) (at : Option ℕ) (word : ℕ)
+    → listing_line (record { number = number; placed = option_map (λ place. record { place = place; word = word }) at; text = text }) ≡ listing_text (printed_card number text (words_there at word))
+unfolding listing_text
+line_of_words number text None word = sym (append-nil _)
+line_of_words number text (Some at) word = sym (append-nil _)
 
-placed_line-line : (source : List ℕ) (number : ℕ) (line : LineAt) (one : Option PlacedWord) → LiesIn source line
-    → placed_line source number (placed_at line one) ≡ listing_line (record { number = number; placed = one; text = line.bytes })
+placed_line-card : (source : List ℕ) (number : ℕ) (line : LineAt) (card : Placed) → LiesIn source line → card ≡ placed_at line (defined card)
+    → placed_line source number card ≡ listing_text (printed_card number line.bytes (defined card))
 unfolding placed_line
-placed_line-line source number line one lies = rw (defined-placed_at line one, card_text-placed_at source line one lies) refl
+placed_line-card source number line card lies is =
+    let text_is : card_text source card ≡ line.bytes = ap (card_text source) is ∙ card_text-placed_at source line (defined card) lies in
+    line_of_words number (card_text source card) card.place card.word ∙ ap (λ (text : List ℕ). listing_text (printed_card number text (defined card))) text_is
+
+listing_text-nil : [] ≡ listing_text []
+unfolding listing_text
+listing_text-nil = refl
+
+listing_text-append : (cards others : List PrintedCard) → listing_text (cards ++ others) ≡ listing_text cards ++ listing_text others
+unfolding listing_text
+listing_text-append [] others = refl
+listing_text-append (card ∷ cards) others =
+    ap (λ (rest : List ℕ). listing_line card ++ rest) (listing_text-append cards others) ∙ sym (append_assoc (listing_line card) (listing_text cards) (listing_text others))
 
 -- the cards' listing is that of the lines
-listing_by_lines : (source : List ℕ) (from number : ℕ) (lines : List LineAt) (ds : List (Option PlacedWord)) → Follow source from lines
-    → placed_listing source number (placed_cards lines ds) ≡ listing_text (printed_from number lines ds)
-unfolding placed_listing listing_text
-listing_by_lines source from number [] ds follow = refl
-listing_by_lines source from number (line ∷ lines) [] follow = refl
-listing_by_lines source from number (line ∷ lines) (d ∷ ds) follow =
-    rw (placed_line-line source number line d follow.1, listing_by_lines source (line.start + length line.bytes + 1) (number + 1) lines ds follow.2) refl
+listing_by_lines : (source : List ℕ) (from number : ℕ) (lines : List LineAt) (placed : List Placed) → Follow source from lines → placed ≡ placed_cards lines (map defined placed)
+    → placed_listing source number placed ≡ listing_text (printed_from number lines (map defined placed))
+unfolding placed_listing
+listing_by_lines source from number [] [] follow are = listing_text-nil
+listing_by_lines source from number [] (card ∷ cards) follow are = absurd cc
+listing_by_lines source from number (line ∷ lines) [] follow are = listing_text-nil
+listing_by_lines source from number (line ∷ lines) (card ∷ cards) follow are =
+    let here : card ≡ placed_at line (defined card) = cc in
+    let rest : cards ≡ placed_cards lines (map defined cards) = cc in
+    rw (placed_line-card source number line card follow.1 here, listing_by_lines source (line.start + length line.bytes + 1) (number + 1) lines cards follow.2 rest)
+    (sym (listing_text-append (printed_card number line.bytes (defined card)) (printed_from (number + 1) lines (map defined cards))))
 
 -- ---- of a source that was read
 
 -- the cards' listing is the listing of what the source defines
-pub listing_is : (bytes : List ℕ) (placed : List Placed) → AreCardsOf bytes placed → placed_listing bytes 1 placed ≡ listing bytes (map defined placed)
+pub listing_is : (bytes : List ℕ) (made : Assembled) → AreCardsOf bytes made → placed_listing bytes 1 made.cards.items ≡ listing bytes (card_words made)
 unfolding listing
-listing_is bytes placed are =
-    ap (placed_listing bytes 1) are.cards_are ∙ listing_by_lines bytes 0 1 (card_lines bytes) (map defined placed) (lines_of_cards_follow bytes)
+listing_is bytes made are = listing_by_lines bytes 0 1 (card_lines bytes) made.cards.items (lines_of_cards_follow bytes) are.cards_are

@@ -1,15 +1,15 @@
 -- The listing of printed cards, and that of a source.
-use Rattle.std.specs.Prelude.{◌≡◌, ℕ, ◌+◌, ◌≤◌, List, [], ◌∷◌, ◌++◌, length, map, Option, Some, None, codes, IfSome}
+use Rattle.std.specs.Prelude.{◌≡◌, ℕ, ◌+◌, ◌≤◌, List, [], ◌∷◌, ◌++◌, length, Option, Some, None, codes, IfSome}
 use Rattle.std.specs.List.{filter_map}
 use Rattle.ags_text.specs.Line.{LineAt, HasNoFeed}
 use Rattle.ags_text.specs.Numeral.{decimal7_text, octal4_text, octal6_text}
 use Rattle.ags_image.specs.Image.{PlacedWord, IsMemoryWord}
-use Rattle.ags_places.specs.declared.placed.Placed.{Placed}
 use Rattle.ags_places.specs.Limit.{source_limit}
 use Rattle.ags_places.specs.Deck.{card_lines}
-use Rattle.ags_asm.specs.Source.{AreSpans, defined, placed_cards}
+use Rattle.ags_asm.specs.declared.assembling.Assembled.{Assembled}
+use Rattle.ags_asm.specs.Source.{AreSpans, CardWords, card_words, placed_cards}
 
--- a card as it is printed: its number, its word at its place, if it has one, and its text
+-- a line of the listing: a card's number, a word at its place, if there is one, and a text
 pub record PrintedCard : Type 0 where
   pub number : ℕ
   pub placed : Option PlacedWord
@@ -44,19 +44,30 @@ pub record IsPrintable (card : PrintedCard) : Type 0 where
 
 -- ---- of a source
 
--- The cards of lines as they are printed, from that number on, with these places and words: of two lists of one length, since a
--- source defines one entry for each line.
-abbrev pub printed_from : ℕ → List LineAt → List (Option PlacedWord) → List PrintedCard
+-- the lines of the words that follow a card's first one, each with the card's number and without a text
+abbrev pub printed_more : (number : ℕ) → List PlacedWord → List PrintedCard
+printed_more number [] = []
+printed_more number (one ∷ more) = record { number = number; placed = Some one; text = [] } ∷ printed_more number more
+
+-- A card as it is printed: a line with its text and its first word, where it has one, and a line for each further word. No card of
+-- this profile has a further one.
+abbrev pub printed_card : (number : ℕ) (text : List ℕ) → List PlacedWord → List PrintedCard
+printed_card number text [] = record { number = number; placed = None; text = text } ∷ []
+printed_card number text (one ∷ more) = record { number = number; placed = Some one; text = text } ∷ printed_more number more
+
+-- The cards of lines as they are printed, from that number on, with these words: of two lists of one length, since a source
+-- defines one list of words for each line.
+abbrev pub printed_from : ℕ → List LineAt → CardWords → List PrintedCard
 printed_from number [] defined = []
 printed_from number (line ∷ lines) [] = []
-printed_from number (line ∷ lines) (one ∷ defined) = record { number = number; placed = one; text = line.bytes } ∷ printed_from (number + 1) lines defined
+printed_from number (line ∷ lines) (words ∷ defined) = printed_card number line.bytes words ++ printed_from (number + 1) lines defined
 
--- the listing of a source, whose cards have these places and words
-unfoldable pub listing : (text : List ℕ) → List (Option PlacedWord) → List ℕ
+-- the listing of a source, whose cards have these words
+unfoldable pub listing : (text : List ℕ) → CardWords → List ℕ
 listing text defined = listing_text (printed_from 1 (card_lines text) defined)
 
 -- The cards are those of the source's lines, which is within its limit.
-pub record AreCardsOf (bytes : List ℕ) (placed : List Placed) : Type 0 where
+pub record AreCardsOf (bytes : List ℕ) (made : Assembled) : Type 0 where
   pub short : length bytes ≤ source_limit
-  pub spans : AreSpans 0 (length bytes) placed
-  pub cards_are : placed ≡ placed_cards (card_lines bytes) (map defined placed)
+  pub spans : AreSpans 0 (length bytes) made.cards.items
+  pub cards_are : made.cards.items ≡ placed_cards (card_lines bytes) (card_words made)

@@ -3,8 +3,8 @@
 ghost use Rattle.std.specs.Prelude.{◌≡◌, ◌⊎◌, ℕ, List, Option};
 ghost use Rattle.std.specs.List.{All};
 ghost use Rattle.ags_isa.specs.Code.{AreCodes};
-ghost use Rattle.ags_image.specs.Image.{EachPlaceOnce, IsImageOf, PlacedWord};
-ghost use Rattle.ags_asm.specs.Source.{Defines, placed_words};
+ghost use Rattle.ags_image.specs.Image.{EachPlaceOnce, IsImageOf};
+ghost use Rattle.ags_asm.specs.Source.{CardWords, Defines, placed_words};
 ghost use Rattle.ags_listing.specs.Listing.{PrintedCard, IsPrintable, listing, listing_text, printed_words};
 ghost use Rattle.ags_listing.specs.Reads.{Reads, IsFaultyListing};
 ghost use Rattle.ags_listing.specs.declared.list_error.ListError.{ListError};
@@ -17,7 +17,7 @@ pub fn printed_listing_reads_back()
 
 /// The listing of a source reads back as exactly the words that the source defines.
 pub fn written_listing_reads_back()
-    ensures { (codes text : List ℕ) (words : List (Option PlacedWord)) (image : List (Option ℕ)) → AreCodes codes
+    ensures { (codes text : List ℕ) (words : CardWords) (image : List (Option ℕ)) → AreCodes codes
         → Defines codes text words → IsImageOf (placed_words words) image → Reads (listing text words) image }
 {}
 

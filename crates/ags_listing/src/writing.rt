@@ -1,12 +1,12 @@
 //! The writer of listings.
 
-ghost use Rattle.std.specs.Prelude.{◌≡◌, ◌+◌, ◌≤◌, ◌<◌, ◌++◌, length, map, OnOk, OnErr};
+ghost use Rattle.std.specs.Prelude.{◌≡◌, ◌+◌, ◌≤◌, ◌<◌, ◌++◌, length, OnOk, OnErr};
 ghost use Rattle.ags_outside.specs.Count.{HasCause};
 ghost use Rattle.ags_outside.specs.Send.{is_write_fault};
 ghost use Rattle.ags_outside.specs.Sink.{appended, WroteFront};
-ghost use Rattle.ags_asm.specs.Source.{AreSpans, defined};
+ghost use Rattle.ags_asm.specs.Source.{AreSpans, card_words};
 ghost use Rattle.ags_listing.specs.Listing.{AreCardsOf, columns, listing};
-ghost use Rattle.ags_listing.specs.PlacedListing.{placed_line, placed_listing};
+ghost use Rattle.ags_listing.specs.PlacedListing.{placed_line, placed_listing, word_of};
 ghost use Rattle.ags_places.specs.Limit.{source_limit};
 
 use ags_asm::{Assembled, Placed};
@@ -16,7 +16,7 @@ use std::alloc::{AllocError, Global};
 
 /// Adds the columns of a card's place and word.
 fn push_columns(line: &mut Vec<u8>, card: &Placed) -> Result<(), AllocError>
-    ensures { OnOk result (line.new.items ≡ line.old.items ++ columns (defined card.now)) }
+    ensures { OnOk result (line.new.items ≡ line.old.items ++ columns (word_of card.now)) }
 {
     let Some(place) = card.place else {
         return line.extend_from_slice(b"           ");
@@ -97,9 +97,9 @@ pub fn send_listing<K: Sink>(
     made: &Assembled,
     out: &mut K,
 ) -> Result<(), SendError>
-    requires { AreCardsOf bytes.now made.now.cards.items }
-    ensures sent { OnOk result (K.told out.new ≡ appended (K.told out.old) (listing bytes.now (map defined made.now.cards.items))) }
-    ensures front { OnErr result (WroteFront (K.told out.old) (K.told out.new) (listing bytes.now (map defined made.now.cards.items))) }
+    requires { AreCardsOf bytes.now made.now }
+    ensures sent { OnOk result (K.told out.new ≡ appended (K.told out.old) (listing bytes.now (card_words made.now))) }
+    ensures front { OnErr result (WroteFront (K.told out.old) (K.told out.new) (listing bytes.now (card_words made.now))) }
     ensures faults { HasCause (K.faults out.old) (K.faults out.new) (is_write_fault result) }
 {
     send_cards(alloc, bytes, &made.cards, out)

@@ -16,6 +16,17 @@ use Rattle.ags_symbol.specs.Symbol.{Entry, sum_of}
 abbrev pub operand : List Entry → ℕ → List Term → ℤ
 operand early at terms = unwrap_or (sum_of early at terms) (pos 0)
 
+-- how many words a card has
+abbrev pub count : Body → ℕ
+count Comment = 0
+count (Order order terms indexed) = 1
+count (Org terms) = 0
+count (Equ terms) = 0
+count (Bss terms) = 0
+count (Dec decimal) = 1
+count (Oct word) = 1
+count End = 0
+
 -- whether a card has a word
 abbrev pub has_word : Body → Bool
 has_word Comment = false

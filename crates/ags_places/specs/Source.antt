@@ -1,14 +1,12 @@
--- What a source is placed as, and what it is refused for before its words are asked for.
+-- What a source is placed as, and the first card of it that can't be placed.
 use Rattle.std.specs.Prelude.{◌≡◌, ℕ, ◌+◌, ◌<◌, ◌≤◌, List, [], ◌∷◌, length, Option, Some, None, IfSome}
 use Rattle.ags_text.specs.Line.{LineAt}
 use Rattle.ags_symbol.specs.Symbol.{Entry}
 use Rattle.ags_places.specs.declared.placed.Placed.{Placed}
 use Rattle.ags_places.specs.declared.source_error.SourceError.{SourceError}
-use Rattle.ags_places.specs.declared.source_error.AssembleError.{AssembleError}
-use Rattle.ags_places.specs.declared.source_error.AssembleError.TheVariants.{Source, NoMemory}
 use Rattle.ags_places.specs.Deck.{card_lines, cards}
 use Rattle.ags_places.specs.Place.{Fits, places}
-use Rattle.ags_places.specs.Fault.{early_fault}
+use Rattle.ags_places.specs.Fault.{early_fault, first_place_fault}
 
 -- a card before its word is made: the span of its line, and the place of its word, where it has one
 abbrev pub placed_at : LineAt → Option ℕ → Placed
@@ -26,16 +24,11 @@ pub record IsPlaced (text : List ℕ) (placed : List Placed) (S : List Entry) : 
   pub faultless : early_fault S text ≡ None
   pub cards_are : placed ≡ placed_cards (card_lines text) (places S (cards text))
 
--- the text is a source whose first fault, up to the phase of places, is this one
-pub record IsMisplaced (text : List ℕ) (error : SourceError) : Type 0 where
+-- the first fault of the phase of places is this one
+pub record IsFirstPlaceFault (text : List ℕ) (error : SourceError) : Type 0 where
   pub symbols : List Entry
   pub fits : Fits symbols (cards text)
-  pub first : early_fault symbols text ≡ Some (error.card, error.kind)
-
--- why a text was not placed, where it was not want of memory
-abbrev pub IsRefused : List ℕ → AssembleError → Type 0
-IsRefused text (Source error) = IsMisplaced text error
-IsRefused text NoMemory = Unit {0}
+  pub first : first_place_fault symbols text ≡ Some (error.card, error.kind)
 
 -- where a card has a place, it is one of the memory's
 abbrev pub IsInMemory : Placed → Type 0

@@ -1,5 +1,5 @@
-//! The first two phases of the assembler: from a source's bytes to its cards, each with the place of its word, and to the
-//! values of its symbols, or to the first fault of these phases.
+//! The cards of a source, their places, and the values of its symbols, as definitions and laws, with the faults of the phases
+//! of cards and of places; and the placing of one card: it gives the card's symbol its value and tells where the next one stands.
 #![tactic(auto)]
 
 mod laws;
@@ -7,13 +7,13 @@ mod placed;
 mod placing;
 mod reading;
 mod source_error;
-mod sources;
 
 pub use laws::{
     card_lines_follow, each_symbol_has_a_pair, kinds_are_printed_by_their_numbers,
     one_list_of_pairs_fits, places_are_sums, source_ends_at_its_first_end,
     words_stand_in_the_memory,
 };
-pub use placed::Placed;
+pub use placed::{Placed, place_of_word};
+pub use placing::{Stop, place_card};
+pub use reading::{SOURCE_LIMIT, is_end, kind_of};
 pub use source_error::{AssembleError, SourceError, SourceKind};
-pub use sources::{PlacedSource, SOURCE_LIMIT, place_all};

@@ -25,7 +25,7 @@ pub(crate) struct Effect {
 
 /// Why a card isn't placed.
 #[derive(Clone, Copy)]
-pub(crate) enum Stop {
+pub enum Stop {
     /// It has this fault.
     Fault(SourceKind),
     /// There was too little memory.
@@ -171,13 +171,10 @@ fn symbol_first(symbols: &Symbols, symbol: Option<Name>, kind: SourceKind) -> So
     }
 }
 
-/// Places a card: gives its symbol its value, and answers the place of the next card.
-pub(crate) fn place_card(
-    symbols: &mut Symbols,
-    place: u16,
-    number: u32,
-    card: &Card,
-) -> Result<u16, Stop>
+/// Places the card of a number at a place: gives its symbol its value, and answers the place of the next card. Operands are taken
+/// over the symbols that are defined so far. A symbol that an earlier card defines is at fault before the card's operand is, and
+/// after a fault no symbol is defined.
+pub fn place_card(symbols: &mut Symbols, place: u16, number: u32, card: &Card) -> Result<u16, Stop>
     requires { place ≤ 4096 }
     ensures faultless { OnOk result (place_fault_at symbols.old place card.now ≡ None) }
     ensures pair { OnOk result (symbols.new ≡ symbols.old ++ pair_of card.now.symbol (symbol_value symbols.old place card.now.body) number) }

@@ -1,6 +1,6 @@
 //! Why a source isn't assembled (docs/SOURCE.md, Faults).
 
-ghost use Rattle.std.specs.Prelude.{◌≡◌, ◌+◌, ◌<◌, ◌^◌};
+ghost use Rattle.std.specs.Prelude.{◌≡◌};
 
 use ags_text::SevenDigits;
 use std::alloc::{AllocError, AllocFailed};
@@ -119,17 +119,6 @@ impl fmt::Display for SourceError {
         let card = SevenDigits(self.card);
         let kind = self.kind;
         write!(f, "SOURCE CARD {card} ERROR {kind}")
-    }
-}
-
-impl AssembleError {
-    /// The fault of the card at an index, counted from 0.
-    pub fn at(index: usize, kind: SourceKind) -> AssembleError
-        requires { index + 1 < 2 ^ 32 }
-        ensures { result ≡ AssembleError.Source (record { card = index + 1; kind = kind }) }
-    {
-        let card = index as u32 + 1;
-        AssembleError::Source(SourceError { card, kind })
     }
 }
 

@@ -6,8 +6,7 @@ use Rattle.ags_listing.specs.Limit.{listing_limit}
 use Rattle.ags_machfile.specs.Limit.{machine_limit}
 use Rattle.ags_places.specs.Limit.{source_limit}
 use Rattle.ags_script.specs.Limit.{script_limit}
-use Rattle.ags_asm.specs.Source.{Defines, IsFaulty}
-use Rattle.ags_image.specs.Image.{PlacedWord}
+use Rattle.ags_asm.specs.Source.{CardWords, Defines, IsFaulty}
 use Rattle.ags_cert.specs.Cert.{Stated}
 use Rattle.ags_certtext.specs.declared.cert_error.CertKind.{CertKind}
 use Rattle.ags_certtext.specs.declared.cert_error.CertError.TheVariants as certificate
@@ -36,7 +35,7 @@ pub data Kind : Type 0 where
 -- a source that was read: its bytes, and the places and the words of its cards
 pub record Assembly : Type 0 where
   pub bytes : List ℕ
-  pub defined : List (Option PlacedWord)
+  pub defined : CardWords
 
 -- what a file of a kind holds
 abbrev pub Value : Kind → Type 0

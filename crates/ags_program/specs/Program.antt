@@ -1,7 +1,7 @@
 -- The program: its definition, and the plan of each command.
 use Rattle.std.specs.Prelude.{ℕ, List, Option, Some, None}
+use Rattle.ags_asm.specs.Source.{CardWords}
 use Rattle.ags_command.specs.Command.{Command, Write, Compare, Certify, Run, Guard, CommandLine, line_of}
-use Rattle.ags_image.specs.Image.{PlacedWord}
 use Rattle.ags_plan.specs.Plan.{Definition, Plan, Do, Read}
 use Rattle.ags_ports.specs.declared.machines.Machine.{Machine}
 use Rattle.ags_ports.specs.Machine.{standard_machine}
@@ -26,7 +26,7 @@ program = record {
 }
 
 -- what is read, in this order, and done for a guarded run, behind its source
-abbrev pub guard_plan : Machine → (script certificate : List ℕ) → (defined : List (Option PlacedWord)) → Plan program
+abbrev pub guard_plan : Machine → (script certificate : List ℕ) → (defined : CardWords) → Plan program
 guard_plan machine script certificate defined =
     Read (Certificate machine) certificate (λ cert. Read (Script machine) script (λ commands. Do (GuardScript machine defined cert commands)))
 

@@ -1,7 +1,7 @@
 -- What clauses see of the program's own values.
-use Rattle.std.specs.Prelude.{◌≡◌, ℕ, List, map, Err}
+use Rattle.std.specs.Prelude.{◌≡◌, ℕ, List, Err}
 use Rattle.ags_asm.specs.declared.assembling.Assembled.{Assembled}
-use Rattle.ags_asm.specs.Source.{Defines, IsAssembled, IsFaulty, defined, placed_words}
+use Rattle.ags_asm.specs.Source.{Defines, IsAssembled, IsFaulty, card_words, placed_words}
 use Rattle.ags_image.specs.Image.{IsImageOf}
 use Rattle.ags_cert.specs.Text as certificate
 use Rattle.ags_certtext.specs.declared.cert_error.CertError.{CertError}
@@ -27,26 +27,26 @@ use Rattle.ags_program.specs.Work as work
 
 -- a source that was read, as its bytes and what its cards define
 abbrev pub assembly_of : SourceFile → Assembly
-assembly_of source = record { bytes = source.bytes.items; defined = map defined source.made.cards.items }
+assembly_of source = record { bytes = source.bytes.items; defined = card_words source.made }
 
 -- a work without where it lies in memory
 abbrev pub work_of : Work → work.Work
 work_of loaded.NoForm = work.NoForm
 work_of (loaded.WriteText text source) = work.WriteText text (assembly_of source)
-work_of (loaded.CompareImages made listed) = work.CompareImages (map defined made.cards.items) listed
+work_of (loaded.CompareImages made listed) = work.CompareImages (card_words made) listed
 work_of (loaded.JudgeCertificate machine source cert) = work.JudgeCertificate machine (assembly_of source) cert
-work_of (loaded.PlayScript machine made script) = work.PlayScript machine (map defined made.cards.items) script
-work_of (loaded.GuardScript machine made cert script) = work.GuardScript machine (map defined made.cards.items) cert script
+work_of (loaded.PlayScript machine made script) = work.PlayScript machine (card_words made) script
+work_of (loaded.GuardScript machine made cert script) = work.GuardScript machine (card_words made) cert script
 
 -- the image has exactly the words of the cards
 abbrev pub HasImage : Assembled → Type 0
-HasImage made = IsImageOf (placed_words (map defined made.cards.items)) made.image
+HasImage made = IsImageOf (placed_words (card_words made)) made.image
 
 -- what was made of a source by the table of codes
 pub record IsSourceRead (order_codes bytes : List ℕ) (made : Assembled) : Type 0 where
-  pub cards : AreCardsOf bytes made.cards.items
+  pub cards : AreCardsOf bytes made
   pub assembled : IsAssembled order_codes bytes made.cards.items made.symbols made.image
-  pub defines : Defines order_codes bytes (map defined made.cards.items)
+  pub defines : Defines order_codes bytes (card_words made)
   pub image : HasImage made
 
 -- Why the bytes are no source that was read: its first fault, or want of memory.

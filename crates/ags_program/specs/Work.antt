@@ -1,13 +1,13 @@
 -- The works of the commands, and what each makes of what the files hold.
 use Rattle.std.specs.Prelude.{◌≡◌, ℕ, List, ◌++◌, Option, Some, None}
-use Rattle.ags_asm.specs.Source.{placed_words}
+use Rattle.ags_asm.specs.Source.{CardWords, placed_words}
 use Rattle.ags_cert.specs.Cert.{Stated, certificate_of}
 use Rattle.ags_command.specs.declared.source_texts.SourceText.{SourceText}
 use Rattle.ags_command.specs.declared.source_texts.SourceText.TheVariants.{Listing, Tape, CrossReference}
 use Rattle.ags_compare.specs.declared.comparing.Compared.{Compared}
 use Rattle.ags_compare.specs.declared.comparing.Compared.TheVariants.{Equal, Differs}
 use Rattle.ags_compare.specs.Comparison.{IsComparison}
-use Rattle.ags_image.specs.Image.{PlacedWord, IsImageOf}
+use Rattle.ags_image.specs.Image.{IsImageOf}
 use Rattle.ags_ports.specs.declared.events.Event.{Event}
 use Rattle.ags_ports.specs.declared.machines.Machine.{Machine}
 use Rattle.ags_ports.specs.Run.{Moment, Run}
@@ -37,13 +37,13 @@ pub data Work : Type 0 where
   -- this text of a source
   WriteText : (text : SourceText) (assembly : Assembly) → Work
   -- the comparison of the words of a source's cards with the image of a listing
-  CompareImages : (defined : List (Option PlacedWord)) (listed : List (Option ℕ)) → Work
+  CompareImages : (defined : CardWords) (listed : List (Option ℕ)) → Work
   -- the listing of a source, and the verdict of a certificate for its words
   JudgeCertificate : (machine : Machine) (assembly : Assembly) (cert : Stated) → Work
   -- the play of a script's commands on a machine that begins with the words of a source's cards
-  PlayScript : (machine : Machine) (defined : List (Option PlacedWord)) (commands : List Command) → Work
+  PlayScript : (machine : Machine) (defined : CardWords) (commands : List Command) → Work
   -- the verdict of a certificate for these words, and, where it is certified, the play with the certificate as its guard
-  GuardScript : (machine : Machine) (defined : List (Option PlacedWord)) (cert : Stated) (commands : List Command) → Work
+  GuardScript : (machine : Machine) (defined : CardWords) (cert : Stated) (commands : List Command) → Work
 
 -- the text is this one of the source: its listing, the tape of the image of its words, or the cross reference of its symbols
 abbrev pub IsTextOf : SourceText → Assembly → (text : List ℕ) → Type 0
@@ -57,7 +57,7 @@ compared_status Equal = Done
 compared_status (Differs location left right) = No
 
 -- The text and the status say how the image of these words compares with that of a listing.
-pub record IsComparisonOf (defined : List (Option PlacedWord)) (listed : List (Option ℕ)) (text : List ℕ) (status : Status) : Type 0 where
+pub record IsComparisonOf (defined : CardWords) (listed : List (Option ℕ)) (text : List ℕ) (status : Status) : Type 0 where
   pub image : List (Option ℕ)
   pub image_is : IsImageOf (placed_words defined) image
   pub compared : Compared
@@ -83,7 +83,7 @@ pub record IsJudgementOf (machine : Machine) (assembly : Assembly) (cert : State
 -- The text is the play of the commands on the machine, which begins with the image of these words in its cells, with its first
 -- order at 4000 octal, and with what the commands set: from that state the commands make one list of events, which is one run, and
 -- show that text along it.
-pub record IsShownBy (machine : Machine) (defined : List (Option PlacedWord)) (commands : List Command) (text : List ℕ) : Type 0 where
+pub record IsShownBy (machine : Machine) (defined : CardWords) (commands : List Command) (text : List ℕ) : Type 0 where
   pub image : List (Option ℕ)
   pub image_is : IsImageOf (placed_words defined) image
   pub events : List Event
@@ -114,7 +114,7 @@ IsPlayedBy machine image cert commands (Refused refusal) text status = (text ≡
 
 -- The text and the status are those of the verdict of the certificate for the image of these words, and, where it is certified, of
 -- the commands' play with the certificate as its guard.
-pub record IsGuardedBy (machine : Machine) (defined : List (Option PlacedWord)) (cert : Stated) (commands : List Command) (text : List ℕ) (status : Status) : Type 0 where
+pub record IsGuardedBy (machine : Machine) (defined : CardWords) (cert : Stated) (commands : List Command) (text : List ℕ) (status : Status) : Type 0 where
   pub image : List (Option ℕ)
   pub image_is : IsImageOf (placed_words defined) image
   pub verdict : Verdict Value

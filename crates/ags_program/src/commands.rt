@@ -1,8 +1,8 @@
 //! The files of each command, loaded for a machine.
 
-ghost use Rattle.std.specs.Prelude.{IfOk, map};
+ghost use Rattle.std.specs.Prelude.{IfOk};
 ghost use Rattle.std.specs.Result.{result_map_both};
-ghost use Rattle.ags_asm.specs.Source.{defined};
+ghost use Rattle.ags_asm.specs.Source.{card_words};
 ghost use Rattle.ags_command.specs.Command as command;
 ghost use Rattle.ags_command.specs.Views.{command_view};
 ghost use Rattle.ags_outside.specs.Count.{HasCause};
@@ -116,7 +116,7 @@ fn load_guard<'a, S: Shelf>(
     shelf: &mut S,
 ) -> Result<Work, Unloaded<'a, Refusal>>
     requires { HasImage made }
-    ensures loads { Loads program (S.told shelf.old) (guard_plan machine script.entry.now certificate.entry.now (map defined made.cards.items))
+    ensures loads { Loads program (S.told shelf.old) (guard_plan machine script.entry.now certificate.entry.now (card_words made))
         (result_map_both work_of (end_of program line_of status_of) result) }
     ensures ready { IfOk result IsReady }
     ensures faults { HasCause (S.faults shelf.old) (S.faults shelf.new) (is_read_fault result) }

@@ -16,6 +16,8 @@ mod decimal_tests;
 #[cfg(test)]
 mod edge_tests;
 #[cfg(test)]
+mod fix_up_tests;
+#[cfg(test)]
 mod image_tests;
 #[cfg(test)]
 mod isa_tests;
@@ -33,6 +35,8 @@ mod symbol_tests;
 mod tape_tests;
 #[cfg(test)]
 mod text_tests;
+#[cfg(test)]
+mod two_passes;
 #[cfg(test)]
 mod word_tests;
 #[cfg(test)]

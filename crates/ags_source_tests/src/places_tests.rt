@@ -1,20 +1,36 @@
 //! Sources whose cards are placed, and sources that are refused, worked out by hand from docs/SOURCE.md.
 
 use crate::common::{expect_same, parts_of};
+use ags_card::read_card;
 use ags_places::{
-    Placed, PlacedSource, SourceError, SourceKind, card_lines_follow, each_symbol_has_a_pair,
-    one_list_of_pairs_fits, place_all, places_are_sums, words_stand_in_the_memory,
+    Placed, SourceError, SourceKind, card_lines_follow, each_symbol_has_a_pair, is_end,
+    one_list_of_pairs_fits, place_card, place_of_word, places_are_sums, words_stand_in_the_memory,
 };
 use ags_symbol::Symbols;
+use ags_text::Lines;
 use std::alloc::Global;
 use std::process::Abort;
 
-/// A source that is placed.
-fn placed(rt: &impl Abort, alloc: Global, source: &[u8]) -> PlacedSource {
-    assert!(rt; source.len() <= 4_194_304);
-    place_all(alloc, source)
-        .ok()
-        .expect(rt, "a source without a fault")
+/// The cards of a source at their places, one after the other up to and with the first END, and their symbols.
+fn placed(rt: &impl Abort, alloc: Global, source: &[u8]) -> (Vec<Placed>, Symbols) {
+    let mut symbols = Symbols::new(alloc);
+    let mut cards = Vec::new(alloc);
+    let mut place = 0u16;
+    let mut number = 0u32;
+    for line in Lines::of(source) {
+        number = number.saturating_add(1);
+        let card = read_card(line.bytes).ok().expect(rt, "a card");
+        assert!(rt; place <= 4096);
+        let next = place_card(&mut symbols, place, number, &card);
+        assert!(rt; line.start <= 1000 && line.bytes.len() <= 1000);
+        let at = place_of_word(place, &card.body);
+        assert!(rt; cards.push(Placed::at(line, at)).is_ok());
+        place = next.ok().expect(rt, "a card without a fault");
+        if is_end(&card.body) {
+            return (cards, symbols);
+        }
+    }
+    (cards, symbols)
 }
 
 /// Compares cards, whose words aren't made yet, with the spans and the places that are wanted.
@@ -70,9 +86,9 @@ const SYMBOLS: [(&[u8], i32, u32); 5] = [
 
 #[test]
 fn cards_are_placed(rt: HostRuntime) {
-    let source = placed(&rt, rt.alloc(), SOURCE);
-    expect_cards(&rt, &source.cards, &CARDS);
-    expect_symbols(&rt, &source.symbols, &SYMBOLS);
+    let (cards, symbols) = placed(&rt, rt.alloc(), SOURCE);
+    expect_cards(&rt, &cards, &CARDS);
+    expect_symbols(&rt, &symbols, &SYMBOLS);
 }
 
 /// The rows of `faults_of_words_are_printed`.

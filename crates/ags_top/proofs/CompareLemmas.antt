@@ -1,10 +1,10 @@
 -- What is said of a comparison.
-use Rattle.std.proofs.Common.{◌≡◌, ℕ, List, [], ◌∷◌, ◌++◌, length, slice_index_or, Option, Some, None, codes, map, refl, ap, ◌∙◌, arith}
+use Rattle.std.proofs.Common.{◌≡◌, ℕ, List, [], ◌∷◌, ◌++◌, length, slice_index_or, Option, Some, None, codes, refl, ap, ◌∙◌, arith}
 use Rattle.ags_text.specs.Numeral.{numeral, octal4_text}
 use Rattle.ags_compare.specs.declared.comparing.Compared.{Compared}
 use Rattle.ags_compare.specs.declared.comparing.Compared.TheVariants.{Equal, Differs}
 use Rattle.ags_compare.specs.Comparison.{IsComparison}
-use Rattle.ags_asm.specs.Source.{defined}
+use Rattle.ags_asm.specs.Source.{card_words}
 use Rattle.ags_asm.specs.declared.assembling.Assembled.{Assembled}
 use Rattle.ags_outside.specs.Sink.{appended, WroteFront}
 use Rattle.ags_plan.specs.Plan.{WorkAt}
@@ -76,14 +76,14 @@ equal_line = refl
 
 module _ (made : Assembled) (listed : List (Option ℕ)) (old new : Option (List ℕ)) (image : HasImage made) (compared : Compared) (is : IsComparison made.image listed compared) where
   -- how the images compare
-  comparison : IsComparisonOf (map defined made.cards.items) listed (compared_line compared) (compared_status compared)
+  comparison : IsComparisonOf (card_words made) listed (compared_line compared) (compared_status compared)
   comparison = record { image = made.image; image_is = image; compared = compared; comparison = is; text_is = refl; status_is = refl }
 
   -- it was said
   pub comparison_said : new ≡ appended old (compared_line compared)
-      → SaidWhole program (WorkAt (CompareImages (map defined made.cards.items) listed)) old new (compared_status compared)
+      → SaidWhole program (WorkAt (CompareImages (card_words made) listed)) old new (compared_status compared)
   comparison_said sent = record { text = compared_line compared; comes = comparison; sent = sent }
 
   -- a front of its line was
-  pub comparison_said_in_part : WroteFront old new (compared_line compared) → SaidInPart program (WorkAt (CompareImages (map defined made.cards.items) listed)) old new
+  pub comparison_said_in_part : WroteFront old new (compared_line compared) → SaidInPart program (WorkAt (CompareImages (card_words made) listed)) old new
   comparison_said_in_part prefix = record { text = compared_line compared; status = compared_status compared; comes = comparison; prefix = prefix }

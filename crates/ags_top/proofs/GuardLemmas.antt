@@ -1,7 +1,7 @@
 -- What is said of a script that was played under a certificate.
-use Rattle.std.proofs.Common.{◌≡◌, ℕ, List, ◌++◌, map, Option, Some, refl, sym, ap, subst, ◌∙◌, append_assoc, inl}
+use Rattle.std.proofs.Common.{◌≡◌, ℕ, List, ◌++◌, Option, Some, refl, sym, ap, subst, ◌∙◌, append_assoc, inl}
 use Rattle.std.specs.Prelude.{Result, Ok, Err, IfOk, OnOk, OnErr}
-use Rattle.ags_asm.specs.Source.{defined}
+use Rattle.ags_asm.specs.Source.{card_words}
 use Rattle.ags_asm.specs.declared.assembling.Assembled.{Assembled}
 use Rattle.ags_cert.specs.Cert.{Stated, certificate_of}
 use Rattle.ags_domain.specs.Value.{value_meaning}
@@ -85,14 +85,14 @@ verdict_front machine image cert commands old new (Refused refusal) text status 
 module _ (machine : Machine) (made : Assembled) (cert : Stated) (commands : List Command) (old mid new : Option (List ℕ)) (image : HasImage made) where
   -- what is said of the work
   abbrev SaidOf : Status → Type 0
-  SaidOf status = SaidWhole program (WorkAt (GuardScript machine (map defined made.cards.items) cert commands)) old new status
+  SaidOf status = SaidWhole program (WorkAt (GuardScript machine (card_words made) cert commands)) old new status
 
   abbrev SaidOfIt : Type 0
-  SaidOfIt = SaidInPart program (WorkAt (GuardScript machine (map defined made.cards.items) cert commands)) old new
+  SaidOfIt = SaidInPart program (WorkAt (GuardScript machine (card_words made) cert commands)) old new
 
   -- what the text and the status are of
   guarded_by : (verdict : Verdict Value) (text : List ℕ) (status : Status) → IsVerdict value_meaning machine made.image (certificate_of cert) verdict
-      → IsPlayedBy machine made.image cert commands verdict text status → IsGuardedBy machine (map defined made.cards.items) cert commands text status
+      → IsPlayedBy machine made.image cert commands verdict text status → IsGuardedBy machine (card_words made) cert commands text status
   guarded_by verdict text status is played = record { image = made.image; image_is = image; verdict = verdict; is_verdict = is; played = played }
 
   -- a prefix of the line of the verdict was sent
@@ -140,6 +140,6 @@ module _ (machine : Machine) (made : Assembled) (cert : Stated) (commands : List
   -- that it is certified was sent, and what comes of the play
   pub play_says : (rows cases : ℕ) (result : Result Status SendError) → IsVerdict value_meaning machine made.image (certificate_of cert) (Certified rows cases)
       → mid ≡ appended old (verdict_line (Certified rows cases)) → Guards machine made.image cert commands mid new result
-      → Says program (WorkAt (GuardScript machine (map defined made.cards.items) cert commands)) old new result
+      → Says program (WorkAt (GuardScript machine (card_words made) cert commands)) old new result
   play_says rows cases (Ok status) is certified guards = play_said rows cases status is certified guards
   play_says rows cases (Err error) is certified guards = inl (play_in_part rows cases is certified guards)

@@ -12,12 +12,12 @@ use Rattle.ags_plan.specs.Outcome.{Answered, Ends, EndsExactly, FindsRefusal}
 use Rattle.ags_plan.proofs.WalkLemmas.{told_bytes, way_to_refused}
 use Rattle.ags_plan.proofs.WorkLemmas.{way_to_work, work_of_way}
 use Rattle.ags_plan.proofs.StatusLemmas.{refused_exactly, work_exactly}
-use Rattle.ags_asm.specs.Source.{Defines, placed_words}
+use Rattle.ags_asm.specs.Source.{CardWords, Defines, placed_words}
 use Rattle.ags_compare.specs.declared.comparing.Compared.{Compared}
 use Rattle.ags_compare.specs.declared.comparing.Compared.TheVariants.{Equal, Differs}
 use Rattle.ags_compare.specs.Comparison.{IsComparison}
 use Rattle.ags_compare.proofs.ComparisonLemmas.{equal_is_one}
-use Rattle.ags_image.specs.Image.{PlacedWord, IsImageOf}
+use Rattle.ags_image.specs.Image.{IsImageOf}
 use Rattle.ags_listing.specs.Listing.{listing}
 use Rattle.ags_listing.specs.Reads.{Reads}
 use Rattle.ags_cert.specs.Cert.{certificate_of}
@@ -84,7 +84,7 @@ way_of_command told (Some name) command work (machine, (bytes, agrees, holds), l
 -- the text of a told source
 text_told : (told : Told) (machine : Machine) (what : SourceText) (name bytes text : List ℕ) (work : Work) → told name ≡ Stored bytes
     → LeadsTo program Agrees told (command_plan machine (Write what name)) work → Makes work text Done
-    → (defined : List (Option PlacedWord)) × Defines machine.codes bytes defined × IsTextOf what (record { bytes = bytes; defined = defined }) text
+    → (defined : CardWords) × Defines machine.codes bytes defined × IsTextOf what (record { bytes = bytes; defined = defined }) text
 text_told told machine what name bytes text work is (assembly, (there, agrees, holds), same) makes =
     let here = told_bytes (told name) bytes there is agrees in
     let made : Makes (WriteText what assembly) text Done = subst (λ (w : Work). Makes w text Done) (sym same) makes in

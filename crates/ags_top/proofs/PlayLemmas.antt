@@ -1,6 +1,6 @@
 -- What is said of a script that was played without a guard.
-use Rattle.std.proofs.Common.{ℕ, List, map, Option, None, refl, subst}
-use Rattle.ags_asm.specs.Source.{defined}
+use Rattle.std.proofs.Common.{ℕ, List, Option, None, refl, subst}
+use Rattle.ags_asm.specs.Source.{card_words}
 use Rattle.ags_asm.specs.declared.assembling.Assembled.{Assembled}
 use Rattle.ags_plan.specs.Plan.{WorkAt}
 use Rattle.ags_plan.specs.Saying.{SaidWhole, SaidInPart}
@@ -20,19 +20,19 @@ use Rattle.ags_program.specs.Work.{PlayScript, IsShownBy}
 use Rattle.ags_play.proofs.UnguardedLemmas.{unguarded}
 
 module _ (machine : Machine) (made : Assembled) (commands : List Command) (old new : Option (List ℕ)) (image : HasImage made) where
-  shown_by : (events : List Event) (text : List ℕ) → IsPlayOf machine made.image None commands events text Nothing → IsShownBy machine (map defined made.cards.items) commands text
+  shown_by : (events : List Event) (text : List ℕ) → IsPlayOf machine made.image None commands events text Nothing → IsShownBy machine (card_words made) commands text
   shown_by events text plays =
       let (moments, run) = run_of_play machine made.image commands events text plays in
       record { image = made.image; image_is = image; events = events; moments = moments; run = run; plays = plays }
 
   -- all of it was sent
   pub play_said : (played : Played) → PlayedWhole machine made.image None commands old new played
-      → SaidWhole program (WorkAt (PlayScript machine (map defined made.cards.items) commands)) old new Done
+      → SaidWhole program (WorkAt (PlayScript machine (card_words made) commands)) old new Done
   play_said played whole = record { text = whole.text; comes = (shown_by whole.events whole.text whole.plays, refl); sent = whole.sent }
 
   -- a prefix of it was
   pub play_said_in_part : PlayedInPart machine made.image None commands old new
-      → SaidInPart program (WorkAt (PlayScript machine (map defined made.cards.items) commands)) old new
+      → SaidInPart program (WorkAt (PlayScript machine (card_words made) commands)) old new
   play_said_in_part part =
       let free : IsPlayOf machine made.image None commands part.events part.text Nothing =
       subst (λ (m : Met). IsPlayOf machine made.image None commands part.events part.text m) (unguarded machine made.image commands part.events part.text part.met part.plays) part.plays in

@@ -1,11 +1,11 @@
 -- What is said of a text of a source.
-use Rattle.std.proofs.Common.{◌≡◌, ℕ, List, Option, map, refl}
+use Rattle.std.proofs.Common.{◌≡◌, ℕ, List, Option, refl}
 use Rattle.ags_command.specs.declared.source_texts.SourceText.{SourceText}
 use Rattle.ags_command.specs.declared.source_texts.SourceText.TheVariants.{Tape, CrossReference}
 use Rattle.ags_outside.specs.Sink.{appended, WroteFront}
 use Rattle.ags_plan.specs.Plan.{WorkAt}
 use Rattle.ags_plan.specs.Saying.{SaidWhole, SaidInPart}
-use Rattle.ags_asm.specs.Source.{defined}
+use Rattle.ags_asm.specs.Source.{card_words}
 use Rattle.ags_listing.specs.Listing.{listing}
 use Rattle.ags_image.specs.Tape.{tape_text}
 use Rattle.ags_xref.specs.Xref.{xref_text}
@@ -26,7 +26,7 @@ module _ (what : SourceText) (source : SourceFile) (text : List ℕ) (old new : 
 
 -- the texts of a source that was read
 abbrev pub listing_of : SourceFile → List ℕ
-listing_of source = listing source.bytes.items (map defined source.made.cards.items)
+listing_of source = listing source.bytes.items (card_words source.made)
 
 pub is_tape : (source : SourceFile) → IsReadSource source → IsTextOf Tape (assembly_of source) (tape_text source.made.image)
 is_tape source (order_codes, is) = (source.made.image, is.image, refl)

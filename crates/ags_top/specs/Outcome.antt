@@ -14,13 +14,13 @@ use Rattle.ags_listing.specs.Limit.{listing_limit}
 use Rattle.ags_machfile.specs.Limit.{machine_limit}
 use Rattle.ags_places.specs.Limit.{source_limit}
 use Rattle.ags_script.specs.Limit.{script_limit}
-use Rattle.ags_asm.specs.Source.{Defines, IsFaulty, placed_words}
+use Rattle.ags_asm.specs.Source.{CardWords, Defines, IsFaulty, placed_words}
 use Rattle.ags_cert.specs.Cert.{Stated, certificate_of}
 use Rattle.ags_certtext.specs.declared.cert_error.CertKind.{CertKind}
 use Rattle.ags_cert.specs.Text.{IsCertOf, IsFaultyCert}
 use Rattle.ags_domain.specs.Value.{value_meaning}
 use Rattle.ags_domain.specs.declared.values.Value.{Value}
-use Rattle.ags_image.specs.Image.{PlacedWord, IsImageOf}
+use Rattle.ags_image.specs.Image.{IsImageOf}
 use Rattle.ags_listing.specs.declared.list_error.ListError.{ListError}
 use Rattle.ags_listing.specs.Reads.{IsFaultyListing, Reads}
 use Rattle.ags_machfile.specs.declared.mach_error.MachError.{MachError}
@@ -67,12 +67,12 @@ abbrev pub WritesWhatIsDefined : (what : SourceText) (told : Told) (arguments : 
 WritesWhatIsDefined what told arguments old new result = (name bytes held : List ℕ) (machine_file : Option (List ℕ)) → result ≡ Done
     → arguments ≡ line_arguments (record { command = command.Write what name; machine = machine_file }) → told name ≡ Stored bytes → old ≡ Some held
     → (machine : Machine) × IsMachineOf told machine_file machine
-    × ((defined : List (Option PlacedWord)) × Defines machine.codes bytes defined
+    × ((defined : CardWords) × Defines machine.codes bytes defined
     × ((text : List ℕ) × IsTextOf what (record { bytes = bytes; defined = defined }) text × (new ≡ Some (held ++ text))))
 
 -- The source defines words, the listing has an image, and this is the text and the status of how they compare.
 pub record IsComparedOn (machine : Machine) (source listing text : List ℕ) (status : Status) : Type 0 where
-  pub defined : List (Option PlacedWord)
+  pub defined : CardWords
   pub defines : Defines machine.codes source defined
   pub listed : List (Option ℕ)
   pub reads : Reads listing listed
@@ -89,7 +89,7 @@ ComparesWhatIsDefined told arguments old new result = (source listing source_byt
 
 -- One image has exactly the words that the source defines, and is what the listing reads as.
 pub record IsOneImage (machine : Machine) (source listing : List ℕ) : Type 0 where
-  pub defined : List (Option PlacedWord)
+  pub defined : CardWords
   pub defines : Defines machine.codes source defined
   pub image : List (Option ℕ)
   pub image_is : IsImageOf (placed_words defined) image
@@ -104,7 +104,7 @@ EqualsWhatIsDefined told arguments result = (source listing source_bytes listing
 -- The source defines words, the text is a certificate for the machine's registers, and this is the text and the status of what comes
 -- of judging it.
 pub record IsJudgedOn (machine : Machine) (source certificate text : List ℕ) (status : Status) : Type 0 where
-  pub defined : List (Option PlacedWord)
+  pub defined : CardWords
   pub defines : Defines machine.codes source defined
   pub cert : Stated
   pub is_cert : IsCertOf machine.ports certificate cert
@@ -125,7 +125,7 @@ JudgesWhatIsDefined told arguments old new result = (source certificate source_b
 -- over every list of events that the certificate declares.
 pub record IsCertifiedOn (machine : Machine) (source certificate text : List ℕ) : Type 0 where
   pub valid : IsMachine machine
-  pub defined : List (Option PlacedWord)
+  pub defined : CardWords
   pub defines : Defines machine.codes source defined
   pub image : List (Option ℕ)
   pub image_is : IsImageOf (placed_words defined) image
@@ -158,7 +158,7 @@ pub record TellsAccepted (told : Told) (machine : Machine) (source certificate :
   pub source_bytes : List ℕ
   pub source_told : told source ≡ Stored source_bytes
   pub source_short : length source_bytes ≤ source_limit
-  pub defined : List (Option PlacedWord)
+  pub defined : CardWords
   pub defines : Defines machine.codes source_bytes defined
   pub image : List (Option ℕ)
   pub image_is : IsImageOf (placed_words defined) image
@@ -177,7 +177,7 @@ CertifiesAccepted told arguments result = (source certificate : List ℕ) (machi
 
 -- The source defines words, the script has commands for the machine, and the text is their play on these words.
 pub record IsShownOn (machine : Machine) (source script text : List ℕ) : Type 0 where
-  pub defined : List (Option PlacedWord)
+  pub defined : CardWords
   pub defines : Defines machine.codes source defined
   pub commands : List Command
   pub is_script : IsScript machine script commands
@@ -193,7 +193,7 @@ PlaysWhatIsDefined told arguments old new result = (source script source_bytes s
 -- The source defines words, the certificate is one for the machine's registers, the script has commands for the machine, and this is
 -- the text and the status of the verdict and of the play under the certificate.
 pub record IsGuardedOn (machine : Machine) (source script certificate text : List ℕ) (status : Status) : Type 0 where
-  pub defined : List (Option PlacedWord)
+  pub defined : CardWords
   pub defines : Defines machine.codes source defined
   pub cert : Stated
   pub is_cert : IsCertOf machine.ports certificate cert
@@ -243,7 +243,7 @@ pub record IsDeclaredPlay (machine : Machine) (image : List (Option ℕ)) (cert 
 -- The source defines words, the certificate is one for the machine's registers and the script has commands for the machine; and this
 -- comes of them for the image of exactly these words.
 pub record ComesOn (Comes : (image : List (Option ℕ)) → Stated → List Command → Type 0) (machine : Machine) (source script certificate : List ℕ) : Type 0 where
-  pub defined : List (Option PlacedWord)
+  pub defined : CardWords
   pub defines : Defines machine.codes source defined
   pub image : List (Option ℕ)
   pub image_is : IsImageOf (placed_words defined) image

@@ -1,13 +1,13 @@
 -- That a script has one play on the words of a source, without a guard or under a certificate.
 use Rattle.std.specs.Prelude.{◌≡◌, ℕ, ◌++◌, List, Option, Some, None}
 use Rattle.std.proofs.Common.{refl, sym, ap, subst, ◌∙◌}
-use Rattle.ags_asm.specs.Source.{placed_words}
+use Rattle.ags_asm.specs.Source.{CardWords, placed_words}
 use Rattle.ags_answered.proofs.VerdictLemmas.{some_verdict}
 use Rattle.ags_cert.specs.Cert.{Stated, certificate_of}
 use Rattle.ags_domain.specs.Value.{value_meaning}
 use Rattle.ags_domain.specs.MeaningLaws.{value_lawful}
 use Rattle.ags_domain.specs.declared.values.Value.{Value}
-use Rattle.ags_image.specs.Image.{PlacedWord, IsImageOf}
+use Rattle.ags_image.specs.Image.{IsImageOf}
 use Rattle.ags_image.proofs.ImageLaws.{one_image}
 use Rattle.ags_ports.specs.declared.events.Event.{Event}
 use Rattle.ags_ports.specs.declared.machines.Machine.{Machine}
@@ -46,7 +46,7 @@ module _ (machine : Machine) (image : List (Option ℕ)) (commands : List Comman
       → (moments : List Moment) × Run machine (begun_state machine image None commands) events moments
   run_of_play plays = run_unless plays.found plays.tested plays.played
 
-pub some_shown : (machine : Machine) (defined : List (Option PlacedWord)) (commands : List Command) (image : List (Option ℕ)) → IsMachine machine → IsImageOf (placed_words defined) image
+pub some_shown : (machine : Machine) (defined : CardWords) (commands : List Command) (image : List (Option ℕ)) → IsMachine machine → IsImageOf (placed_words defined) image
     → (text : List ℕ) × IsShownBy machine defined commands text
 some_shown machine defined commands image is image_is =
     let (events, text, met, plays) = some_play_of machine image None commands is in
@@ -55,7 +55,7 @@ some_shown machine defined commands image is image_is =
     let (moments, run) = run_of_play machine image commands events text free in
     (text, record { image = image; image_is = image_is; events = events; moments = moments; run = run; plays = free })
 
-pub one_shown : (machine : Machine) (defined : List (Option PlacedWord)) (commands : List Command) (text other : List ℕ) → IsMachine machine
+pub one_shown : (machine : Machine) (defined : CardWords) (commands : List Command) (text other : List ℕ) → IsMachine machine
     → IsShownBy machine defined commands text → IsShownBy machine defined commands other → text ≡ other
 one_shown machine defined commands text other is first second =
     let same = one_image (placed_words defined) first.image second.image first.image_is second.image_is in
@@ -87,14 +87,14 @@ module _ (machine : Machine) (image : List (Option ℕ)) (cert : Stated) (comman
       )
   one_played (Refused refusal) text other status ended first second = (first.0 ∙ sym second.0, first.1 ∙ sym second.1)
 
-pub some_guarded : (machine : Machine) (defined : List (Option PlacedWord)) (cert : Stated) (commands : List Command) (image : List (Option ℕ)) → IsMachine machine
+pub some_guarded : (machine : Machine) (defined : CardWords) (cert : Stated) (commands : List Command) (image : List (Option ℕ)) → IsMachine machine
     → IsImageOf (placed_words defined) image → (text : List ℕ) × (status : Status) × IsGuardedBy machine defined cert commands text status
 some_guarded machine defined cert commands image is image_is =
     let (verdict, is_verdict) = some_verdict machine image (certificate_of cert) is image_is.is_image in
     let (text, status, played) = some_played machine image cert commands is verdict in
     (text, status, record { image = image; image_is = image_is; verdict = verdict; is_verdict = is_verdict; played = played })
 
-pub one_guarded : (machine : Machine) (defined : List (Option PlacedWord)) (cert : Stated) (commands : List Command) (text other : List ℕ) (status ended : Status) → IsMachine machine
+pub one_guarded : (machine : Machine) (defined : CardWords) (cert : Stated) (commands : List Command) (text other : List ℕ) (status ended : Status) → IsMachine machine
     → IsGuardedBy machine defined cert commands text status → IsGuardedBy machine defined cert commands other ended → (text ≡ other) × (status ≡ ended)
 one_guarded machine defined cert commands text other status ended is first second =
     let same = one_image (placed_words defined) first.image second.image first.image_is second.image_is in

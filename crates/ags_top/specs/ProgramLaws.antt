@@ -35,11 +35,11 @@ use Rattle.ags_listing.specs.Reads.{Reads}
 use Rattle.ags_listing.proofs.MeaningLemmas as listed
 use Rattle.ags_image.specs.Tape.{tape_text}
 use Rattle.ags_xref.specs.Xref.{xref_text}
-use Rattle.ags_asm.specs.Source.{Defines, placed_words}
+use Rattle.ags_asm.specs.Source.{CardWords, Defines, placed_words}
 use Rattle.ags_asm.proofs.ApartLemmas.{each_place_once}
 use Rattle.ags_asm.proofs.MeaningLemmas as source
 use Rattle.ags_asm.proofs.MemoryLemmas.{words_of_memory}
-use Rattle.ags_image.specs.Image.{PlacedWord, IsImageOf}
+use Rattle.ags_image.specs.Image.{IsImageOf}
 use Rattle.ags_image.proofs.ImageLaws.{one_image, one_word_a_place, some_image}
 use Rattle.ags_machfile.specs.declared.mach_error.MachError.{MachError}
 use Rattle.ags_machfile.specs.MachineFile.{machine_of}
@@ -96,7 +96,7 @@ some_reading (Script machine) bytes = elim (script.script_or_faulty machine byte
 one_assembly : (order_codes bytes : List ℕ) (one other : Assembly) → HoldsSource order_codes bytes one → HoldsSource order_codes bytes other → one ≡ other
 one_assembly order_codes bytes one other first second =
     ap (λ (b : List ℕ). record { bytes = b; defined = one.defined }) (first.bytes_are ∙ sym second.bytes_are)
-    ∙ ap (λ (d : List (Option PlacedWord)). record { bytes = other.bytes; defined = d }) (source.one_meaning order_codes bytes one.defined other.defined first.defines second.defines)
+    ∙ ap (λ (d : CardWords). record { bytes = other.bytes; defined = d }) (source.one_meaning order_codes bytes one.defined other.defined first.defines second.defines)
 
 one_reading : (kind : Kind) (bytes : List ℕ) (one other : Value kind) → Holds kind bytes one → Holds kind bytes other → one ≡ other
 one_reading MachineFile bytes one other first second = cc
@@ -148,7 +148,7 @@ are_readable = record {
 -- ---- works
 
 -- the words are a source's, by some table of codes
-AreWordsOfSource : List (Option PlacedWord) → Type 0
+AreWordsOfSource : CardWords → Type 0
 AreWordsOfSource defined = (order_codes : List ℕ) × AreCodes order_codes × ((bytes : List ℕ) × Defines order_codes bytes defined)
 
 -- what is so of a work in which a walk ends: its machine is one, its words are a source's, and a listing's image is read of its bytes
@@ -193,7 +193,7 @@ asked_by told None work end = let same : work ≡ NoForm = cc in subst IsAskedFo
 asked_by told (Some line) work ends = (asked_by_line told line.machine line.command work (way_to_work program Agrees told (asked_plan (Some line)) work ends)).0
 
 -- words of a source have an image
-some_image_of : (defined : List (Option PlacedWord)) → AreWordsOfSource defined → (image : List (Option ℕ)) × IsImageOf (placed_words defined) image
+some_image_of : (defined : CardWords) → AreWordsOfSource defined → (image : List (Option ℕ)) × IsImageOf (placed_words defined) image
 unfolding AreWordsOfSource
 some_image_of defined (order_codes, are, (bytes, defines)) =
     some_image (placed_words defined) (words_of_memory order_codes bytes defined are defines) (one_word_a_place (placed_words defined) (each_place_once order_codes bytes defined defines))
@@ -214,7 +214,7 @@ one_text what.CrossReference assembly written other (symbols, fits, is) (others,
     is ∙ ap (xref_text assembly.bytes) (fits_one symbols others (cards assembly.bytes) fits fit) ∙ sym also
 
 -- words of a source and a listing compare in one way
-one_comparison_of : (defined : List (Option PlacedWord)) (listed : List (Option ℕ)) (text other : List ℕ) (status ended : Status)
+one_comparison_of : (defined : CardWords) (listed : List (Option ℕ)) (text other : List ℕ) (status ended : Status)
     → IsComparisonOf defined listed text status → IsComparisonOf defined listed other ended → (text ≡ other) × (status ≡ ended)
 one_comparison_of defined listed text other status ended first second =
     let same = one_image (placed_words defined) first.image second.image first.image_is second.image_is in

@@ -1,7 +1,7 @@
 //! The command `compare`: whether the words of a source are those of a listing.
 
-ghost use Rattle.std.specs.Prelude.{◌≡◌, ◌<◌, map};
-ghost use Rattle.ags_asm.specs.Source.{defined};
+ghost use Rattle.std.specs.Prelude.{◌≡◌, ◌<◌};
+ghost use Rattle.ags_asm.specs.Source.{card_words};
 ghost use Rattle.ags_compare.specs.declared.comparing.Compared.{Compared};
 ghost use Rattle.ags_outside.specs.Count.{HasCause};
 ghost use Rattle.ags_outside.specs.Send.{is_write_fault};
@@ -52,7 +52,7 @@ pub(crate) fn compare_images<K: Sink>(
     out: &mut K,
 ) -> Result<Status, SendError>
     requires { HasImage made.now }
-    ensures says { Says program (WorkAt (work.CompareImages (map defined made.now.cards.items) listed.now)) (K.told out.old) (K.told out.new) result }
+    ensures says { Says program (WorkAt (work.CompareImages (card_words made.now) listed.now)) (K.told out.old) (K.told out.new) result }
     ensures faults { HasCause (K.faults out.old) (K.faults out.new) (is_write_fault result) }
 {
     match compare(&made.image, listed) {

@@ -1,9 +1,9 @@
 //! The command `guard`: what a script shows of the machine that begins with a source's words, under a certificate that is accepted
 //! for them.
 
-ghost use Rattle.std.specs.Prelude.{◌≡◌, ◌++◌, IfOk, OnOk, OnErr, codes, map};
+ghost use Rattle.std.specs.Prelude.{◌≡◌, ◌++◌, IfOk, OnOk, OnErr, codes};
 ghost use Rattle.std.specs.String.{string_bytes};
-ghost use Rattle.ags_asm.specs.Source.{defined};
+ghost use Rattle.ags_asm.specs.Source.{card_words};
 ghost use Rattle.ags_outside.specs.Count.{HasCause};
 ghost use Rattle.ags_outside.specs.Send.{is_write_fault};
 ghost use Rattle.ags_outside.specs.Sink.{WroteFront, appended};
@@ -86,7 +86,7 @@ pub(crate) fn guard_script<K: Sink>(
 ) -> Result<Status, SendError>
     requires image { HasImage made.now }
     requires script { IsReadFor machine.now script.now }
-    ensures says { Says program (WorkAt (work.GuardScript machine.now (map defined made.now.cards.items) cert.now script.now)) (K.told out.old) (K.told out.new) result }
+    ensures says { Says program (WorkAt (work.GuardScript machine.now (card_words made.now) cert.now script.now)) (K.told out.old) (K.told out.new) result }
     ensures faults { HasCause (K.faults out.old) (K.faults out.new) (is_write_fault result) }
 {
     machine_is_made_of_tables(machine);

@@ -1,7 +1,6 @@
 //! The command `run`: what a script shows of the machine that begins with a source's words.
 
-ghost use Rattle.std.specs.Prelude.{map};
-ghost use Rattle.ags_asm.specs.Source.{defined};
+ghost use Rattle.ags_asm.specs.Source.{card_words};
 ghost use Rattle.ags_outside.specs.Count.{HasCause};
 ghost use Rattle.ags_outside.specs.Send.{is_write_fault};
 ghost use Rattle.ags_plan.specs.Plan.{WorkAt};
@@ -29,7 +28,7 @@ pub(crate) fn play_script<K: Sink>(
 ) -> Result<Status, SendError>
     requires image { HasImage made.now }
     requires script { IsReadFor machine.now script.now }
-    ensures says { Says program (WorkAt (work.PlayScript machine.now (map defined made.now.cards.items) script.now)) (K.told out.old) (K.told out.new) result }
+    ensures says { Says program (WorkAt (work.PlayScript machine.now (card_words made.now) script.now)) (K.told out.old) (K.told out.new) result }
     ensures faults { HasCause (K.faults out.old) (K.faults out.new) (is_write_fault result) }
 {
     match play(alloc, machine, &made.image, script, None, out) {

@@ -11,7 +11,7 @@ use Rattle.ags_places.specs.Deck.{card_of, card_lines, cards, cards_in}
 use Rattle.ags_places.proofs.PlacingLemmas.{lines_of_cards_follow}
 use Rattle.ags_symbol.specs.Symbol.{Entry}
 use Rattle.ags_asm.specs.declared.assembling.Assembled.{Assembled}
-use Rattle.ags_asm.specs.Source.{AreSpans, Defines, placed_at, placed_cards}
+use Rattle.ags_asm.specs.Source.{AreSpans, CardWords, Defines, placed_at, placed_cards}
 use Rattle.ags_asm.specs.Word.{definitions}
 use Rattle.ags_asm.proofs.MeaningLemmas.{one_for_each}
 use Rattle.ags_xref.specs.declared.rows.Row.{Row}
@@ -96,22 +96,22 @@ module _ {A : Type 0} where
 
 -- ---- the cards by their spans
 
-card_at-line : (source : List ℕ) (line : LineAt) (one : Option PlacedWord) → LiesIn source line → card_at source (placed_at line one) ≡ card_of (reading line.bytes)
-card_at-line source line None lies = ap (λ (bytes : List ℕ). card_of (reading bytes)) (ap (λ (n : ℕ). take n (drop line.start source)) (omega arith) ∙ lies.bytes_are)
-card_at-line source line (Some definition) lies = ap (λ (bytes : List ℕ). card_of (reading bytes)) (ap (λ (n : ℕ). take n (drop line.start source)) (omega arith) ∙ lies.bytes_are)
+card_at-line : (source : List ℕ) (line : LineAt) (words : List PlacedWord) → LiesIn source line → card_at source (placed_at line words) ≡ card_of (reading line.bytes)
+card_at-line source line [] lies = ap (λ (bytes : List ℕ). card_of (reading bytes)) (ap (λ (n : ℕ). take n (drop line.start source)) (omega arith) ∙ lies.bytes_are)
+card_at-line source line (one ∷ more) lies = ap (λ (bytes : List ℕ). card_of (reading bytes)) (ap (λ (n : ℕ). take n (drop line.start source)) (omega arith) ∙ lies.bytes_are)
 
-cards_at : (source : List ℕ) (from : ℕ) (lines : List LineAt) (ds : List (Option PlacedWord)) → length ds ≡ length lines → Follow source from lines
+cards_at : (source : List ℕ) (from : ℕ) (lines : List LineAt) (ds : CardWords) → length ds ≡ length lines → Follow source from lines
     → map (card_at source) (placed_cards lines ds) ≡ cards_in lines
 cards_at source from [] ds long follow = refl
 cards_at source from (line ∷ lines) [] long follow = absurd (omega (arith, long))
 cards_at source from (line ∷ lines) (d ∷ ds) long follow =
     rw (card_at-line source line d follow.1, cards_at source (line.start + length line.bytes + 1) lines ds (omega (arith, long)) follow.2) refl
 
-spans_at : (source : List ℕ) (from : ℕ) (lines : List LineAt) (ds : List (Option PlacedWord)) → Follow source from lines → AreSpans from (length source) (placed_cards lines ds)
+spans_at : (source : List ℕ) (from : ℕ) (lines : List LineAt) (ds : CardWords) → Follow source from lines → AreSpans from (length source) (placed_cards lines ds)
 spans_at source from [] ds follow = tt
 spans_at source from (line ∷ lines) [] follow = tt
-spans_at source from (line ∷ lines) (None ∷ ds) follow = (follow.0, omega arith, follow.1.within, spans_at source (line.start + length line.bytes + 1) lines ds follow.2)
-spans_at source from (line ∷ lines) (Some d ∷ ds) follow = (follow.0, omega arith, follow.1.within, spans_at source (line.start + length line.bytes + 1) lines ds follow.2)
+spans_at source from (line ∷ lines) ([] ∷ ds) follow = (follow.0, omega arith, follow.1.within, spans_at source (line.start + length line.bytes + 1) lines ds follow.2)
+spans_at source from (line ∷ lines) ((one ∷ more) ∷ ds) follow = (follow.0, omega arith, follow.1.within, spans_at source (line.start + length line.bytes + 1) lines ds follow.2)
 
 -- the spans of an assembled source's cards are those of its lines
 pub spans_of : (source : List ℕ) (made : Assembled) → IsAssemblyOf source made → AreSpans 0 (length source) made.cards.items

@@ -1,6 +1,5 @@
 use Rattle.std.proofs.lemmas.Result.{err_from_is_err_and}
-use Rattle.std.specs.Prelude.{map}
-use Rattle.ags_asm.specs.Source.{defined}
+use Rattle.ags_asm.specs.Source.{card_words}
 use Rattle.ags_plan.specs.Plan.{Do, Read}
 use Rattle.ags_plan.specs.Loading.{end_of}
 use Rattle.ags_plan.proofs.LoadingLemmas.{loads_stop}
@@ -15,20 +14,20 @@ pub returns-in_err-cert-clause-loads : goal.returns-in_err-cert-clause-loads
 returns-in_err-cert-clause-loads g c =
     let p = err_from_is_err_and c.from_residual.result c.from_residual.ensures.1 in
     rw (p.1, p.2) (loads_stop program (g.S.Shelf.told c.args.shelf.now) (Certificate c.args.machine) c.args.certificate.now
-    (λ cert. Read (Script c.args.machine) c.args.script.now (λ commands. Do (GuardScript c.args.machine (map defined c.args.made.cards.items) cert commands)))
+    (λ cert. Read (Script c.args.machine) c.args.script.now (λ commands. Do (GuardScript c.args.machine (card_words c.args.made) cert commands)))
     (end_of program line_of status_of c.in_err-cert.field-0.0) c.in_err-cert.ensures.loads)
 
 pub returns-in_err-script-clause-loads : goal.returns-in_err-script-clause-loads
 returns-in_err-script-clause-loads g c =
     let p = err_from_is_err_and c.from_residual-in_err-script.result c.from_residual-in_err-script.ensures.1 in
     rw (p.1, p.2) (second_stops (g.S.Shelf.told c.args.shelf.now) (g.S.Shelf.told c.load_certificate.new.shelf) (Certificate c.args.machine) c.args.certificate.now (Script c.args.machine) c.args.script.now
-    (λ cert commands. GuardScript c.args.machine (map defined c.args.made.cards.items) cert commands) c.in_ok-cert.cert c.in_ok-cert.ensures.loads c.in_ok-cert.ensures.same
+    (λ cert commands. GuardScript c.args.machine (card_words c.args.made) cert commands) c.in_ok-cert.cert c.in_ok-cert.ensures.loads c.in_ok-cert.ensures.same
     (end_of program line_of status_of c.in_err-script.field-0.0) c.in_err-script.ensures.loads)
 
 pub returns-clause-loads : goal.returns-clause-loads
 returns-clause-loads g c =
     both_load (g.S.Shelf.told c.args.shelf.now) (g.S.Shelf.told c.load_certificate.new.shelf) (Certificate c.args.machine) c.args.certificate.now (Script c.args.machine) c.args.script.now
-    (λ cert commands. GuardScript c.args.machine (map defined c.args.made.cards.items) cert commands) c.in_ok-cert.cert c.in_ok-cert.ensures.loads c.in_ok-cert.ensures.same
+    (λ cert commands. GuardScript c.args.machine (card_words c.args.made) cert commands) c.in_ok-cert.cert c.in_ok-cert.ensures.loads c.in_ok-cert.ensures.same
     c.in_ok-script.script c.in_ok-script.ensures.loads
 
 pub returns-clause-ready : goal.returns-clause-ready

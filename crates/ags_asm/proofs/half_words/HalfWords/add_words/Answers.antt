@@ -1,0 +1,24 @@
+use Rattle.std.proofs.Common.{[], length, Some, None, sym, refl, append-nil, arith}
+use Rattle.std.specs.Vec.{with_items}
+use Rattle.ags_asm.specs.declared.half_words.HalfWords.{HalfWords}
+use Rattle.ags_asm.proofs.KeptLemmas.{keep_taken, keep_free, none_small, not_some, found_there, owned_there}
+use Rattle.ags_asm.proofs.OwnedLemmas.{count_owned}
+use Rattle.ags_asm.proofs.half_words.HalfWords.add_words.Goals as goal
+
+pub returns-in-Some-clause-step : goal.returns-in-Some-clause-step
+returns-in-Some-clause-step c = λ codes S cards before left card next made so.
+    keep_taken codes S cards before left card c.args.self.now _ c.args.number c.args.at (length c.args.words.now) c.args.words.now [] c.requires.not_met (sym (append-nil c.args.self.now.waiting.items)) none_small (omega arith) c.requires.room next made so
+    c.in-Some.kind (found_there c.deref.result.now c.args.self.now.owners.items c.args.at (length c.args.words.now) c.first_taken.result (Some c.in-Some.kind) c.deref.ensures.value c.first_taken.ensures c.in-Some.is) so.whole refl
+
+pub returns-clause-step : goal.returns-clause-step
+returns-clause-step c = λ codes S cards before left card next made so.
+    let now : HalfWords = record { image = c.fill.new.image; owners = with_items c.args.self.now.owners c.own.new.owners; waiting = c.args.self.now.waiting; met = c.args.self.now.met } in
+    keep_free codes S cards before left card c.args.self.now now c.args.number c.args.at (length c.args.words.now) c.args.words.now [] c.requires.not_met (sym (append-nil c.args.self.now.waiting.items)) none_small (omega arith) c.requires.room next made so
+    (found_there c.deref.result.now c.args.self.now.owners.items c.args.at (length c.args.words.now) c.first_taken.result None c.deref.ensures.value c.first_taken.ensures (not_some c.first_taken.result c.in_default.not-Some)) c.requires.whole c.fill.ensures.filled (c.fill.ensures.image so.whole)
+    (owned_there c.args.self.now.owners c.own.new.owners c.deref_mut.result.now c.args.at (length c.args.words.now) c.args.number c.deref_mut.ensures.value c.own.ensures) c.requires.not_met
+
+pub returns-clause-few : goal.returns-clause-few
+returns-clause-few c =
+    let many = length c.args.words.now in
+    let owned = owned_there c.args.self.now.owners c.own.new.owners c.deref_mut.result.now c.args.at many c.args.number c.deref_mut.ensures.value c.own.ensures in
+    rw owned (omega (arith, c.requires.few, count_owned c.args.self.now.owners.items c.args.at many c.args.number (omega (arith, c.requires.room, c.requires.whole)) c.requires.positive))

@@ -1,0 +1,77 @@
+//! The end of a source: the orders that wait get their words.
+
+ghost use Rattle.std.specs.Prelude.{◌≡◌, ◌<◌, pos, List, [], None, Some, All, OnOk, IfOk, IfErr, option_map, unsigned_abs, unwrap_or};
+ghost use Rattle.ags_text.specs.Fault.{first_fault};
+ghost use Rattle.ags_card.specs.declared.cards.Card.{Card};
+ghost use Rattle.ags_image.specs.Image.{IsImage, IsImageOf};
+ghost use Rattle.ags_asm.specs.HalfMade.{IsHalfMade, closed_into, told};
+ghost use Rattle.ags_asm.specs.Source.{placed_words};
+ghost use Rattle.ags_asm.specs.Waiting.{closed_sum, closing_fault};
+ghost use Rattle.ags_asm.specs.Word.{address_fault, definitions, word_fault};
+
+use crate::fix_ups::FixUp;
+use crate::half_words::HalfWords;
+use crate::making::address_of;
+use ags_image::Image;
+use ags_isa::{Codes, encode};
+use ags_places::{SourceError, SourceKind};
+use ags_symbol::Symbols;
+
+/// The address that an order that waited comes to.
+fn close_address(symbols: &Symbols, fix_up: &FixUp) -> Result<u16, SourceKind>
+    ensures address { IfOk result (λ address. address ≡ unsigned_abs (unwrap_or (closed_sum symbols.now fix_up.now) (pos 0))) }
+    ensures small { IfOk result (λ address. address < 4096) }
+    ensures faultless { OnOk result (address_fault (closed_sum symbols.now fix_up.now) ≡ None) }
+    ensures fault { IfErr result (λ kind. address_fault (closed_sum symbols.now fix_up.now) ≡ Some kind) }
+{
+    let Some(rest) = symbols.sum_of_terms(fix_up.rest.as_slice(), fix_up.place) else {
+        return Err(SourceKind::Undefined);
+    };
+    address_of(fix_up.sum + rest)
+}
+
+/// Gives the orders that wait their words, or finds the first fault of one.
+fn close_all(
+    codes: &Codes,
+    symbols: &Symbols,
+    waiting: &[FixUp],
+    image: &mut Image,
+) -> Result<(), SourceError>
+    requires within { All (λ waiting. waiting.place < 4096) waiting.now }
+    ensures faultless { OnOk result (closing_fault symbols.now waiting.now ≡ None) }
+    ensures fault { IfErr result (λ error. closing_fault symbols.now waiting.now ≡ Some (told error)) }
+    ensures closed { OnOk result (image.new ≡ closed_into codes.now symbols.now image.old waiting.now) }
+    ensures image { IsImage image.old → IsImage image.new }
+{
+    for fix_up in waiting {
+        match close_address(symbols, fix_up) {
+            Ok(address) => {
+                let word = encode(codes, fix_up.order, fix_up.indexed, address);
+                image.set(fix_up.place, word);
+            }
+            Err(kind) => {
+                return Err(SourceError {
+                    card: fix_up.card,
+                    kind,
+                });
+            }
+        }
+    }
+    Ok(())
+}
+
+impl HalfWords {
+    /// Closes the words of all cards, over all symbols: tells the first fault of the phase of words, where there is one.
+    pub(crate) fn close(&mut self, codes: &Codes, symbols: &Symbols) -> Option<SourceError>
+        requires within { All (λ waiting. waiting.place < 4096) self.old.waiting.items }
+        ensures fault { (cards before : List Card) → IsHalfMade codes.now symbols.now cards before [] self.old
+            → first_fault (word_fault symbols.now) [] cards ≡ option_map told result }
+        ensures image { (cards before : List Card) → IsHalfMade codes.now symbols.now cards before [] self.old → result ≡ None
+            → IsImageOf (placed_words (definitions codes.now symbols.now cards)) self.new.image }
+    {
+        match close_all(codes, symbols, &self.waiting, &mut self.image) {
+            Ok(()) => self.met,
+            Err(error) => Some(error),
+        }
+    }
+}

@@ -1,0 +1,263 @@
+//! Sources whose orders name symbols that later cards define, and sources with faults of several phases: worked out by hand from
+//! docs/SOURCE.md, Faults, and decks drawn by chance, whose answer a plain program works out in two passes.
+
+use crate::common::expect_same;
+use crate::two_passes::assemble_in_two_passes;
+use ags_asm::{AssembleError, Assembled, SourceError, SourceKind, assemble};
+use ags_isa::Codes;
+use std::alloc::Global;
+use std::process::Abort;
+
+/// What a source is assembled as by the standard codes.
+fn assembled(rt: &impl Abort, alloc: Global, source: &[u8]) -> Result<Assembled, AssembleError> {
+    assert!(rt; source.len() <= 4_194_304);
+    assemble(alloc, source, &Codes::standard())
+}
+
+/// The line of a fault.
+fn line_of(rt: &impl Abort, alloc: Global, fault: &SourceError) -> String {
+    format!(in alloc; "{fault}").expect(rt, "memory for a line")
+}
+
+/// Expects this first fault of a source.
+fn expect_fault(rt: &impl Abort, alloc: Global, source: &[u8], card: u32, kind: SourceKind) {
+    let wanted = line_of(rt, alloc, &SourceError { card, kind });
+    match assembled(rt, alloc, source) {
+        Err(AssembleError::Source(error)) => {
+            let told = line_of(rt, alloc, &error);
+            expect_same(rt, &told.as_str(), &wanted.as_str());
+        }
+        _ => assert!(rt; false),
+    }
+}
+
+/// The rows of `first_faults_are_told`: a source, the card at fault, and its fault.
+const FIRST_FAULTS: [(&[u8], u32, SourceKind); 10] = [
+    // a card waits, and a later one takes its place
+    (
+        b" CLA Y\n ORG 0\n OCT 1\n TRA 5000",
+        1,
+        SourceKind::Undefined,
+    ),
+    (
+        b" CLA Y\n ORG 0\n OCT 1\n TRA 5000\nY EQU 1",
+        3,
+        SourceKind::PlaceTwice { first: 1 },
+    ),
+    // a card waits whose place is taken
+    (b" OCT 1\n ORG 0\n CLA Y", 3, SourceKind::Undefined),
+    (
+        b" OCT 1\n ORG 0\n CLA Y\nY EQU 5000",
+        3,
+        SourceKind::AddressRange { value: 5000 },
+    ),
+    (
+        b" OCT 1\n ORG 0\n CLA Y\nY EQU 5",
+        3,
+        SourceKind::PlaceTwice { first: 1 },
+    ),
+    // of those that wait the first at fault is told
+    (b" CLA Y\n CLA Z\nY EQU 1", 2, SourceKind::Undefined),
+    (
+        b" CLA Y\n CLA Z\nY EQU 4096",
+        1,
+        SourceKind::AddressRange { value: 4096 },
+    ),
+    // an earlier card that waits comes before a fault that is known at once
+    (b" CLA Y\n DEC 9B0", 1, SourceKind::Undefined),
+    (b" CLA Y\n DEC 9B0\nY EQU 1", 2, SourceKind::ValueRange),
+    // a symbol behind END isn't one of the source
+    (b" CLA Y\n END\nY EQU 1", 1, SourceKind::Undefined),
+];
+
+#[test]
+fn first_faults_are_told(rt: HostRuntime) {
+    for &(source, card, kind) in &FIRST_FAULTS {
+        expect_fault(&rt, rt.alloc(), source, card, kind);
+    }
+}
+
+/// Expects this word at the place 0.
+fn expect_word(rt: &impl Abort, alloc: Global, source: &[u8], word: u32) {
+    let made = assembled(rt, alloc, source)
+        .ok()
+        .expect(rt, "a source without a fault");
+    expect_same(rt, &made.image.word_at(0).number(), &word);
+}
+
+#[test]
+fn symbols_of_later_cards_are_taken(rt: HostRuntime) {
+    expect_word(&rt, rt.alloc(), b" CLA 5-Y\nY END\nY EQU 3", 0o200004);
+    expect_word(&rt, rt.alloc(), b"X CLA *+Y-X,1\n\nY EQU 7", 0o210007);
+}
+
+/// Cards with faults of each phase: of cards, of places and of words. The first card of each is at fault, and what it names is
+/// named by no other. Each is followed by how many lines it has.
+const CARD_FAULTS: [(&[u8], SourceKind); 9] = [
+    (b"\x01", SourceKind::BadByte),
+    (
+        b"*23456789 123456789 123456789 123456789 123456789 123456789 123456789 123456789 123456789 123456789 123456789 123456789 1",
+        SourceKind::LongCard,
+    ),
+    (b"TOOLONG OCT 1", SourceKind::BadSymbol),
+    (b" XYZ", SourceKind::UnknownOperation),
+    (b" CLA", SourceKind::MissingOperand),
+    (b" BSS 1,2", SourceKind::ExtraOperand),
+    (b" CLA 1+", SourceKind::BadExpression),
+    (b" DEC X", SourceKind::BadDecimal),
+    (b" OCT 8", SourceKind::BadOctal),
+];
+
+/// Those of the phase of places.
+const PLACE_FAULTS: [(&[u8], SourceKind); 4] = [
+    (b" BSS E", SourceKind::UndefinedEarly),
+    (b" BSS -1", SourceKind::PlaceRange),
+    (b" ORG 4096", SourceKind::PlaceRange),
+    (b"N EQU 262144", SourceKind::PlaceRange),
+];
+
+/// Those of the phase of words.
+const WORD_FAULTS: [(&[u8], SourceKind); 4] = [
+    (b" CLA U", SourceKind::Undefined),
+    (b" CLA -5", SourceKind::AddressRange { value: -5 }),
+    (b" CLA 5000", SourceKind::AddressRange { value: 5000 }),
+    (b" DEC 9B0", SourceKind::ValueRange),
+];
+
+/// The two lines, one behind the other.
+fn joined(rt: &impl Abort, alloc: Global, first: &[u8], second: &[u8]) -> Vec<u8> {
+    let mut source = Vec::new(alloc);
+    for part in [first, b"\n", second] {
+        assert!(rt; source.extend_from_slice(part).is_ok());
+    }
+    source
+}
+
+/// Expects the fault of the earlier phase, whichever of the two cards stands first.
+fn expect_earlier(
+    rt: &impl Abort,
+    alloc: Global,
+    earlier: &(&[u8], SourceKind),
+    later: &(&[u8], SourceKind),
+) {
+    let (card, kind) = *earlier;
+    expect_fault(rt, alloc, &joined(rt, alloc, card, later.0), 1, kind);
+    expect_fault(rt, alloc, &joined(rt, alloc, later.0, card), 2, kind);
+}
+
+#[test]
+fn earlier_phases_come_first(rt: HostRuntime) {
+    for word in &WORD_FAULTS {
+        for card in &CARD_FAULTS {
+            expect_earlier(&rt, rt.alloc(), card, word);
+        }
+        for place in &PLACE_FAULTS {
+            expect_earlier(&rt, rt.alloc(), place, word);
+        }
+    }
+    for place in &PLACE_FAULTS {
+        for card in &CARD_FAULTS {
+            expect_earlier(&rt, rt.alloc(), card, place);
+        }
+    }
+}
+
+/// An order for each place of the memory, which all wait for one symbol, and these lines behind them.
+fn full_memory(rt: &impl Abort, alloc: Global, behind: &[u8]) -> Vec<u8> {
+    let mut source = Vec::new(alloc);
+    for _ in 0..4096 {
+        assert!(rt; source.extend_from_slice(b" CLA Y\n").is_ok());
+    }
+    assert!(rt; source.extend_from_slice(behind).is_ok());
+    source
+}
+
+#[test]
+fn as_many_orders_wait_as_there_are_places_and_one_more(rt: HostRuntime) {
+    let alloc = rt.alloc();
+    let source = full_memory(&rt, alloc, b"Y EQU 9");
+    let made = assembled(&rt, alloc, &source)
+        .ok()
+        .expect(&rt, "a source without a fault");
+    for place in 0..4096u16 {
+        assert!(rt; made.image.word_at(place).number() == 0o200011);
+    }
+    let source = full_memory(&rt, alloc, b" ORG 7\n CLA Y\n CLA Y\nY EQU 9");
+    let taken = SourceKind::PlaceTwice { first: 8 };
+    expect_fault(&rt, alloc, &source, 4098, taken);
+    let source = full_memory(&rt, alloc, b" ORG 7\n CLA Z\n CLA Z\nY EQU 9");
+    expect_fault(&rt, alloc, &source, 4098, SourceKind::Undefined);
+    let source = full_memory(&rt, alloc, b" ORG 7\n CLA Y");
+    expect_fault(&rt, alloc, &source, 1, SourceKind::Undefined);
+}
+
+/// The cards that a deck is drawn of.
+const DRAWN: [&[u8]; 24] = [
+    b"",
+    b"* NONE",
+    b" CLA A",
+    b" CLA B-A",
+    b"A ADD C,1",
+    b"B TRA *+A",
+    b" STO 4000-A-A",
+    b"C OCT 17",
+    b" DEC 5",
+    b" DEC 9B0",
+    b"A EQU 3",
+    b"B EQU A+1",
+    b"C EQU -B",
+    b" ORG 0",
+    b" ORG 1",
+    b" ORG A",
+    b" BSS 1",
+    b"B BSS A",
+    b" BSS B-A",
+    b" ORG 4095",
+    b" XYZ",
+    b"C END",
+    b" SUB C",
+    b"A MPY B",
+];
+
+/// A number after another, as chance has it.
+fn next_number(number: u32) -> u32 {
+    number.wrapping_mul(1_664_525).wrapping_add(1_013_904_223)
+}
+
+/// A deck of one to sixteen cards, drawn by a number, and the number behind it.
+fn drawn(rt: &impl Abort, alloc: Global, seed: u32) -> (Vec<u8>, u32) {
+    let mut number = next_number(seed);
+    let mut source = Vec::new(alloc);
+    for _ in 0..1 + (number >> 16) % 16 {
+        number = next_number(number);
+        let card = DRAWN[((number >> 16) % 24) as usize];
+        assert!(rt; source.extend_from_slice(card).is_ok());
+        assert!(rt; source.push(b'\n').is_ok());
+    }
+    (source, number)
+}
+
+/// Expects the answer of the plain program.
+fn expect_same_answer(rt: &impl Abort, alloc: Global, source: &[u8]) {
+    let wanted = assemble_in_two_passes(rt, alloc, source);
+    match (assembled(rt, alloc, source), wanted) {
+        (Ok(made), Ok(cards)) => {
+            assert!(rt; made.cards.len() == cards.len());
+            for (card, (place, word)) in made.cards.iter().zip(&cards) {
+                assert!(rt; card.place == *place && card.word == *word);
+            }
+        }
+        (Err(AssembleError::Source(told)), Err(error)) => assert!(rt; told == error),
+        _ => assert!(rt; false),
+    }
+}
+
+#[test]
+fn decks_drawn_by_chance_have_the_answer_of_two_passes(rt: HostRuntime) {
+    let mut seed = 1969;
+    for _ in 0..400 {
+        let (source, next) = drawn(&rt, rt.alloc(), seed);
+        expect_same_answer(&rt, rt.alloc(), &source);
+        seed = next;
+    }
+}
