@@ -1,6 +1,7 @@
 -- what the public contracts cite
 pub use Rattle.ags_certtype.specs.Cert
 pub use Rattle.ags_certtype.specs.Limit
+pub use Rattle.ags_certtype.specs.Index
 pub use Rattle.ags_certread.specs.Kept
 pub use Rattle.ags_certread.specs.Length
 pub use Rattle.ags_certread.specs.Pieces

@@ -9,4 +9,5 @@ pub use ags_certread::{
 };
 pub use ags_certsend::{send_cert, sent_certificate_reads_back, sent_lines_are_read};
 pub use ags_certtext::{CertError, CertKind};
+pub use ags_certtype::laws::numbers_are_of_the_rows_at_a_location;
 pub use ags_certtype::{Cert, CertParts, MOST_ROWS, MOST_ROWS_AT_ONE};

@@ -1,1 +1,3 @@
 pub mod CheckLemmas
+mod IndexLemmas
+pub mod NumberLemmas

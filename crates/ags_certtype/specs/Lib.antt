@@ -1,3 +1,4 @@
 -- what the public contracts cite
 pub mod Limit
 pub mod Cert
+pub mod Index

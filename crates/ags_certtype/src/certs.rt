@@ -1,9 +1,11 @@
 //! Certificates.
 
-ghost use Rattle.std.specs.Prelude.{◌≡◌, ◌≤◌, true, false, None, IfOk};
+ghost use Rattle.std.specs.Prelude.{◌≡◌, ◌<◌, ◌≤◌, true, false, None, IfOk, length};
 ghost use Rattle.ags_certtype.specs.Cert.{IsCert, IsCertOfParts, certificate_of, stated_by};
+ghost use Rattle.ags_certtype.specs.Index.{numbers_at};
 
 use crate::checks::{are_few_at_each, are_firsts_within, are_rows_within};
+use crate::indexes::{ENTRIES, fill, numbers_at};
 use ags_domain::Value;
 use ags_row::{Limits, Row};
 use ags_word::{ERASABLE, LOCATIONS};
@@ -29,17 +31,21 @@ pub struct CertParts {
     pub rows: Vec<Row<Value>>,
 }
 
-/// A certificate. What is stated of a cell is within the cell's limit, and it has 1 to 20,000 rows, at most 512 at one location.
+/// A certificate. What is stated of a cell is within the cell's limit, and it has 1 to 20,000 rows, at most 512 at one location. It
+/// keeps an index of its rows by location.
 #[derive(Drop)]
 pub struct Cert {
     start: u16,
     limits: Limits<Value>,
     init: Vec<Option<Value>>,
     rows: Vec<Row<Value>>,
+    starts: Vec<u32>,
+    numbers: Vec<u32>,
 }
 
 impl Model for Cert {
     ghost use Rattle.ags_certtype.specs.Cert.{Stated, IsCert};
+    ghost use Rattle.ags_certtype.specs.Index.{IsIndex, locations_of};
 
     ghost Value = { Stated };
 
@@ -55,7 +61,14 @@ impl Model for Cert {
       limits = cert.limits;
       init = cert.init.items;
       rows = cert.rows.items;
-    }) };
+    }) × IsIndex (locations_of cert.rows.items) cert.starts.items cert.numbers.items };
+}
+
+/// A list of so many zeros.
+fn zeros(alloc: Global, count: usize) -> Result<Vec<u32>, AllocError>
+    ensures { IfOk result (λ list. length list.items ≡ count) }
+{
+    Ok(vec![in alloc; 0; count]?)
 }
 
 impl Cert {
@@ -90,11 +103,16 @@ impl Cert {
         if !Cert::is_made_of(alloc, &parts)? {
             return Ok(None);
         }
+        let mut starts = zeros(alloc, ENTRIES)?;
+        let mut numbers = zeros(alloc, parts.rows.len())?;
+        fill(parts.rows.as_slice(), &mut starts[..], &mut numbers[..]);
         Ok(Some(Cert {
             start: parts.start,
             limits: parts.limits,
             init: parts.init,
             rows: parts.rows,
+            starts,
+            numbers,
         }))
     }
 
@@ -133,5 +151,18 @@ impl Cert {
         ensures cert { IsCert self.now }
     {
         self.rows.as_slice()
+    }
+
+    /// The numbers, from 1, of the rows at a location, ascending. It takes no memory.
+    pub fn at_location(&self, location: u16) -> &[u32]
+        requires { location < 4096 }
+        ensures { result.now ≡ numbers_at self.now.rows location }
+    {
+        numbers_at(
+            self.rows.as_slice(),
+            self.starts.as_slice(),
+            self.numbers.as_slice(),
+            location,
+        )
     }
 }

@@ -1,5 +1,4 @@
 mod CoverageLemmas
-mod JudgingLemmas
-mod MovedLemmas
-mod OrderLemmas
-mod RowLemmas
+mod CountedLemmas
+mod FindingLemmas
+mod RowsLemmas

@@ -1,4 +1,6 @@
 -- what the public contracts cite
 pub mod Judging
--- what serves inside
+pub mod Finding
 pub mod Checking
+-- what serves inside
+pub mod Asking

@@ -1,6 +1,6 @@
 //! The verdict of a certificate in hand.
 
-ghost use Rattle.std.specs.Prelude.{◌≡◌, ◌≤◌, ◌↔◌, ℕ, length};
+ghost use Rattle.std.specs.Prelude.{◌≡◌, ◌≤◌, ◌+◌, ◌↔◌, ℕ, length};
 ghost use Rattle.ags_domain.specs.Value.{value_meaning};
 ghost use Rattle.ags_domain.specs.declared.values.Value.{Value};
 ghost use Rattle.ags_safe.specs.Certificate.{Suits};
@@ -13,13 +13,16 @@ ghost use Rattle.ags_verdict.specs.Verdict.{IsVerdict};
 ghost use Rattle.ags_verdict.specs.Flat.{IsNumberOfCases};
 ghost use Rattle.ags_verdict.specs.declared.verdicts.Refusal.{Refusal};
 ghost use Rattle.ags_verdict.specs.declared.verdicts.Verdict.TheVariants.{Certified, Refused};
+ghost use Rattle.ags_walk.specs.Counting.{HaveCases};
 ghost use Rattle.ags_answered.specs.Told.{refusal_of_fault};
 ghost use Rattle.ags_certtype.specs.Cert.{certificate_of};
 
+use crate::accepting::Accepting;
 use crate::answers::{Refusal, Verdict};
 use crate::firsts::{first_outside, first_word};
-use crate::starts::some_holds_start;
-use crate::tables::Table;
+use crate::refusals::refusal_at;
+use crate::serving::EachServes;
+use crate::starts::start_row;
 use ags_answered::laws::refusal_tells_the_first_fault;
 use ags_certtype::Cert;
 use ags_domain::Value;
@@ -27,7 +30,10 @@ use ags_image::Image;
 use ags_ports::Machine;
 use ags_ports::laws::machine_is_made_of_tables;
 use ags_safe::laws::accepted_certificates_are_safe;
+use ags_steps::Steps;
 use ags_verdict::laws::{accepted_certificates_are_certified, certificate_has_one_verdict};
+use ags_walk::walk_rows;
+use std::sync::ledger::Ledger;
 
 /// How many rows a certificate has.
 fn number_of_rows(cert: &Cert) -> u32
@@ -38,49 +44,61 @@ fn number_of_rows(cert: &Cert) -> u32
 }
 
 /// How many cases the rows of a certificate have, or what fails first in them.
-fn judged_rows(machine: &Machine, image: &Image, cert: &Cert) -> Result<u64, Refusal>
-    ensures { InOrder (IsRowJudgedAt value_meaning (certificate_of cert.now) machine.now image.now) 1 cert.now.rows result }
+fn judged_rows<L: Ledger>(
+    machine: &Machine,
+    image: &Image,
+    cert: &Cert,
+    steps: &mut Steps<L>,
+) -> Result<u64, Refusal>
+    ensures judged { InOrder (IsRowJudgedAt value_meaning (certificate_of cert.now) machine.now image.now) 1 cert.now.rows result }
+    ensures steps { (cases : ℕ) → HaveCases value_meaning image.now cert.now.limits cert.now.rows cases → steps.new ≤ steps.old + cases }
 {
     let _few = number_of_rows(cert);
-    let table = Table {
+    let accepting = Accepting {
         machine,
         image,
-        limits: cert.limits(),
-        rows: cert.rows(),
+        cert,
     };
-    table.all_rows(cert.rows())
+    refusal_at(walk_rows(&accepting, image, cert.limits(), cert.rows(), steps))
 }
 
 /// The verdict.
-fn verdict(machine: &Machine, image: &Image, cert: &Cert) -> Verdict
-    ensures { IsVerdict value_meaning machine.now image.now (certificate_of cert.now) result }
+fn verdict<L: Ledger>(
+    machine: &Machine,
+    image: &Image,
+    cert: &Cert,
+    steps: &mut Steps<L>,
+) -> Verdict
+    ensures verdict { IsVerdict value_meaning machine.now image.now (certificate_of cert.now) result }
+    ensures steps { (cases : ℕ) → HaveCases value_meaning image.now cert.now.limits cert.now.rows cases → steps.new ≤ steps.old + cases }
 {
-    match first_outside(image, cert) {
-        Some(address) => Verdict::Refused(Refusal::InitRange {
-            address,
-            word: first_word(image, address),
-        }),
-        None => {
-            if some_holds_start(image, cert, cert.rows()) {
-                match judged_rows(machine, image, cert) {
-                    Ok(cases) => Verdict::Certified {
-                        rows: number_of_rows(cert),
-                        cases,
-                    },
-                    Err(refusal) => Verdict::Refused(refusal),
-                }
-            } else {
-                Verdict::Refused(Refusal::StartUncovered)
-            }
-        }
+    if let Some(address) = first_outside(image, cert) {
+        let word = first_word(image, address);
+        return Verdict::Refused(Refusal::InitRange { address, word });
+    }
+    if start_row(image, cert, &EachServes).is_none() {
+        return Verdict::Refused(Refusal::StartUncovered);
+    }
+    match judged_rows(machine, image, cert, steps) {
+        Ok(cases) => Verdict::Certified {
+            rows: number_of_rows(cert),
+            cases,
+        },
+        Err(refusal) => Verdict::Refused(refusal),
     }
 }
 
 /// The verdict of a certificate for an image on a machine: how many rows and cases it has, or the first item that fails
 /// (docs/CHECKER.md, When a certificate is accepted). Just an accepted certificate is certified, and a refusal tells the fault of the
 /// first item that fails. Where the certificate is one for the machine's registers and is certified, every run of every length is
-/// safe. It takes no memory.
-pub fn check(machine: &Machine, image: &Image, cert: &Cert) -> Verdict
+/// safe. It takes no memory, and at most as many steps as the rows have cases together, also where it refuses; a row without a code
+/// has none.
+pub fn check<L: Ledger>(
+    machine: &Machine,
+    image: &Image,
+    cert: &Cert,
+    steps: &mut Steps<L>,
+) -> Verdict
     ensures verdict { IsVerdict value_meaning machine.now image.now (certificate_of cert.now) result }
     ensures safe { (rows cases : ℕ) → result ≡ Certified rows cases
         → Suits value_meaning machine.now (certificate_of cert.now)
@@ -93,6 +111,7 @@ pub fn check(machine: &Machine, image: &Image, cert: &Cert) -> Verdict
     ensures refused { (refusal : Refusal Value) → (result ≡ Refused refusal)
         ↔ ((fault : Fault Value) × IsFirstFault value_meaning machine.now image.now (certificate_of cert.now) fault
         × (refusal ≡ refusal_of_fault fault)) }
+    ensures steps { (cases : ℕ) → HaveCases value_meaning image.now cert.now.limits cert.now.rows cases → steps.new ≤ steps.old + cases }
 {
     machine_is_made_of_tables(machine);
     let _first = image.get(0);
@@ -101,5 +120,5 @@ pub fn check(machine: &Machine, image: &Image, cert: &Cert) -> Verdict
     accepted_certificates_are_certified::<Value>();
     accepted_certificates_are_safe::<Value>();
     let _start = cert.start();
-    verdict(machine, image, cert)
+    verdict(machine, image, cert, steps)
 }

@@ -1,60 +1,43 @@
 //! Whether the posts of a case are covered.
 
-ghost use Rattle.std.specs.Prelude.{◌≡◌, ◌↔◌, IsTrue, Any, None, IfSome};
-ghost use Rattle.ags_row.specs.Cover.{Covers};
+ghost use Rattle.std.specs.Prelude.{◌≡◌, ◌<◌, None, IfSome};
+ghost use Rattle.ags_domain.specs.Value.{value_meaning};
+ghost use Rattle.ags_posts.specs.Going.{GoWithin};
 ghost use Rattle.ags_safe.specs.Accepted.{IsCovered};
 ghost use Rattle.ags_verdict.specs.Fault.{IsUncovered, IsFirstUncovered};
-ghost use Rattle.ags_check.specs.Judging.{cert_of};
+ghost use Rattle.ags_certtype.specs.Cert.{certificate_of};
 
-use crate::tables::Table;
-use ags_domain::Domain;
+use crate::covering::covering_row;
+use crate::serving::EachServes;
+use ags_certtype::Cert;
+use ags_domain::Value;
 use ags_posts::PostPair;
-use ags_row::{Limits, Post, Row, covers};
+use ags_row::{Post, Row};
 
-/// Whether some one of the rows covers a post of a base row.
-fn some_covers<D: Domain>(
-    rows: &[Row<D>],
-    base: &Row<D>,
-    post: &Post<D>,
-    limits: &Limits<D>,
-) -> bool
-    ensures { IsTrue result ↔ Any (λ target. Covers D.meaning target base.now post.now limits.now) rows.now }
+/// The location of a post that no one row covers, where there is a post.
+fn uncovered(cert: &Cert, row: &Row<Value>, post: &Option<Post<Value>>) -> Option<u16>
+    requires { IfSome post.now (λ p. p.next < 4096) }
+    ensures covered { result ≡ None → IfSome post.now (IsCovered value_meaning (certificate_of cert.now) row.now) }
+    ensures uncovered { IfSome result (IsUncovered value_meaning (certificate_of cert.now) row.now post.now) }
 {
-    for target in rows {
-        if covers(target, base, post, limits) {
-            return true;
-        }
+    match post {
+        Some(post) => match covering_row(cert, row, post, &EachServes) {
+            Some(_) => None,
+            None => Some(post.next),
+        },
+        None => None,
     }
-    false
 }
 
-impl<'a, D: Domain> Table<'a, D> {
-    /// The location of a post that no one row covers, where there is a post.
-    fn uncovered(&self, row: &Row<D>, post: Option<Post<D>>) -> Option<u16>
-        ensures covered { result ≡ None → IfSome post (IsCovered D.meaning (cert_of self.now) row.now) }
-        ensures uncovered { IfSome result (IsUncovered D.meaning (cert_of self.now) row.now post) }
-    {
-        match post {
-            Some(post) => {
-                if some_covers(self.rows, row, &post, self.limits) {
-                    None
-                } else {
-                    Some(post.next)
-                }
-            }
-            None => None,
-        }
-    }
-
-    /// The location of the first post of two that no one row covers.
-    pub(crate) fn first_uncovered(&self, row: &Row<D>, pair: PostPair<D>) -> Option<u16>
-        ensures first { result ≡ None → IfSome pair.first (IsCovered D.meaning (cert_of self.now) row.now) }
-        ensures second { result ≡ None → IfSome pair.second (IsCovered D.meaning (cert_of self.now) row.now) }
-        ensures uncovered { IfSome result (IsFirstUncovered D.meaning (cert_of self.now) row.now pair) }
-    {
-        match self.uncovered(row, pair.first) {
-            Some(next) => Some(next),
-            None => self.uncovered(row, pair.second),
-        }
+/// The location of the first post of two that no one row covers, and nothing where each is covered. It takes no memory.
+pub fn first_uncovered(cert: &Cert, row: &Row<Value>, pair: &PostPair<Value>) -> Option<u16>
+    requires { GoWithin pair.now }
+    ensures first { result ≡ None → IfSome pair.now.first (IsCovered value_meaning (certificate_of cert.now) row.now) }
+    ensures second { result ≡ None → IfSome pair.now.second (IsCovered value_meaning (certificate_of cert.now) row.now) }
+    ensures uncovered { IfSome result (IsFirstUncovered value_meaning (certificate_of cert.now) row.now pair.now) }
+{
+    match uncovered(cert, row, &pair.first) {
+        Some(next) => Some(next),
+        None => uncovered(cert, row, &pair.second),
     }
 }

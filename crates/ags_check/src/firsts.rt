@@ -37,8 +37,8 @@ fn is_first_held_at(image: &Image, cert: &Cert, address: u16) -> bool
     )
 }
 
-/// The first erasable cell whose first word isn't in its limit.
-pub(crate) fn first_outside(image: &Image, cert: &Cert) -> Option<u16>
+/// The address of the first erasable cell whose first word isn't in its limit, and nothing where each is. It takes no memory.
+pub fn first_outside(image: &Image, cert: &Cert) -> Option<u16>
     ensures none { result ≡ None → (address : ℕ) → address < 2048 → IsFirstHeldAt image.now (certificate_of cert.now) address }
     ensures some { IfSome result (IsFirstOutside image.now (certificate_of cert.now)) }
 {

@@ -1,17 +1,28 @@
-//! The check of a certificate (docs/CHECKER.md): the first words of the erasable cells, the start, and the rows one at
-//! a time, so that a row that is edited can be judged alone. It stands on `ags_verdict`, where the answers are defined,
-//! on `ags_transfer` for the posts of a case, and on `ags_certtype` for certificates. No call takes memory.
+//! The check of a certificate (docs/CHECKER.md): the first words of the erasable cells, the start, and the cases of the
+//! rows one at a time, each of which makes its posts once. It stands on `ags_verdict`, where the answers are defined, on
+//! `ags_walk` for the walk over the cases, on `ags_transfer` for the posts of a case, and on `ags_certtype` for
+//! certificates. What each part of the check finds is public too, for what asks more of the same rows. No call takes
+//! memory.
 #![tactic(auto)]
 
+mod accepting;
 mod answers;
-mod cases;
 mod checking;
 mod coverage;
+mod covering;
+mod finding;
 mod firsts;
-mod rows;
+pub mod laws;
+mod refusals;
+mod serving;
 mod starts;
-mod tables;
 
+pub use accepting::Accepting;
 pub use answers::{Refusal, RowFault, Verdict};
 pub use checking::check;
-pub use tables::Table;
+pub use coverage::first_uncovered;
+pub use covering::covering_row;
+pub use firsts::first_outside;
+pub use refusals::refusal_of;
+pub use serving::{EachServes, Serving};
+pub use starts::start_row;

@@ -1,19 +1,22 @@
-//! Whether a row holds the start.
+//! The row that holds the start.
 
-ghost use Rattle.std.specs.Prelude.{◌≡◌, ◌<◌, ◌↔◌, true, IsTrue, All, Any};
+ghost use Rattle.std.specs.Prelude.{◌≡◌, ◌<◌, ◌↔◌, true, IsTrue, All};
 ghost use Rattle.ags_domain.specs.Value.{value_meaning};
 ghost use Rattle.ags_image.specs.Image.{entry_at};
 ghost use Rattle.ags_row.specs.Flag.{has_flag};
 ghost use Rattle.ags_safe.specs.Accepted.{HoldsStart};
 ghost use Rattle.ags_certtype.specs.Cert.{certificate_of};
 ghost use Rattle.ags_check.specs.Checking.{HoldsFirstWords};
+ghost use Rattle.ags_check.specs.Finding.{IsFound, IsStartRow};
 
-use crate::cases::{has_index, may_be_clear};
+use crate::finding::{RowTest, find_row};
+use crate::serving::Serving;
 use ags_certtype::Cert;
 use ags_domain::{Domain, Value};
 use ags_image::Image;
 use ags_row::{At, Row};
 use ags_word::Word;
+use std::marker::Model;
 
 /// Whether a set holds each word that may stand at the start in a cell, by the image's entry and what is stated of the start.
 fn holds_first_words(value: Value, entry: Option<Word>, stated: Option<Value>) -> bool
@@ -64,8 +67,8 @@ fn registers_hold_start(cert: &Cert, row: &Row<Value>) -> bool
     row.location() == cert.start()
         && row.a().holds(Word::ZERO)
         && row.q().holds(Word::ZERO)
-        && has_index(row, 0)
-        && may_be_clear(row)
+        && row.x()[0]
+        && row.v()[0]
 }
 
 /// Whether a row holds all that may stand at the start.
@@ -78,14 +81,43 @@ fn holds_start(image: &Image, cert: &Cert, row: &Row<Value>) -> bool
     cells_hold_start(image, cert, row.at())
 }
 
-/// Whether some one of the rows holds all that may stand at the start.
-pub(crate) fn some_holds_start(image: &Image, cert: &Cert, rows: &[Row<Value>]) -> bool
-    ensures { IsTrue result ↔ Any (HoldsStart value_meaning image.now (certificate_of cert.now)) rows.now }
-{
-    for row in rows {
-        if holds_start(image, cert, row) {
-            return true;
-        }
+/// That a row holds all that may stand at the start, and a further condition holds of its number.
+#[derive(Drop)]
+struct Starting<'a, S: Serving> {
+    image: &'a Image,
+    cert: &'a Cert,
+    serving: &'a S,
+}
+
+impl<'a, S: Serving> Model for Starting<'a, S> {
+    ghost use Rattle.ags_check.specs.Asking.{Starting};
+
+    ghost Value = { Starting S };
+
+    ghost view = { λ s. record { image = s.image.now; cert = s.cert.now; serving = s.serving.now } };
+}
+
+impl<'a, S: Serving> RowTest for Starting<'a, S> {
+    ghost use Rattle.ags_domain.specs.Value.{value_meaning};
+    ghost use Rattle.ags_safe.specs.Accepted.{HoldsStart};
+    ghost use Rattle.ags_certtype.specs.Cert.{certificate_of};
+
+    ghost has = { λ s number row. HoldsStart value_meaning s.image (certificate_of s.cert) row × S.serves s.serving number };
+
+    fn passes(&self, number: u32, row: &Row<Value>) -> bool {
+        holds_start(self.image, self.cert, row) && self.serving.serves(number)
     }
-    false
+}
+
+/// The number of a row that holds all that may stand at the start, where a further condition holds of that number, and nothing where
+/// there is no such row. Rows are counted from 1; those at the start's location alone are looked at. It takes no memory.
+pub fn start_row<S: Serving>(image: &Image, cert: &Cert, serving: &S) -> Option<u32>
+    ensures { IsFound (IsStartRow value_meaning image.now (certificate_of cert.now) (S.serves serving.now)) cert.now.rows result }
+{
+    let starting = Starting {
+        image,
+        cert,
+        serving,
+    };
+    find_row(cert, cert.start(), &starting)
 }

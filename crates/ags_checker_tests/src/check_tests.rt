@@ -1,8 +1,9 @@
 //! Verdicts of programs that were worked out outside the crate.
 
 use crate::common::word;
+use crate::counting::verdict_of;
 use ags_certtype::{Cert, CertParts};
-use ags_check::{Refusal, Verdict, check};
+use ags_check::{Refusal, Verdict};
 use ags_domain::{Domain, Operands, Range, Value};
 use ags_image::Image;
 use ags_ports::Machine;
@@ -78,7 +79,7 @@ fn verdict(
     may_be_set: bool,
 ) -> Verdict {
     let cert = certificate(rt, alloc, locations, limits, may_be_set);
-    check(&Machine::standard(), &image_of(rt, alloc, words), &cert)
+    verdict_of(&Machine::standard(), &image_of(rt, alloc, words), &cert)
 }
 
 /// CLA, ADD, STO, TRA and the word 1: a loop that adds 1 to a cell.

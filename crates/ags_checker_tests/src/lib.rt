@@ -17,7 +17,11 @@ mod check_tests;
 #[cfg(test)]
 mod common;
 #[cfg(test)]
+mod counting;
+#[cfg(test)]
 mod domain_tests;
+#[cfg(test)]
+mod location_tests;
 #[cfg(test)]
 mod posts_tests;
 #[cfg(test)]

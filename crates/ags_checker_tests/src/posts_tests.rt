@@ -3,7 +3,7 @@
 use ags_domain::{Domain, Range, Value};
 use ags_posts::laws::{
     case_has_one_answer, code_has_the_word_of_each_state, covering_row_holds_what_agrees,
-    one_step_follows_the_posts, step_that_follows_keeps_cells_in_limits,
+    one_step_follows_the_posts, posts_go_to_locations, step_that_follows_keeps_cells_in_limits,
 };
 
 /// The laws of a domain.
@@ -13,6 +13,7 @@ fn laws_at<D: Domain>() {
     step_that_follows_keeps_cells_in_limits::<D>();
     case_has_one_answer::<D>();
     code_has_the_word_of_each_state::<D>();
+    posts_go_to_locations::<D>();
 }
 
 #[test]

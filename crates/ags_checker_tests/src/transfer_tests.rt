@@ -1,12 +1,13 @@
 //! Cases that were worked out outside the crate: one machine, one image and one row for most of them.
 
 use crate::common::{expect_same, word};
+use crate::counting::posts_of;
 use ags_domain::{Domain, Operands, Range, Value, WordSet};
 use ags_image::Image;
 use ags_ports::Machine;
 use ags_posts::{PostPair, Stop};
 use ags_row::{At, Limits, Post, Row, RowParts, covers};
-use ags_transfer::{code, posts};
+use ags_transfer::code;
 use ags_word::Word;
 use std::alloc::Global;
 use std::process::Abort;
@@ -184,7 +185,7 @@ fn judged_in_row<D: Domain>(
 ) -> Result<PostPair<D>, Stop<D>> {
     let word = word(rt, number);
     assert!(rt; x < 8);
-    posts(
+    posts_of(
         &Machine::standard(),
         &image(rt, alloc),
         limits,
@@ -555,8 +556,8 @@ fn all_go_on(
     add: Word,
 ) -> bool {
     for index in 0..8 {
-        let clear = posts(machine, image, limits, base, add, index, false);
-        let set = posts(machine, image, limits, base, add, index, true);
+        let clear = posts_of(machine, image, limits, base, add, index, false);
+        let set = posts_of(machine, image, limits, base, add, index, true);
         if clear.is_err() || set.is_err() {
             return false;
         }

@@ -4,6 +4,7 @@ use ags_domain::{Range, Value};
 use ags_verdict::laws::{
     accepted_certificates_are_certified, cases_are_each_word_with_each_index_and_indicator,
     certificate_has_one_verdict, refusal_tells_what_fails_first,
+    row_is_judged_by_the_rows_that_its_posts_go_to,
 };
 
 #[test]
@@ -16,4 +17,6 @@ fn laws_at_domains(_rt: HostRuntime) {
     certificate_has_one_verdict::<Value>();
     refusal_tells_what_fails_first::<Range>();
     refusal_tells_what_fails_first::<Value>();
+    row_is_judged_by_the_rows_that_its_posts_go_to::<Range>();
+    row_is_judged_by_the_rows_that_its_posts_go_to::<Value>();
 }

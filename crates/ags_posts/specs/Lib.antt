@@ -5,3 +5,4 @@ pub mod Told
 pub mod Posts
 pub mod InRow
 pub mod OneStep
+pub mod Going

@@ -1,6 +1,6 @@
 //! What the posts of a case mean. Each law is what a function that does nothing ensures, so that it is proved with the crate.
 
-ghost use Rattle.std.specs.Prelude.{◌≡◌, ℕ, true, List, Option, Some, Ok};
+ghost use Rattle.std.specs.Prelude.{◌≡◌, ◌<◌, ℕ, true, List, Option, Some, Ok, IfOk};
 ghost use Rattle.ags_domain.specs.WordSet.{lists};
 ghost use Rattle.ags_domain.specs.declared.word_sets.WordSet.{WordSet};
 ghost use Rattle.ags_ports.specs.declared.events.Event.TheVariants.{Step};
@@ -16,6 +16,7 @@ ghost use Rattle.ags_posts.specs.Case.{Case, IsCode};
 ghost use Rattle.ags_posts.specs.Posts.{Outcome, IsPostsOfCase};
 ghost use Rattle.ags_posts.specs.InRow.{IsInRow, IsInCase, HasFixedWords, AreCellsInLimits};
 ghost use Rattle.ags_posts.specs.OneStep.{Agrees, Follows};
+ghost use Rattle.ags_posts.specs.Going.{GoWithin};
 ghost use Rattle.ags_posts.specs.declared.answers.PostPair.{PostPair};
 
 use ags_domain::Domain;
@@ -41,6 +42,11 @@ pub fn step_that_follows_keeps_cells_in_limits<D: Domain>()
     ensures { (c : Case D) (s : State) (report : Done) (after : State) (pair : PostPair D) → IsState c.machine s
         → Steps c.machine s Step report after → Follows D.meaning c pair report after
         → AreCellsInLimits D.meaning c.limits s → AreCellsInLimits D.meaning c.limits after }
+{}
+
+/// The posts of a case whose index is one of the machine's go to locations of the memory.
+pub fn posts_go_to_locations<D: Domain>()
+    ensures { (c : Case D) (outcome : Outcome D) → c.index < 8 → IsPostsOfCase D.meaning c outcome → IfOk outcome GoWithin }
 {}
 
 /// A case has one answer: its posts, or its stop.

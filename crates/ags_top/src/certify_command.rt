@@ -11,8 +11,9 @@ ghost use Rattle.ags_program.specs.Text.{verdict_line};
 ghost use Rattle.ags_program.specs.Views.{IsReadSource, assembly_of};
 ghost use Rattle.ags_program.specs.Work as work;
 
+use crate::verdicts::verdict_of;
 use ags_cert::Cert;
-use ags_check::{Verdict, check};
+use ags_check::Verdict;
 use ags_listing::send_listing;
 use ags_outside::{SendError, Sink, send};
 use ags_ports::Machine;
@@ -48,7 +49,7 @@ pub(crate) fn judge_certificate<K: Sink>(
     ensures says { Says program (WorkAt (work.JudgeCertificate machine.now (assembly_of source.now) cert.now)) (K.told out.old) (K.told out.new) result }
     ensures faults { HasCause (K.faults out.old) (K.faults out.new) (is_write_fault result) }
 {
-    let verdict = check(machine, &source.made.image, cert);
+    let verdict = verdict_of(machine, &source.made.image, cert);
     let Ok(line) = verdict_line(alloc, &verdict) else {
         return Err(SendError::NoMemory);
     };

@@ -17,9 +17,10 @@ ghost use Rattle.ags_program.specs.Views.{HasImage};
 ghost use Rattle.ags_program.specs.Work as work;
 
 use crate::certify_command::verdict_line;
+use crate::verdicts::verdict_of;
 use ags_asm::Assembled;
 use ags_cert::Cert;
-use ags_check::{Verdict, check};
+use ags_check::Verdict;
 use ags_image::Image;
 use ags_outside::{SendError, Sink, send};
 use ags_ports::Machine;
@@ -90,7 +91,7 @@ pub(crate) fn guard_script<K: Sink>(
     ensures faults { HasCause (K.faults out.old) (K.faults out.new) (is_write_fault result) }
 {
     machine_is_made_of_tables(machine);
-    let verdict = check(machine, &made.image, cert);
+    let verdict = verdict_of(machine, &made.image, cert);
     let Ok(line) = verdict_line(alloc, &verdict) else {
         return Err(SendError::NoMemory);
     };

@@ -13,6 +13,7 @@ mod listed_laws;
 mod main_call;
 mod program;
 mod run_command;
+mod verdicts;
 mod write_command;
 
 pub use ags_program::Status;

@@ -1,13 +1,14 @@
 //! The posts of a case: its word is read, and the order that it names is judged.
 
-ghost use Rattle.std.specs.Prelude.{◌≡◌, ◌<◌, Ok};
+ghost use Rattle.std.specs.Prelude.{◌≡◌, ◌<◌, ◌+◌, IfOk, Ok};
 ghost use Rattle.ags_ports.specs.declared.events.Event.TheVariants.{Step};
 ghost use Rattle.ags_ports.specs.declared.events.Done.{Done};
 ghost use Rattle.ags_ports.specs.State.{State, IsState};
-ghost use Rattle.ags_ports.specs.Step.{Steps};
+ghost use Rattle.ags_ports.specs.Step.{Steps as IsStep};
 ghost use Rattle.ags_posts.specs.Case.{case_of};
 ghost use Rattle.ags_posts.specs.InRow.{IsInCase};
 ghost use Rattle.ags_posts.specs.OneStep.{Follows};
+ghost use Rattle.ags_posts.specs.Going.{GoWithin};
 ghost use Rattle.ags_posts.specs.Posts.{IsPosts, IsPostsOfCase};
 ghost use Rattle.ags_posts.specs.declared.answers.PostPair.{PostPair};
 
@@ -17,15 +18,18 @@ use ags_image::Image;
 use ags_isa::{Order, decode};
 use ags_ports::laws::machine_is_made_of_tables;
 use ags_ports::{Machine, effective_address};
-use ags_posts::laws::one_step_follows_the_posts;
+use ags_posts::laws::{one_step_follows_the_posts, posts_go_to_locations};
 use ags_posts::{PostPair, Stop};
 use ags_row::{Limits, Row};
+use ags_steps::Steps;
 use ags_word::Word;
+use std::sync::ledger::Ledger;
 
 /// The posts of a case, or the first reason why the checker stops at it. The case is a word of the row's code, an index and an
 /// indicator of the row. Where there are posts, the step of the machine from each state of the case follows them
-/// (docs/CHECKER.md, What an order leaves).
-pub fn posts<D: Domain>(
+/// (docs/CHECKER.md, What an order leaves). Each post goes to a location of the memory. The call is one step of the counter, also
+/// where it stops.
+pub fn posts<D: Domain, L: Ledger>(
     machine: &Machine,
     image: &Image,
     limits: &Limits<D>,
@@ -33,16 +37,21 @@ pub fn posts<D: Domain>(
     word: Word,
     x: u8,
     v: bool,
+    steps: &mut Steps<L>,
 ) -> Result<PostPair<D>, Stop<D>>
     requires { x < 8 }
     ensures posts { IsPostsOfCase D.meaning (case_of machine.now image.now limits.now base.now word x v) result }
     ensures one_step { (s : State) (report : Done) (after : State) (pair : PostPair D) → result ≡ Ok pair
         → IsState machine.now s → IsInCase D.meaning (case_of machine.now image.now limits.now base.now word x v) s
-        → Steps machine.now s Step report after
+        → IsStep machine.now s Step report after
         → Follows D.meaning (case_of machine.now image.now limits.now base.now word x v) pair report after }
+    ensures below { IfOk result GoWithin }
+    ensures step { steps.new ≡ steps.old + 1 }
 {
+    steps.tick();
     machine_is_made_of_tables(machine);
     one_step_follows_the_posts::<D>();
+    posts_go_to_locations::<D>();
     posts_of_case(&Case {
         machine,
         image,

@@ -3,3 +3,4 @@ pub mod CaseLemmas
 pub mod TurnLemmas
 mod InOrderLemmas
 pub mod VerdictLemmas
+pub mod LocalityLemmas

@@ -4,4 +4,5 @@ pub mod RowCase
 pub mod Fault
 pub mod Verdict
 pub mod Flat
+pub mod Locality
 pub mod VerdictText

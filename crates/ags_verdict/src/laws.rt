@@ -1,6 +1,6 @@
 //! What the verdict means. Each law is what a function that does nothing ensures, so that it is proved with the crate.
 
-ghost use Rattle.std.specs.Prelude.{◌≡◌, ◌≢◌, ℕ, List, length, Option};
+ghost use Rattle.std.specs.Prelude.{◌≡◌, ◌≢◌, ℕ, Bool, true, List, length, Option, Result};
 ghost use Rattle.std.specs.List.{AllPairs, Contains};
 ghost use Rattle.ags_domain.specs.declared.word_sets.WordSet.{WordSet};
 ghost use Rattle.ags_ports.specs.Machine.{IsMachine};
@@ -11,6 +11,9 @@ ghost use Rattle.ags_safe.specs.Failing.{Precedes};
 ghost use Rattle.ags_verdict.specs.RowCase.{RowCase, IsCaseOf, numbers_of, cases_in};
 ghost use Rattle.ags_verdict.specs.Verdict.{IsVerdict};
 ghost use Rattle.ags_verdict.specs.Flat.{IsNumberOfCases, IsFirstFailing};
+ghost use Rattle.ags_verdict.specs.Fault.{IsRowJudged};
+ghost use Rattle.ags_verdict.specs.Locality.{HasPostAt, DifferAtAlone};
+ghost use Rattle.ags_verdict.specs.declared.verdicts.RowFault.{RowFault};
 ghost use Rattle.ags_verdict.specs.declared.verdicts.Verdict.{Verdict};
 ghost use Rattle.ags_verdict.specs.declared.verdicts.Verdict.TheVariants.{Certified, Refused};
 ghost use Rattle.ags_verdict.specs.declared.verdicts.Refusal.{Refusal};
@@ -52,4 +55,14 @@ pub fn cases_are_each_word_with_each_index_and_indicator<D: Domain>()
 pub fn refusal_tells_what_fails_first<D: Domain>()
     ensures { (machine : Machine) (image : List (Option ℕ)) (cert : Certificate D) (refusal : Refusal D)
         → IsVerdict D.meaning machine image cert (Refused refusal) → IsFirstFailing D.meaning machine image cert refusal }
+{}
+
+/// A row is judged by the rows at the locations to which its posts go alone: where the rows of a certificate differ at other locations
+/// alone, the same comes of it.
+pub fn row_is_judged_by_the_rows_that_its_posts_go_to<D: Domain>()
+    ensures { (machine : Machine) (image : List (Option ℕ)) (cert : Certificate D) (at : ℕ → Bool) (one other : List (Row D)) (row : Row D)
+        (outcome : Result ℕ (RowFault D)) → DifferAtAlone (λ location. at location ≡ true) one other
+        → ((location : ℕ) → at location ≡ true → ¬ HasPostAt D.meaning machine image cert.limits row location)
+        → IsRowJudged D.meaning (record cert { rows = one }) machine image row outcome
+        → IsRowJudged D.meaning (record cert { rows = other }) machine image row outcome }
 {}

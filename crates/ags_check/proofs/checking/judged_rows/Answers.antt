@@ -1,8 +1,19 @@
+use Rattle.std.proofs.Common.{List, sym, subst}
 use Rattle.ags_domain.specs.Value.{value_meaning}
+use Rattle.ags_domain.specs.declared.values.Value.{Value}
+use Rattle.ags_row.specs.Limit.{Limiting}
+use Rattle.ags_row.specs.declared.rows.Row.{Row}
+use Rattle.ags_walk.specs.Counting.{HaveCases}
 use Rattle.ags_certtype.specs.Cert.{certificate_of}
-use Rattle.ags_check.proofs.MovedLemmas.{rows_moved}
+use Rattle.ags_check.proofs.RowsLemmas.{walked_judged}
 use Rattle.ags_check.proofs.checking.judged_rows.Goals as goal
 
-pub returns : goal.returns
-returns c = rows_moved value_meaning c.args.machine.now c.args.image.now (certificate_of c.args.cert.now) c.limits.result.now c.rows.result.now c.rows-2.result.now
-    c.all_rows.result c.limits.ensures.limits c.rows.ensures.rows c.rows-2.ensures.rows c.all_rows.ensures
+pub returns-clause-judged : goal.returns-clause-judged
+returns-clause-judged g c = walked_judged c.args.machine.now c.args.image.now (certificate_of c.args.cert.now) c.limits.result.now c.rows.result.now
+    c.walk_rows.result c.refusal_at.result c.limits.ensures.limits c.rows.ensures.rows c.refusal_at.ensures.counted c.refusal_at.ensures.refused
+    c.walk_rows.ensures.judged
+
+pub returns-clause-steps : goal.returns-clause-steps
+returns-clause-steps g c = λ cases have. c.walk_rows.ensures.steps cases
+    (subst (λ (l : Limiting Value). HaveCases value_meaning c.args.image.now l c.rows.result.now cases) (sym c.limits.ensures.limits)
+    (subst (λ (rs : List (Row Value)). HaveCases value_meaning c.args.image.now c.args.cert.now.limits rs cases) (sym c.rows.ensures.rows) have))

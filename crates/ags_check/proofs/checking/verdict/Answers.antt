@@ -1,47 +1,44 @@
-use Rattle.std.proofs.Common.{List, refl, sym, ap, subst, inl, inr}
-use Rattle.std.specs.Prelude.{Any}
+use Rattle.std.proofs.Common.{refl, ap, ◌∙◌, inl, inr}
+use Rattle.std.specs.Prelude.{not}
 use Rattle.ags_domain.specs.Value.{value_meaning}
-use Rattle.ags_domain.specs.declared.values.Value.{Value}
-use Rattle.ags_row.specs.declared.rows.Row.{Row}
 use Rattle.ags_safe.specs.Accepted.{HoldsStart}
 use Rattle.ags_verdict.specs.declared.verdicts.Refusal.TheVariants.{InitRange}
 use Rattle.ags_certtype.specs.Cert.{certificate_of}
-use Rattle.ags_check.proofs.CoverageLemmas.{never}
+use Rattle.ags_check.proofs.FindingLemmas.{has_where_some, has_not_where_none}
 use Rattle.ags_check.proofs.checking.verdict.Goals as goal
 
-pub returns-in-Some : goal.returns-in-Some
-returns-in-Some c = inl (record {
+pub returns-in-Some-clause-verdict : goal.returns-in-Some-clause-verdict
+returns-in-Some-clause-verdict g c = inl (record {
   address = c.in-Some.address;
   erasable = c.in-Some.ensures.some.erasable;
   first = c.in-Some.ensures.some.before;
   fails = c.in-Some.ensures.some.outside;
-  is = ap (λ w. InitRange c.in-Some.address w) c.first_word.ensures;
+  is = ap (λ w. InitRange c.in-Some.address w) c.first_word-word.ensures;
 })
 
-pub returns-in-Ok : goal.returns-in-Ok
-returns-in-Ok c = (
+pub returns-then-is_none-clause-verdict : goal.returns-then-is_none-clause-verdict
+returns-then-is_none-clause-verdict g c = inr (inl (record {
+  first_words = c.first_outside.ensures.none c.in_default.is;
+  fails = has_not_where_none (HoldsStart value_meaning c.args.image.now (certificate_of c.args.cert.now)) c.args.cert.now.rows c.start_row.result
+      c.start_row.ensures (c.is_none.ensures ∙ ap not c.if-is_none.true);
+  is = refl;
+}))
+
+pub returns-in-Ok-clause-verdict : goal.returns-in-Ok-clause-verdict
+returns-in-Ok-clause-verdict g c = (
   record {
-    first_words = c.in-None.ensures.none refl;
-    start = subst (λ (rows : List (Row Value)). Any (HoldsStart value_meaning c.args.image.now (certificate_of c.args.cert.now)) rows) c.rows.ensures.rows
-        (c.some_holds_start.ensures.0 c.if-some_holds_start.true);
-    rows = c.in-Ok.ensures;
+    first_words = c.first_outside.ensures.none c.in_default.is;
+    start = has_where_some (HoldsStart value_meaning c.args.image.now (certificate_of c.args.cert.now)) c.args.cert.now.rows c.start_row.result
+        c.start_row.ensures (c.is_none.ensures ∙ ap not c.if-is_none.false);
+    rows = c.in-Ok.ensures.judged;
   },
   c.number_of_rows.ensures.number,
 )
 
-pub returns-in-Err : goal.returns-in-Err
-returns-in-Err c = inr (inr (record {
-  first_words = c.in-None.ensures.none refl;
-  start = subst (λ (rows : List (Row Value)). Any (HoldsStart value_meaning c.args.image.now (certificate_of c.args.cert.now)) rows) c.rows.ensures.rows
-      (c.some_holds_start.ensures.0 c.if-some_holds_start.true);
-  rows = c.in-Err.ensures;
-}))
-
-pub returns-else-some_holds_start : goal.returns-else-some_holds_start
-returns-else-some_holds_start c = inr (inl (record {
-  first_words = c.in-None.ensures.none refl;
-  fails = never c.some_holds_start.result (λ held. c.some_holds_start.ensures.1
-      (subst (λ (rows : List (Row Value)). Any (HoldsStart value_meaning c.args.image.now (certificate_of c.args.cert.now)) rows) (sym c.rows.ensures.rows) held))
-      c.if-some_holds_start.false;
-  is = refl;
+pub returns-in-Err-clause-verdict : goal.returns-in-Err-clause-verdict
+returns-in-Err-clause-verdict g c = inr (inr (record {
+  first_words = c.first_outside.ensures.none c.in_default.is;
+  start = has_where_some (HoldsStart value_meaning c.args.image.now (certificate_of c.args.cert.now)) c.args.cert.now.rows c.start_row.result
+      c.start_row.ensures (c.is_none.ensures ∙ ap not c.if-is_none.false);
+  rows = c.in-Err.ensures.judged;
 }))

@@ -7,17 +7,17 @@ pub returns-in_err-send_listing-clause-says : goal.returns-in_err-send_listing-c
 returns-in_err-send_listing-clause-says g c =
     let p = err_from_is_err_and c.from_residual.result c.from_residual.ensures.1 in
     rw p.1 (inl (listing_said_in_part c.args.machine.now c.args.source.now c.args.cert.now (g.K.Sink.told c.args.out.now) (g.K.Sink.told c.send_listing.new.out) (g.K.Sink.told c.send_listing.new.out)
-    c.check-verdict.result c.requires c.check-verdict.ensures.verdict (rw c.deref.ensures.value at c.in_err-send_listing.ensures.front)))
+    c.verdict_of-verdict.result c.requires c.verdict_of-verdict.ensures.verdict (rw c.deref.ensures.value at c.in_err-send_listing.ensures.front)))
 
 pub returns-in_err-send-clause-says : goal.returns-in_err-send-clause-says
 returns-in_err-send-clause-says g c =
     let p = err_from_is_err_and c.from_residual-in_err-send.result c.from_residual-in_err-send.ensures.1 in
     rw p.1 (inl (verdict_said_in_part c.args.machine.now c.args.source.now c.args.cert.now (g.K.Sink.told c.args.out.now) (g.K.Sink.told c.send_listing.new.out) (g.K.Sink.told c.send.new.out)
-    c.check-verdict.result c.requires c.check-verdict.ensures.verdict (rw c.deref.ensures.value at c.in_ok-send_listing.ensures.sent)
+    c.verdict_of-verdict.result c.requires c.verdict_of-verdict.ensures.verdict (rw c.deref.ensures.value at c.in_ok-send_listing.ensures.sent)
     (rw (c.as_bytes.ensures.value, c.in-Ok.ensures) at c.in_err-send.ensures.front)))
 
 pub returns-clause-says : goal.returns-clause-says
 returns-clause-says g c =
     rw c.verdict_status.ensures (judgement_said c.args.machine.now c.args.source.now c.args.cert.now (g.K.Sink.told c.args.out.now) (g.K.Sink.told c.send_listing.new.out) (g.K.Sink.told c.send.new.out)
-    c.check-verdict.result c.requires c.check-verdict.ensures.verdict (rw c.deref.ensures.value at c.in_ok-send_listing.ensures.sent)
+    c.verdict_of-verdict.result c.requires c.verdict_of-verdict.ensures.verdict (rw c.deref.ensures.value at c.in_ok-send_listing.ensures.sent)
     (rw (c.as_bytes.ensures.value, c.in-Ok.ensures) at c.in_ok-send.ensures.sent))

@@ -1,0 +1,111 @@
+//! Whether the cases of a certificate are accepted, as the walk over them asks it.
+
+ghost use Rattle.std.specs.Prelude.{◌≡◌, ◌<◌, ◌+◌, IfOk};
+ghost use Rattle.ags_domain.specs.Value.{value_meaning};
+ghost use Rattle.ags_posts.specs.Case.{case_of};
+ghost use Rattle.ags_verdict.specs.Fault.{IsCaseJudged};
+ghost use Rattle.ags_certtype.specs.Cert.{certificate_of};
+
+use crate::answers::RowFault;
+use crate::coverage::first_uncovered;
+use ags_certtype::Cert;
+use ags_domain::Value;
+use ags_image::Image;
+use ags_ports::Machine;
+use ags_row::Row;
+use ags_steps::Steps;
+use ags_transfer::posts;
+use ags_walk::{Judge, OneCase};
+use ags_word::Word;
+use std::marker::Model;
+use std::sync::ledger::Ledger;
+
+/// A machine, an image and a certificate, as the judge that asks of each case whether it is accepted: that it has posts, and each of
+/// them is covered by some one row.
+#[derive(Drop)]
+pub struct Accepting<'a> {
+    /// The machine.
+    pub machine: &'a Machine,
+    /// The image.
+    pub image: &'a Image,
+    /// The certificate.
+    pub cert: &'a Cert,
+}
+
+impl<'a> Model for Accepting<'a> {
+    ghost use Rattle.ags_check.specs.Judging.{Judging};
+
+    ghost Value = { Judging };
+
+    ghost view = { λ a. record { machine = a.machine.now; image = a.image.now; cert = a.cert.now } };
+}
+
+/// A case counts once, or fails.
+fn judge_case<L: Ledger>(
+    accepting: &Accepting<'_>,
+    row: &Row<Value>,
+    word: Word,
+    x: u8,
+    v: bool,
+    steps: &mut Steps<L>,
+) -> Result<u64, RowFault>
+    requires { x < 8 }
+    ensures judged { IsCaseJudged value_meaning (certificate_of accepting.now.cert)
+        (case_of accepting.now.machine accepting.now.image accepting.now.cert.limits row.now word x v) result }
+    ensures once { IfOk result (λ count. count ≡ 1) }
+    ensures step { steps.new ≡ steps.old + 1 }
+{
+    let cert = accepting.cert;
+    match posts(
+        accepting.machine,
+        accepting.image,
+        cert.limits(),
+        row,
+        word,
+        x,
+        v,
+        steps,
+    ) {
+        Ok(pair) => match first_uncovered(cert, row, &pair) {
+            Some(next) => Err(RowFault::NotCovered { word, x, v, next }),
+            None => Ok(1),
+        },
+        Err(stop) => Err(RowFault::Stops { word, stop }),
+    }
+}
+
+impl<'a, L: Ledger> Judge<Value, L> for Accepting<'a> {
+    ghost use Rattle.std.specs.Prelude.{Err};
+    ghost use Rattle.ags_domain.specs.Value.{value_meaning};
+    ghost use Rattle.ags_verdict.specs.RowCase.{case_in};
+    ghost use Rattle.ags_verdict.specs.Fault.{IsCaseJudged};
+    ghost use Rattle.ags_verdict.specs.declared.verdicts.RowFault.TheVariants.{CodeUnknown};
+    ghost use Rattle.ags_certtype.specs.Cert.{certificate_of};
+
+    type Fault = RowFault;
+
+    ghost judges = { λ a number row c outcome. IsCaseJudged value_meaning (certificate_of a.cert) (case_in a.machine a.image a.cert.limits row c) outcome };
+
+    ghost unknown = { Err CodeUnknown };
+
+    fn code_unknown(&self) -> Result<u64, RowFault> {
+        Err(RowFault::CodeUnknown)
+    }
+
+    fn case(
+        &self,
+        number: u32,
+        row: &Row<Value>,
+        case: OneCase,
+        steps: &mut Steps<L>,
+    ) -> Result<u64, RowFault> {
+        judge_case(
+            self,
+            row,
+            case.word(),
+            case.index(),
+            case.indicator(),
+            steps,
+        )
+    }
+}

@@ -1,0 +1,5 @@
+use Rattle.ags_checker_tests.proofs.counting.posts_of.Given as goal
+
+-- the ledger is the blank's
+abbrev pub ghosts-posts_from : goal.ghosts-posts_from
+ghosts-posts_from g a = record { name = a.blank.name; parts = a.blank.parts }

@@ -1,0 +1,4 @@
+mod ListingLemmas
+mod OrderLemmas
+mod CountingLemmas
+mod WalkLemmas
