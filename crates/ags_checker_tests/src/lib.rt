@@ -23,6 +23,8 @@ mod domain_tests;
 #[cfg(test)]
 mod location_tests;
 #[cfg(test)]
+mod piece_tests;
+#[cfg(test)]
 mod posts_tests;
 #[cfg(test)]
 mod row_tests;

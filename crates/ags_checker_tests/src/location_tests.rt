@@ -118,19 +118,20 @@ fn post(rt: &impl Abort, next: u16, greatest: i32) -> Post<Value> {
 }
 
 /// That the number of a row is from one on.
-struct From {
+#[derive(Drop)]
+struct AtLeast {
     least: u32,
 }
 
-impl Model for From {
+impl Model for AtLeast {
     ghost use Rattle.std.specs.Prelude.{ℕ};
 
     ghost Value = { ℕ };
 
-    ghost view = { λ from. from.least };
+    ghost view = { λ at. at.least };
 }
 
-impl Serving for From {
+impl Serving for AtLeast {
     ghost use Rattle.std.specs.Prelude.{◌≤◌};
 
     ghost serves = { λ least number. least ≤ number };
@@ -155,8 +156,9 @@ fn covering_rows(rt: HostRuntime) {
     let cert = certificate(&rt, rt.alloc(), &[0o4000, 4095, 0o4000, 0]);
     let base = row(&rt, rt.alloc(), 0, 1);
     for &(next, greatest, least, wanted) in &COVERS {
-        assert!(rt; next < 4096);
-        let found = covering_row(&cert, &base, &post(&rt, next, greatest), &From { least });
+        let post = post(&rt, next, greatest);
+        assert!(rt; post.next < 4096);
+        let found = covering_row(&cert, &base, &post, &AtLeast { least });
         expect_same(&rt, &found, &wanted);
     }
 }
@@ -166,8 +168,12 @@ fn start_rows(rt: HostRuntime) {
     let cert = certificate(&rt, rt.alloc(), &[0, 0o4000, 0o4000]);
     let image = Image::new(rt.alloc()).expect(&rt, "memory for an image");
     expect_same(&rt, &start_row(&image, &cert, &EachServes), &Some(2));
-    expect_same(&rt, &start_row(&image, &cert, &From { least: 3 }), &Some(3));
-    expect_same(&rt, &start_row(&image, &cert, &From { least: 4 }), &None);
+    expect_same(
+        &rt,
+        &start_row(&image, &cert, &AtLeast { least: 3 }),
+        &Some(3),
+    );
+    expect_same(&rt, &start_row(&image, &cert, &AtLeast { least: 4 }), &None);
 }
 
 #[test]

@@ -3,7 +3,9 @@ use Rattle.std.proofs.Common.{◌≡◌, ℕ, ◌≤◌, Bool, false, List, leng
 use Rattle.std.specs.Prelude.{IfOk, IfErr}
 use Rattle.std.specs.Result.{result_map_both}
 use Rattle.ags_outside.specs.Count.{HasCause, rose_since}
+use Rattle.ags_cert.specs.Kept.{Kept}
 use Rattle.ags_cert.specs.Length.{certificate_limit}
+use Rattle.ags_cert.specs.Pieces.{took_cert}
 use Rattle.ags_listing.specs.Limit.{listing_limit}
 use Rattle.ags_machfile.specs.Limit.{machine_limit}
 use Rattle.ags_places.specs.Limit.{source_limit}
@@ -97,6 +99,17 @@ certificate_loads told machine name bytes (Err (Absent absent)) agrees short rea
 certificate_loads told machine name bytes (Err (TooLong long limit)) agrees short read unread = absurd unread
 certificate_loads told machine name bytes (Err ReadFault) agrees short read unread = absurd unread
 certificate_loads told machine name bytes (Err NoMemory) agrees short read unread = tt
+
+-- what a reader answers for each text that it took is what the file that it took holds
+pub finished_loads : (told : Told) (machine : Machine) (name bytes : List ℕ) (reader : Kept) (result : Result Stated (Unloaded Refusal)) → Agrees (told name) (Some bytes)
+    → length bytes ≤ certificate_limit → took_cert reader bytes
+    → IfOk result (λ cert. (text : List ℕ) → took_cert reader text → length text ≤ certificate_limit → IsCertOf machine.ports text cert)
+    → IfErr result (λ why. (text : List ℕ) → took_cert reader text → length text ≤ certificate_limit → IsCertificateUnread machine text why)
+    → LoadsFile program told (Certificate machine) name (result_map_both (λ cert. cert) (end_of program line_of status_of) result)
+finished_loads told machine name bytes reader (Ok cert) agrees short took read unread =
+    certificate_loads told machine name bytes (Ok cert) agrees short (read bytes took short) tt
+finished_loads told machine name bytes reader (Err why) agrees short took read unread =
+    certificate_loads told machine name bytes (Err why) agrees short tt (unread bytes took short)
 
 -- what was read of a script's bytes is what its file holds
 pub script_loads : (told : Told) (machine : Machine) (name bytes : List ℕ) (result : Result (List Command) (Unloaded Refusal)) → Agrees (told name) (Some bytes) → length bytes ≤ script_limit

@@ -1,8 +1,9 @@
-//! The files that commands read, each fetched whole and then read.
+//! The files that commands read: a certificate as its pieces come, each other one fetched whole and then read.
 
-ghost use Rattle.std.specs.Prelude.{◌≡◌, ◌≤◌, IfOk, IfErr, Ok, false, length};
+ghost use Rattle.std.specs.Prelude.{◌≡◌, ◌≤◌, ℕ, List, [], IfOk, IfErr, Ok, false, length};
 ghost use Rattle.std.specs.Result.{result_map_both};
 ghost use Rattle.ags_cert.specs.Length.{certificate_limit};
+ghost use Rattle.ags_cert.specs.Pieces.{took_cert};
 ghost use Rattle.ags_listing.specs.Limit.{listing_limit};
 ghost use Rattle.ags_machfile.specs.Limit.{machine_limit};
 ghost use Rattle.ags_places.specs.Limit.{source_limit};
@@ -19,13 +20,13 @@ ghost use Rattle.ags_program.specs.Views.{IsCertificateUnread, IsListingUnread, 
 
 use crate::refusal::Refusal;
 use ags_asm::{AssembleError, Assembled, SOURCE_LIMIT, assemble};
-use ags_cert::{CERT_LIMIT, Cert, CertError};
+use ags_cert::{CERT_LIMIT, Cert, CertError, CertReader};
 use ags_image::Image;
 use ags_isa::Codes;
 use ags_listing::{LISTING_LIMIT, ListError};
 use ags_machfile::{MACHINE_LIMIT, MachError};
 use ags_outside::Shelf;
-use ags_plan::{Unloaded, fetch_file};
+use ags_plan::{Unloaded, fetch_file, fetch_file_into};
 use ags_ports::Machine;
 use ags_script::{SCRIPT_LIMIT, Script, ScriptError};
 use std::alloc::Global;
@@ -136,26 +137,40 @@ pub(crate) fn load_listing<'a, S: Shelf>(
     read_listing(alloc, &bytes)
 }
 
-/// Reads a certificate's bytes, for a machine.
-fn read_certificate<'a>(
+/// A reader of certificates for a machine's registers.
+fn certificate_reader<'a>(
     alloc: Global,
     machine: &Machine,
-    bytes: &[u8],
+) -> Result<CertReader, Unloaded<'a, Refusal>>
+    ensures took { IfOk result (λ reader. took_cert reader []) }
+    ensures ports { IfOk result (λ reader. reader.ports ≡ machine.now.ports) }
+    ensures unread { IfErr result (λ why. why ≡ Unloaded.NoMemory) }
+{
+    match CertReader::new(alloc, &machine.ports) {
+        Ok(reader) => Ok(reader),
+        Err(_) => Err(Unloaded::NoMemory),
+    }
+}
+
+/// What a reader for a machine's registers answers for the bytes that it took.
+fn finish_certificate<'a>(
+    machine: &Machine,
+    reader: CertReader,
 ) -> Result<Cert, Unloaded<'a, Refusal>>
-    requires { length bytes.now ≤ certificate_limit }
-    ensures ready { IfOk result (IsCertOf machine.now.ports bytes.now) }
-    ensures unread { IfErr result (IsCertificateUnread machine.now bytes.now) }
+    requires { reader.ports ≡ machine.now.ports }
+    ensures ready { IfOk result (λ cert. (bytes : List ℕ) → took_cert reader bytes → length bytes ≤ certificate_limit → IsCertOf machine.now.ports bytes cert) }
+    ensures unread { IfErr result (λ why. (bytes : List ℕ) → took_cert reader bytes → length bytes ≤ certificate_limit → IsCertificateUnread machine.now bytes why) }
     ensures no_fault { is_read_fault result ≡ false }
     ensures no_absence { is_absence result ≡ false }
 {
-    match ags_cert::read(alloc, bytes, &machine.ports) {
+    match reader.finish() {
         Ok(cert) => Ok(cert),
         Err(CertError::NoMemory) => Err(Unloaded::NoMemory),
         Err(error) => Err(Unloaded::Refused(Refusal::Certificate(error))),
     }
 }
 
-/// Loads the certificate of a name, for a machine.
+/// Loads the certificate of a name, for a machine. Its text isn't kept: it is read as its pieces come.
 pub(crate) fn load_certificate<'a, S: Shelf>(
     alloc: Global,
     machine: &Machine,
@@ -167,8 +182,9 @@ pub(crate) fn load_certificate<'a, S: Shelf>(
     ensures faults { HasCause (S.faults shelf.old) (S.faults shelf.new) (is_read_fault result) }
     ensures absences { HasCause (S.absences shelf.old) (S.absences shelf.new) (is_absence result) }
 {
-    let bytes = fetch_file(alloc, shelf, name, CERT_LIMIT as u64)?;
-    read_certificate(alloc, machine, &bytes)
+    let mut reader = certificate_reader(alloc, machine)?;
+    fetch_file_into(shelf, name, CERT_LIMIT as u64, &mut reader)?;
+    finish_certificate(machine, reader)
 }
 
 /// Reads a script's bytes, for a machine.

@@ -133,6 +133,60 @@ fn read_faults_write_nothing(rt: HostRuntime) {
     }
 }
 
+/// The files, but that the certificate C is one line that goes on without an end, or can't be read behind its second piece.
+#[derive(Drop)]
+struct LateShelf {
+    held: SteadyShelf,
+    fails: bool,
+    faults: u64,
+}
+
+impl Shelf for LateShelf {
+    ghost told = { λ _ _. Untold };
+
+    ghost faults = { λ shelf. shelf.faults };
+
+    ghost absences = { λ shelf. shelf.held.absences };
+
+    fn pull(&mut self, name: &str, from: u64, into: &mut [u8]) -> Pull {
+        if name != "C" {
+            return self.held.pull(name, from, into);
+        }
+        if self.fails && from >= 8192 {
+            self.faults = self.faults.saturating_add(1);
+            return Pull::Failed;
+        }
+        into.fill(b'x');
+        Pull::Got(into.len())
+    }
+}
+
+/// Whether the certificate's file can't be read behind its front, the status of its certification, and what is printed.
+const LATE: [(bool, Status, &str); 2] = [
+    (true, Status::ReadFault, ""),
+    (false, Status::LongFile, "LONG C 67108864\n"),
+];
+
+// A certificate is read as it comes, and its first line is bad here; but its file's end decides first.
+#[test]
+fn late_faults_of_a_file_come_before_early_bad_lines(rt: HostRuntime) {
+    let alloc = rt.alloc();
+    for &(fails, status, text) in &LATE {
+        let held = held_files(&rt, alloc);
+        let faults = 0;
+        let mut shelf = LateShelf {
+            held,
+            fails,
+            faults,
+        };
+        let mut out = SteadySink::new(alloc, 7);
+        let arguments = arguments_of(&rt, alloc, "certify T C");
+        let ended = ags_main(alloc, &arguments, &mut shelf, &mut out);
+        expect_same(&rt, &ended, &status);
+        expect_same(&rt, &str::from_utf8(out.bytes()), &Ok(text));
+    }
+}
+
 /// Runs a command line into a sink that fails at one put, and compares the status and how many puts were made.
 fn count_puts(rt: &(impl AllocGlobal + Abort), line: &str, at: u64, status: Status, puts: u64) {
     let alloc = rt.alloc();

@@ -1,0 +1,285 @@
+//! Certificates whose text comes in pieces: wherever it is cut, the answer is that of the whole text. And what takers are
+//! handed of a file.
+
+ghost use Rattle.ags_outside.specs.ToldFile.{Untold};
+
+use crate::common::expect_same;
+use ags_cert::{CERT_LIMIT, Cert, CertError, CertKind, CertReader, read};
+use ags_domain::Value;
+use ags_outside::{FetchError, Pull, Shelf, Taker, fetch_into};
+use ags_ports::Ports;
+use ags_row::Row;
+use std::alloc::{AllocError, Global};
+use std::process::Abort;
+
+/// A certificate of the program that puts its return word into a cell.
+const RETURN_WORD: &[u8] = b"AGSCERT 1\nSTART 4000\n\
+    ROW 4000 A ANY Q ANY X 0 V 0\n\
+    ROW 4001 A ANY Q ANY X 0 V 0\n\
+    ROW 4002 A ANY Q WORDS 404001 X 0 V 0\n\
+    ROW 4003 A ANY Q ANY X 0 V 0\n\
+    AT 0017 WORDS 404001\n\
+    ROW 0017 A ANY Q ANY X 0 V 0\n\
+    AT 0017 WORDS 404001\n\
+    END\n";
+
+/// One with a line of each kind and a comment, whose lines end in several ways, and a lone return behind the last line feed.
+const EVERY_KIND: &[u8] = b"AGSCERT 1\r\n# a comment\nSTART 4000\r\nCELL 0017 RANGE -5 9\n\n\
+    INIT 0017 RANGE 0 9\nIN 2200 RANGE 0 31\nOUT 6001 WORDS 000001 777777\nMAY 4001\n\
+    ROW 4000 A ANY Q WORDS 404001 X 0127 V 01\r\nAT 0020 RANGE 1 2\n AT\t0017 RANGE 3 4 \n\
+    ROW 4000 A ANY Q ANY X 0 V 1\nAT 0017 RANGE 3 3\nEND\n\n# behind the end\n\r";
+
+/// Short texts with an answer of each sort: certificates, and first faults.
+const SHORT: [&[u8]; 10] = [
+    // no line feed at the end, with a return and without
+    b"AGSCERT 1\nROW 4000 A ANY Q ANY X 0 V 0\nEND",
+    b"AGSCERT 1\nROW 4000 A ANY Q ANY X 0 V 0\nEND\r",
+    // a return that ends no line, and two at a line's end
+    b"AGSCERT 1\nROW 4000 A ANY\r Q ANY X 0 V 0\nEND\n",
+    b"AGSCERT 1\nROW 4000 A ANY Q ANY X 0 V 0\r\r\nEND\n",
+    // no end, and nothing at all
+    b"AGSCERT 1\nROW 4000 A ANY Q ANY X 0 V 0\n",
+    b"AGSCERT 1\r",
+    b"",
+    b"\r",
+    // a fault, and a later one of a lesser number
+    b"AGSCERT 1\nCELL 0017 RANGE 5 9\nINIT 0017 RANGE 4 6\nIN\nEND\n",
+    b"AGSCERT 2\nROW 4000\n",
+];
+
+/// Whether two rows are the same.
+fn is_same_row(one: &Row<Value>, other: &Row<Value>) -> bool {
+    one.location() == other.location()
+        && (one.a(), one.q()) == (other.a(), other.q())
+        && (one.x(), one.v()) == (other.x(), other.v())
+        && one.at() == other.at()
+}
+
+/// Whether what two certificates state of the addresses that the texts here name is the same.
+fn has_same_limits(one: &Cert, other: &Cert) -> bool {
+    let (limits, others) = (one.limits(), other.limits());
+    limits.cell(0o17) == others.cell(0o17)
+        && limits.cell(0o20) == others.cell(0o20)
+        && limits.input(0o2200) == others.input(0o2200)
+        && limits.output(0o6001) == others.output(0o6001)
+        && limits.may(0o4001) == others.may(0o4001)
+        && one.init(0o17) == other.init(0o17)
+}
+
+/// Whether two certificates are the same.
+fn is_same_cert(one: &Cert, other: &Cert) -> bool {
+    let (rows, others) = (one.rows(), other.rows());
+    if one.start() != other.start() || rows.len() != others.len() {
+        return false;
+    }
+    let mut same = has_same_limits(one, other);
+    for number in 0..rows.len() {
+        same = same && is_same_row(&rows[number], &others[number]);
+    }
+    same
+}
+
+/// Whether two answers are the same.
+fn is_same(one: &Result<Cert, CertError>, other: &Result<Cert, CertError>) -> bool {
+    match (one, other) {
+        (Ok(cert), Ok(another)) => is_same_cert(cert, another),
+        (Err(error), Err(another)) => *error == *another,
+        (Ok(_), Err(_)) => false,
+        (Err(_), Ok(_)) => false,
+    }
+}
+
+/// The answer for a text that is read whole.
+fn whole(rt: &impl Abort, alloc: Global, text: &[u8]) -> Result<Cert, CertError> {
+    assert!(rt; text.len() <= CERT_LIMIT);
+    read(alloc, text, &Ports::standard())
+}
+
+/// A reader for the standard machine.
+fn reader(rt: &impl Abort, alloc: Global) -> CertReader {
+    CertReader::new(alloc, &Ports::standard()).expect(rt, "memory")
+}
+
+/// The answer for a text that is cut in two there.
+fn in_two(rt: &impl Abort, alloc: Global, text: &[u8], cut: usize) -> Result<Cert, CertError> {
+    assert!(rt; cut <= text.len());
+    let mut reader = reader(rt, alloc);
+    reader.take(&text[..cut]).expect(rt, "memory");
+    reader.take(&text[cut..]).expect(rt, "memory");
+    reader.finish()
+}
+
+/// The answer for a text that comes in pieces of that size.
+fn by_pieces(rt: &impl Abort, alloc: Global, text: &[u8], size: usize) -> Result<Cert, CertError> {
+    assert!(rt; size > 0);
+    let mut reader = reader(rt, alloc);
+    for start in 0..text.len() {
+        if start % size == 0 {
+            let left = &text[start..];
+            reader
+                .take(&left[..size.min(left.len())])
+                .expect(rt, "memory");
+        }
+    }
+    reader.finish()
+}
+
+/// Expects the same answer for a text that is cut at each byte, and into pieces of several sizes.
+fn expect_same_by_pieces(rt: &impl Abort, alloc: Global, text: &[u8]) {
+    let wanted = whole(rt, alloc, text);
+    for cut in 0..text.len() + 1 {
+        assert!(rt; is_same(&in_two(rt, alloc, text, cut), &wanted));
+    }
+    for size in [1, 2, 3, 512] {
+        assert!(rt; is_same(&by_pieces(rt, alloc, text, size), &wanted));
+    }
+}
+
+#[test]
+fn the_return_word_is_read_alike_in_pieces(rt: HostRuntime) {
+    assert!(&rt; whole(&rt, rt.alloc(), RETURN_WORD).is_ok());
+    expect_same_by_pieces(&rt, rt.alloc(), RETURN_WORD);
+}
+
+#[test]
+fn every_kind_of_line_is_read_alike_in_pieces(rt: HostRuntime) {
+    assert!(&rt; whole(&rt, rt.alloc(), EVERY_KIND).is_ok());
+    expect_same_by_pieces(&rt, rt.alloc(), EVERY_KIND);
+}
+
+#[test]
+fn short_texts_are_read_alike_in_pieces(rt: HostRuntime) {
+    for text in &SHORT {
+        expect_same_by_pieces(&rt, rt.alloc(), text);
+    }
+}
+
+/// Expects the line and the kind of a text's first fault, also where the text comes byte by byte.
+fn expect_fault(rt: &impl Abort, alloc: Global, text: &[u8], line: u32, kind: CertKind) {
+    let wanted = Err(CertError::At { line, kind });
+    assert!(rt; is_same(&whole(rt, alloc, text), &wanted));
+    assert!(rt; is_same(&by_pieces(rt, alloc, text, 1), &wanted));
+}
+
+#[test]
+fn the_first_of_two_faults_is_told(rt: HostRuntime) {
+    let alloc = rt.alloc();
+    expect_fault(&rt, alloc, SHORT[8], 3, CertKind::OutsideGlobal);
+    expect_fault(&rt, alloc, SHORT[9], 1, CertKind::Version);
+    expect_fault(&rt, alloc, SHORT[4], 3, CertKind::BadLine);
+}
+
+/// A certificate whose second line is a comment of so many bytes, its end not counted.
+fn with_comment(rt: &impl Abort, alloc: Global, length: usize) -> Vec<u8> {
+    let mut text = Vec::from_slice(alloc, b"AGSCERT 1\n#").expect(rt, "memory");
+    for _ in 1..length {
+        assert!(rt; text.push(b'x').is_ok());
+    }
+    let behind = b"\r\nROW 4000 A ANY Q ANY X 0 V 0\nEND\n";
+    assert!(rt; text.extend_from_slice(behind).is_ok());
+    text
+}
+
+#[test]
+fn a_longest_line_is_read_alike_in_pieces(rt: HostRuntime) {
+    let alloc = rt.alloc();
+    let text = with_comment(&rt, alloc, 512);
+    assert!(&rt; whole(&rt, alloc, &text).is_ok());
+    expect_same_by_pieces(&rt, alloc, &text);
+}
+
+#[test]
+fn an_overlong_line_is_told_alike_in_pieces(rt: HostRuntime) {
+    let alloc = rt.alloc();
+    let text = with_comment(&rt, alloc, 513);
+    expect_fault(&rt, alloc, &text, 2, CertKind::BadLine);
+    expect_same_by_pieces(&rt, alloc, &text);
+}
+
+/// A shelf that tells nothing, of one file, which it gives byte by byte.
+#[derive(Drop)]
+struct ByteShelf {
+    bytes: &'static [u8],
+}
+
+impl Shelf for ByteShelf {
+    ghost told = { λ _ _. Untold };
+
+    ghost faults = { λ _. 0 };
+
+    ghost absences = { λ _. 0 };
+
+    fn pull(&mut self, _name: &str, from: u64, into: &mut [u8]) -> Pull {
+        let from = from as usize;
+        if from >= self.bytes.len() {
+            return Pull::End;
+        }
+        into[0] = self.bytes[from];
+        Pull::Got(1)
+    }
+}
+
+#[test]
+fn a_file_is_read_byte_by_byte(rt: HostRuntime) {
+    let alloc = rt.alloc();
+    for &text in &[RETURN_WORD, EVERY_KIND, SHORT[1], SHORT[8]] {
+        let mut shelf = ByteShelf { bytes: text };
+        let mut reader = reader(&rt, alloc);
+        let limit = CERT_LIMIT as u64;
+        assert!(&rt; fetch_into(&mut shelf, "C", limit, &mut reader).is_ok());
+        assert!(&rt; is_same(&reader.finish(), &whole(&rt, alloc, text)));
+    }
+}
+
+/// A taker that keeps what it takes, and has memory for so many pieces.
+#[derive(Drop)]
+struct FewPieces {
+    left: u32,
+    taken: Vec<u8>,
+}
+
+impl Taker for FewPieces {
+    ghost took = { λ _ _. Unit {0} };
+
+    ghost stays = { λ _ _. Unit {0} };
+
+    ghost stays_at_once = { λ _. tt };
+
+    ghost stays_on = { λ _ _ _ _ _. tt };
+
+    fn take(&mut self, piece: &[u8]) -> Result<(), AllocError> {
+        if self.left == 0 {
+            return Err(AllocError);
+        }
+        self.left -= 1;
+        self.taken.extend_from_slice(piece)
+    }
+}
+
+/// Room for so many pieces, a limit, the answer, and the bytes that were taken.
+const HANDED: [(u32, u64, Result<(), FetchError>, &[u8]); 7] = [
+    (9, 5, Ok(()), b"12345"),
+    (5, 5, Ok(()), b"12345"),
+    (4, 5, Err(FetchError::NoMemory), b"1234"),
+    (1, 5, Err(FetchError::NoMemory), b"1"),
+    (0, 5, Err(FetchError::NoMemory), b""),
+    // no piece past the limit is handed on
+    (9, 4, Err(FetchError::TooLong), b"1234"),
+    (9, 0, Err(FetchError::TooLong), b""),
+];
+
+#[test]
+fn pieces_are_handed_on_up_to_the_limit(rt: HostRuntime) {
+    let alloc = rt.alloc();
+    for &(left, limit, wanted, bytes) in &HANDED {
+        let mut shelf = ByteShelf { bytes: b"12345" };
+        let taken = Vec::new(alloc);
+        let mut taker = FewPieces { left, taken };
+        expect_same(
+            &rt,
+            &fetch_into(&mut shelf, "C", limit, &mut taker),
+            &wanted,
+        );
+        assert!(&rt; taker.taken.as_slice() == bytes);
+    }
+}
