@@ -1,17 +1,21 @@
--- DLY alone begins waiting, and a word that is no order alone halts.
+-- DLY alone begins waiting, and always does, and a word that is no order alone halts. The crates above cite:
+--     dly_leads_to_waiting               a step that runs DLY leaves the machine waiting
 use Rattle.std.proofs.Common.{◌≡◌, ◌≢◌, ℕ, refl, sym, ap, subst, ◌∙◌, ◌⊎◌, ⊎_elim, inl, inr}
 use Rattle.std.specs.Prelude.{Bool, true, false, Option, Some, None, nat_eq, int_lt, pos, if◌then◌else◌}
 use Rattle.ags_word.specs.Word.{val}
 use Rattle.ags_isa.specs.declared.orders.Order.{Order}
 use Rattle.ags_isa.specs.declared.orders.Order.TheVariants.{Abs, Add, Adz, Als, Axt, Cla, Clz, Com, Dly, Dvp, Inp, Ldq, Lls, Lrs, Mpr, Mpy, Mpz, Out, Sto, Stq, Sub, Suz, Tix, Tmi, Tov, Tra, Tsq}
 use Rattle.ags_isa.specs.declared.decoding.Decoded.{Decoded}
+use Rattle.ags_isa.specs.Code.{AreCodes}
 use Rattle.ags_isa.specs.Naming.{Names, IsDecoding}
+use Rattle.ags_isa.proofs.WordLemmas.{names-one}
 use Rattle.ags_ports.specs.declared.events.Phase.{Phase}
 use Rattle.ags_ports.specs.declared.events.Phase.TheVariants.{Running, Waiting, Halted}
 use Rattle.ags_ports.specs.declared.events.Event.{Event}
 use Rattle.ags_ports.specs.declared.events.Event.TheVariants.{Step, Pulse, Put}
 use Rattle.ags_ports.specs.declared.events.Done.{Done}
 use Rattle.ags_ports.specs.declared.machines.Machine.{Machine}
+use Rattle.ags_ports.specs.Machine.{IsMachine}
 use Rattle.ags_ports.specs.State.{State, word_here}
 use Rattle.ags_ports.specs.Effect.{effect, effective}
 use Rattle.ags_ports.specs.Step.{Obeys, StepsIn, Steps, Reads, NamesNone, idle_report, phase_after_pulse}
@@ -95,6 +99,22 @@ module _ (machine : Machine) (s : State) where
   dly_waits Step report after p before waits = (refl, step_in_waits s.phase report after refl before p waits)
   dly_waits Pulse report after p before waits = absurd (pulsed_waits s.phase (sym (ap (λ (v : State). v.phase) p.1) ∙ waits))
   dly_waits (Put address word) report after p before waits = absurd (before (sym (ap (λ (v : State). v.phase) p.1) ∙ waits))
+
+  -- ---- and DLY always does
+
+  obeys_dly : (named : Option Decoded) (report : Done) (after : State) → AreCodes machine.codes → Reads machine s Dly
+      → IsDecoding machine.codes (word_here s) named → Obeys machine s named report after → after.phase ≡ Waiting
+  obeys_dly (Some d) report after are reads names p =
+      let same = names-one machine.codes are (word_here s) d.order Dly d.indexed reads.indexed d.address reads.address names reads.names in
+      ap (λ (v : State). v.phase) p.1
+      ∙ ap (λ (o : Order). (effect machine s o (effective s d.order d.indexed d.address) d.address).after.phase) same.0
+  obeys_dly None report after are reads none p = absurd (none Dly reads.indexed reads.address reads.names)
+
+  pub dly_leads_to_waiting : (report : Done) (after : State) → IsMachine machine → Reads machine s Dly
+      → Steps machine s Step report after → after.phase ≡ Waiting
+  dly_leads_to_waiting report after is reads p =
+      let q = subst (λ (phase : Phase). StepsIn phase machine s report after) reads.running p in
+      obeys_dly q.0 report after is.codes reads q.1 q.2
 
   -- ---- a word that is no order alone halts
 

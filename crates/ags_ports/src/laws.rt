@@ -109,6 +109,12 @@ pub fn only_dly_waits_and_only_no_order_halts()
         → (report ≡ idle_report s) × (after ≡ record s { phase = Halted }) }
 {}
 
+/// A step that runs DLY leaves the machine waiting.
+pub fn dly_leaves_the_machine_waiting()
+    ensures { (machine : Machine) (s : State) (report : Done) (after : State) → IsMachine machine
+        → Reads machine s Dly → Steps machine s Step report after → after.phase ≡ Waiting }
+{}
+
 /// What is told says what changed: of the cells the one of the store that is told, of the output registers the one that
 /// a word is told to be given to, and by a step, of the input registers the one that a word is told to be taken from.
 pub fn changes_are_told()
