@@ -1,3 +1,4 @@
+pub mod AmongLaws
 pub mod CornerLaws
 pub mod GatherLaws
 pub mod HullLaws

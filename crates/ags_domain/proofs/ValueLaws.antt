@@ -1,6 +1,6 @@
 -- Values: what lies within what, joins, parts and answers.
 use Rattle.std.proofs.Common.{◌≡◌, ℕ, ◌<◌, ◌^◌, Bool, true, false, refl, sym, ap, ◌∙◌, subst, arith, List, [], ◌∷◌, ◌≤ℤ◌}
-use Rattle.std.specs.Prelude.{◌&&◌, ◌||◌, eqb, Some, None, Result, Ok, Err}
+use Rattle.std.specs.Prelude.{◌&&◌, ◌||◌, ◌↔◌, IsTrue, eqb, Some, None, Result, Ok, Err}
 use Rattle.std.specs.List.{list_all, filter}
 use Rattle.std.proofs.lemmas.Int.{ints}
 use Rattle.std.proofs.lemmas.Bool.{eqb-true}
@@ -81,6 +81,14 @@ in_set v words outer gathered all = listed_all (lists outer.list) words.list
 pub too_many_in : (v : Value) (outer : WordSet) → AreGathered (held_by_either value_meaning v v) None → AreAllIn (value_held v) (lists outer.list) → ⊥
 too_many_in v outer more all = set_few outer
     (more_along 16 (held_by_either value_meaning v v) (lists outer.list) (λ w is h. all w is (sym (held_by_both v w) ∙ h)) more)
+
+-- a word set has every word of another one
+pub words_in : (inner outer : WordSet) (all : Bool) → all ≡ list_all (lists outer.list) inner.list
+    → IsTrue all ↔ AreAllIn (lists inner.list) (lists outer.list)
+words_in inner outer all is = (
+  λ h w word held. all_listed (lists outer.list) inner.list (sym is ∙ h) w held,
+  λ each. is ∙ listed_all (lists outer.list) inner.list (λ w h. each w (lists_word 0 inner.list w inner.ascending h) h),
+)
 
 -- ---- full values and parts
 

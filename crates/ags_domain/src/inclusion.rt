@@ -1,8 +1,8 @@
 //! Whether a value lies within a range or a word set.
 
-ghost use Rattle.std.specs.Prelude.{◌≡◌, ◌↔◌, ◌&&◌, IsTrue};
+ghost use Rattle.std.specs.Prelude.{◌≡◌, ◌↔◌, ◌&&◌, IsTrue, true};
 ghost use Rattle.std.specs.List.{list_all};
-ghost use Rattle.ags_domain.specs.WordSet.{lists};
+ghost use Rattle.ags_domain.specs.WordSet.{ascends_from, lists};
 ghost use Rattle.ags_domain.specs.Range.{range_ends, lies_between};
 ghost use Rattle.ags_domain.specs.Value.{value_held};
 ghost use Rattle.ags_domain.specs.Inclusion.{AreAllIn};
@@ -27,19 +27,52 @@ pub(crate) fn is_within_range(value: &Value, range: &Range) -> bool
     has_ends(range, value.least_word(), value.greatest_word())
 }
 
+/// Whether some words have each of others. Both ascend, so that one walk along both tells.
+fn are_among(inner: &[Word], outer: &[Word]) -> bool
+    requires inner { ascends_from 0 inner.now ≡ true }
+    requires outer { ascends_from 0 outer.now ≡ true }
+    ensures { result ≡ list_all (lists outer.now) inner.now }
+{
+    let mut met = 0;
+    for word in outer {
+        if met == inner.len() {
+            return true;
+        }
+        let next = inner[met].number();
+        if next < word.number() {
+            return false;
+        }
+        if next == word.number() {
+            met += 1;
+        }
+    }
+    met == inner.len()
+}
+
 /// Whether one set has every word of another.
 fn is_within(inner: &WordSet, outer: &WordSet) -> bool
     ensures { result ≡ list_all (lists outer.now.list) inner.now.list }
 {
-    inner.words().iter().all(|word| outer.has(*word))
+    are_among(inner.words(), outer.words())
+}
+
+/// Whether a word set has every word of a range, which are gathered.
+fn is_range_within(range: &Range, set: &WordSet) -> bool
+    ensures { IsTrue result ↔ AreAllIn (lies_between (range_ends range.now)) (lists set.now.list) }
+{
+    let value = Value::Range(*range);
+    match gather(&value, &value) {
+        Some(words) => is_within(&words, set),
+        None => false,
+    }
 }
 
 /// Whether a word set has every word of a value.
 pub(crate) fn is_within_set(value: &Value, set: &WordSet) -> bool
     ensures { IsTrue result ↔ AreAllIn (value_held value.now) (lists set.now.list) }
 {
-    match gather(value, value) {
-        Some(words) => is_within(&words, set),
-        None => false,
+    match value {
+        Value::Range(range) => is_range_within(range, set),
+        Value::Words(words) => is_within(words, set),
     }
 }

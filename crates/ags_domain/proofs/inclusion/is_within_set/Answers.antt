@@ -1,12 +1,8 @@
-use Rattle.std.proofs.Common.{◌∙◌, sym}
-use Rattle.ags_domain.proofs.ValueLaws.{set_in, in_set, too_many_in}
+use Rattle.ags_domain.proofs.ValueLaws.{words_in}
 use Rattle.ags_domain.proofs.inclusion.is_within_set.Goals as goal
 
-pub returns-in-Some : goal.returns-in-Some
-returns-in-Some c =
-    let v = c.args.value.now in
-    let set = c.args.set.now in
-    (λ h. set_in v c.in-Some.words set c.in-Some.ensures (sym c.is_within.ensures ∙ h), λ h. c.is_within.ensures ∙ in_set v c.in-Some.words set c.in-Some.ensures h)
+pub returns-in-Range : goal.returns-in-Range
+returns-in-Range c = rw c.in-Range.is c.is_range_within.ensures
 
-pub returns-in-None : goal.returns-in-None
-returns-in-None c = (λ h. absurd cc, λ h. absurd (too_many_in c.args.value.now c.args.set.now c.in-None.ensures h))
+pub returns-in-Words : goal.returns-in-Words
+returns-in-Words c = rw c.in-Words.is (words_in c.in-Words.words c.args.set.now c.is_within.result c.is_within.ensures)
