@@ -1,6 +1,7 @@
 //! The cells that a row names.
 
 ghost use Rattle.std.specs.Prelude.{◌≡◌, ◌<◌, true};
+ghost use Rattle.std.specs.Option.{option_copied};
 ghost use Rattle.ags_row.specs.Cell.{cells_ascend, value_among};
 
 use crate::ats::At;
@@ -53,9 +54,9 @@ pub(crate) fn ascend<D>(cells: &[At<D>]) -> bool
 }
 
 /// What the cell at an address may hold, if it is among some that ascend. It is found by halving.
-pub(crate) fn value_among<D: Copy>(cells: &[At<D>], address: u16) -> Option<D>
+fn value_among<D: Copy>(cells: &[At<D>], address: u16) -> Option<&D>
     requires { cells_ascend 0 cells.now ≡ true }
-    ensures { result ≡ value_among cells.now address }
+    ensures { option_copied result ≡ value_among cells.now address }
 {
     let mut low = 0;
     let mut high = cells.len();
@@ -63,7 +64,7 @@ pub(crate) fn value_among<D: Copy>(cells: &[At<D>], address: u16) -> Option<D>
         let middle = low + (high - low) / 2;
         let cell = &cells[middle];
         if cell.address == address {
-            return Some(cell.value);
+            return Some(&cell.value);
         }
         if cell.address < address {
             low = middle + 1;
@@ -72,4 +73,18 @@ pub(crate) fn value_among<D: Copy>(cells: &[At<D>], address: u16) -> Option<D>
         }
     }
     None
+}
+
+/// The same, and the cell at the place where it is likely to stand is looked at first.
+pub(crate) fn value_among_from<D: Copy>(cells: &[At<D>], likely: usize, address: u16) -> Option<&D>
+    requires { cells_ascend 0 cells.now ≡ true }
+    ensures { option_copied result ≡ value_among cells.now address }
+{
+    if likely < cells.len() {
+        let cell = &cells[likely];
+        if cell.address == address {
+            return Some(&cell.value);
+        }
+    }
+    value_among(cells, address)
 }

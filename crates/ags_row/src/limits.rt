@@ -72,6 +72,14 @@ impl<D: Domain> Limits<D> {
         self.cells[address as usize]
     }
 
+    /// The same, lent.
+    pub(crate) fn cell_at(&self, address: u16) -> &D
+        requires { address < 2048 }
+        ensures { result.now ≡ cell_limit self.now address }
+    {
+        &self.cells[address as usize]
+    }
+
     /// What the input register at an address may hold.
     pub fn input(&self, address: u16) -> D
         requires { address < 4096 }

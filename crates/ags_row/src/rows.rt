@@ -31,11 +31,11 @@ pub struct RowParts<D> {
 /// What may stand where the order at one location begins. A cell that it doesn't name may hold what the limits say.
 #[derive(Drop)]
 pub struct Row<D> {
-    location: u16,
-    a: D,
-    q: D,
-    x: [bool; 8],
-    v: [bool; 2],
+    pub(crate) location: u16,
+    pub(crate) a: D,
+    pub(crate) q: D,
+    pub(crate) x: [bool; 8],
+    pub(crate) v: [bool; 2],
     at: Cells<D>,
     pub ghost below: { location < 4096 },
     pub ghost some_index: { some_flag x ≡ true },

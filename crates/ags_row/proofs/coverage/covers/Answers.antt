@@ -21,8 +21,8 @@ returns g c =
         a = registers.a met;
         q = registers.q met;
         index = registers.index met;
-        clear = rw (← c.v.ensures) (indicator.clear clear_or_set);
-        set = rw (← c.v.ensures) (indicator.set clear_or_set);
+        clear = indicator.clear clear_or_set;
+        set = indicator.set clear_or_set;
         cells = rw (← c.at.ensures) (c.covers_cells.ensures.0 holds);
       },
       λ covers. c.covers_cells.ensures.1 (rw c.at.ensures covers.cells),
@@ -34,4 +34,4 @@ returns-then-not-covers_registers g c = refused c.covers_registers.result
 
 pub returns-then-not-covers_indicator : goal.returns-then-not-covers_indicator
 returns-then-not-covers_indicator g c = refused c.covers_indicator.result
-    (λ covers. c.covers_indicator.ensures.all (rw c.v.ensures covers.clear) (rw c.v.ensures covers.set)) c.if-not-covers_indicator.true
+    (λ covers. c.covers_indicator.ensures.all covers.clear covers.set) c.if-not-covers_indicator.true

@@ -3,10 +3,10 @@ use Rattle.ags_row.specs.Cover.{cell_value, post_value}
 use Rattle.ags_row.specs.Limit.{cell_limit, input_limit, output_limit, is_named}
 use Rattle.ags_row.proofs.coverage.covers_registers.Goals as goal
 
-pub returns-then-within-2-clause-q : goal.returns-then-within-2-clause-q
+pub returns-then-within-clause-q : goal.returns-then-within-clause-q
 unfolding cell_limit input_limit output_limit is_named cell_value post_value
-returns-then-within-2-clause-q g c = search rules
+returns-then-within-clause-q g c = search rules
 
-pub returns-else-within-2-clause-all : goal.returns-else-within-2-clause-all
+pub returns-else-within-clause-all : goal.returns-else-within-clause-all
 unfolding cell_limit input_limit output_limit is_named cell_value post_value
-returns-else-within-2-clause-all g c = search rules
+returns-else-within-clause-all g c = search rules
