@@ -7,7 +7,7 @@ ghost use Rattle.ags_verdict.specs.Fault.{IsCaseJudged};
 ghost use Rattle.ags_certtype.specs.Cert.{certificate_of};
 
 use crate::answers::RowFault;
-use crate::coverage::first_uncovered;
+use crate::coverage::{LastCovering, first_uncovered_after};
 use ags_certtype::Cert;
 use ags_domain::Value;
 use ags_image::Image;
@@ -21,7 +21,7 @@ use std::marker::Model;
 use std::sync::ledger::Ledger;
 
 /// A machine, an image and a certificate, as the judge that asks of each case whether it is accepted: that it has posts, and each of
-/// them is covered by some one row.
+/// them is covered by some one row. It keeps which row covered the last posts, to look there first.
 #[derive(Drop)]
 pub struct Accepting<'a> {
     /// The machine.
@@ -30,6 +30,7 @@ pub struct Accepting<'a> {
     pub image: &'a Image,
     /// The certificate.
     pub cert: &'a Cert,
+    last: LastCovering,
 }
 
 impl<'a> Model for Accepting<'a> {
@@ -38,6 +39,20 @@ impl<'a> Model for Accepting<'a> {
     ghost Value = { Judging };
 
     ghost view = { λ a. record { machine = a.machine.now; image = a.image.now; cert = a.cert.now } };
+}
+
+impl<'a> Accepting<'a> {
+    /// The judge of a certificate for an image on a machine.
+    pub fn new(machine: &'a Machine, image: &'a Image, cert: &'a Cert) -> Accepting<'a>
+        ensures { result ≡ record { machine = machine.now; image = image.now; cert = cert.now } }
+    {
+        Accepting {
+            machine,
+            image,
+            cert,
+            last: LastCovering::new(),
+        }
+    }
 }
 
 /// A case counts once, or fails.
@@ -66,7 +81,7 @@ fn judge_case<L: Ledger>(
         v,
         steps,
     ) {
-        Ok(pair) => match first_uncovered(cert, row, &pair) {
+        Ok(pair) => match first_uncovered_after(cert, row, &pair, &accepting.last) {
             Some(next) => Err(RowFault::NotCovered { word, x, v, next }),
             None => Ok(1),
         },

@@ -54,11 +54,7 @@ fn judged_rows<L: Ledger>(
     ensures steps { (cases : ℕ) → HaveCases value_meaning image.now cert.now.limits cert.now.rows cases → steps.new ≤ steps.old + cases }
 {
     let _few = number_of_rows(cert);
-    let accepting = Accepting {
-        machine,
-        image,
-        cert,
-    };
+    let accepting = Accepting::new(machine, image, cert);
     refusal_at(walk_rows(&accepting, image, cert.limits(), cert.rows(), steps))
 }
 

@@ -5,11 +5,12 @@ ghost use Rattle.ags_domain.specs.Value.{value_meaning};
 ghost use Rattle.ags_certtype.specs.Cert.{certificate_of};
 ghost use Rattle.ags_check.specs.Finding.{IsFound, IsCover};
 
-use crate::finding::{RowTest, find_row};
+use crate::finding::{RowTest, find_row_from};
 use crate::serving::Serving;
 use ags_certtype::Cert;
 use ags_domain::Value;
 use ags_row::{Limits, Post, Row, covers};
+use std::cell::Cell;
 use std::marker::Model;
 
 /// That a row covers a post of a base row, and a further condition holds of its number.
@@ -52,11 +53,35 @@ pub fn covering_row<S: Serving>(
     requires { post.now.next < 4096 }
     ensures { IsFound (IsCover value_meaning (certificate_of cert.now) (S.serves serving.now) base.now post.now) cert.now.rows result }
 {
+    covering_row_after(cert, base, post, serving, &Cell::new(0))
+}
+
+/// The same, after a row with a number covered another post: that row is looked at first, since posts of cases that stand side by
+/// side are mostly covered by one. Its number is kept for the next post.
+pub(crate) fn covering_row_after<S: Serving>(
+    cert: &Cert,
+    base: &Row<Value>,
+    post: &Post<Value>,
+    serving: &S,
+    last: &Cell<u32>,
+) -> Option<u32>
+    requires { post.now.next < 4096 }
+    ensures { IsFound (IsCover value_meaning (certificate_of cert.now) (S.serves serving.now) base.now post.now) cert.now.rows result }
+{
     let covering = Covering {
         base,
         post,
         limits: cert.limits(),
         serving,
     };
-    find_row(cert, post.next, &covering)
+    let found = find_row_from(cert, post.next, &covering, last.get());
+    keep(last, found);
+    found
+}
+
+/// Keeps the number of a row that was found.
+fn keep(last: &Cell<u32>, found: Option<u32>) {
+    if let Some(number) = found {
+        last.set(number);
+    }
 }
