@@ -1,13 +1,14 @@
 -- One pass over a source's lines, one line further.
 use Rattle.std.proofs.Common.{◌≡◌, ℕ, ◌+◌, Bool, true, false, cond, List, [], ◌∷◌, ◌++◌, length, Option, Some, None, refl, sym, ap, subst, ◌∙◌, append_assoc, append-nil, inl, inr, arith}
-use Rattle.std.specs.Prelude.{Ok, is_some, not, ◌==◌}
+use Rattle.std.specs.Prelude.{Ok, is_some, not}
 use Rattle.std.specs.Global.{Vec}
-use Rattle.std.proofs.lemmas.Bool.{true≢false, ne_eqb}
+use Rattle.std.proofs.lemmas.Bool.{true≢false}
 use Rattle.ags_places.specs.declared.placed.Placed.{Placed}
 use Rattle.std.proofs.lemmas.List.{length-append, length-replicate, get_or-replicate}
 use Rattle.ags_text.specs.Line.{LineAt, Follow}
 use Rattle.ags_card.specs.declared.cards.Card.{Card}
 use Rattle.ags_card.specs.Reading.{reading}
+use Rattle.ags_card.specs.Spelling.{comment_card}
 use Rattle.ags_symbol.specs.Symbol.{Entry}
 use Rattle.ags_places.specs.declared.source_error.AssembleError.{AssembleError}
 use Rattle.ags_places.specs.declared.source_error.AssembleError.TheVariants.{Source, NoMemory}
@@ -23,7 +24,7 @@ use Rattle.ags_asm.specs.declared.half_words.HalfWords.{HalfWords}
 use Rattle.ags_asm.specs.Word.{owner}
 use Rattle.ags_asm.specs.HalfMade.{IsFreshWords, IsHalfMade, StandsNext, told}
 use Rattle.ags_asm.specs.Pass.{IsFresh, IsEnded, IsPassed}
-use Rattle.ags_asm.specs.Passing.{IsMisread, IsTaken, IsTakenLine, IsTakenWhole, IsWithinLimits, blank_card}
+use Rattle.ags_asm.specs.Passing.{IsMisread, IsTaken, IsTakenLine, IsTakenWhole, IsWithinLimits}
 use Rattle.ags_asm.specs.Source.{IsFaulty, IsRefused}
 use Rattle.ags_asm.proofs.KeptLemmas.{keep_past, keep_wordless}
 use Rattle.ags_asm.proofs.PlacingLemmas.{Placing, Placing-none, Placing-more, Placing-fault, Placing-all, first_place_fault_is}
@@ -150,14 +151,14 @@ module _ (codes text : List ℕ) (line : LineAt) (left : List LineAt) (number : 
     placed = λ none. let some = past.2 in absurd cc;
   }
 
--- the card of an empty line, where no card was misplaced
+-- the card of a comment, where no card was misplaced
 pub none_of : (misplaced : Option SourceError) (b : Bool) → is_some misplaced ≡ not b → b ≡ true → misplaced ≡ None
 none_of None b is so = refl
 none_of (Some error) b is so = absurd (true≢false (is ∙ ap not so))
 
-pub taken_blank : (codes : List ℕ) (line : LineAt) (number : ℕ) (was : Pass) (placed : Vec Placed) → was.misplaced ≡ None → IsWithinLimits was → placed.items ≡ was.cards.items ++ placed_at line None ∷ []
-    → IsTaken codes line number blank_card was (record { cards = placed; symbols = was.symbols; place = was.place; words = was.words; misplaced = was.misplaced })
-taken_blank codes line number was placed none within pushed = inl (
+pub taken_comment : (codes : List ℕ) (line : LineAt) (number : ℕ) (was : Pass) (placed : Vec Placed) → was.misplaced ≡ None → IsWithinLimits was → placed.items ≡ was.cards.items ++ placed_at line None ∷ []
+    → IsTaken codes line number comment_card was (record { cards = placed; symbols = was.symbols; place = was.place; words = was.words; misplaced = was.misplaced })
+taken_comment codes line number was placed none within pushed = inl (
   none,
   record {
     misplaced = none;
@@ -170,9 +171,9 @@ taken_blank codes line number was placed none within pushed = inl (
 )
   where
     by_met : (codes : List ℕ) (S : List Entry) (all before left : List Card) (was : Pass) (number : ℕ) (met : Option SourceError) → was.words.met ≡ met → IsWithinLimits was → StandsNext S before number was.place
-        → IsHalfMade codes S all before (blank_card ∷ left) was.words → IsHalfMade codes S all (blank_card ∷ before) left was.words
-    by_met codes S all before left was number None met within next so = keep_wordless codes S all before left blank_card was.words number was.place met refl within.whole within.place next so
-    by_met codes S all before left was number (Some error) met within next so = keep_past codes S all before left blank_card was.words was.words so error met
+        → IsHalfMade codes S all before (comment_card ∷ left) was.words → IsHalfMade codes S all (comment_card ∷ before) left was.words
+    by_met codes S all before left was number None met within next so = keep_wordless codes S all before left comment_card was.words number was.place met refl within.whole within.place next so
+    by_met codes S all before left was number (Some error) met within next so = keep_past codes S all before left comment_card was.words was.words so error met
 
 -- in a loop: the line is a card, and these lines are left
 pub passed_next : (codes text : List ℕ) (line : LineAt) (lines : List LineAt) (number : ℕ) (card : Card) (b : Bool) (was now : Pass) → Passed codes text (deck (line ∷ lines)) number was → reading line.bytes ≡ Ok card
@@ -186,15 +187,10 @@ pub passed_line : (codes text : List ℕ) (line : LineAt) (lines : List LineAt) 
     → last ≡ b → Passed codes text (cond b [] (deck lines)) (number + 1) now
 passed_line codes text line lines number last b was now so (card, is, ended, taken) tested = passed_next codes text line lines number card b was now so is (ended ∙ tested) taken
 
--- an empty line
-blank_reads : (bytes : List ℕ) → length bytes ≡ 0 → reading bytes ≡ Ok blank_card
-unfolding reading
-blank_reads [] none = refl
-blank_reads (b ∷ bytes) none = absurd (omega (arith, none))
-
-pub passed_blank : (codes text : List ℕ) (line : LineAt) (lines : List LineAt) (number : ℕ) (was now : Pass) → Passed codes text (deck (line ∷ lines)) number was → length line.bytes ≡ 0
-    → IsTaken codes line (number + 1) blank_card was now → Passed codes text (deck lines) (number + 1) now
-passed_blank codes text line lines number was now so none taken = passed_next codes text line lines number blank_card false was now so (blank_reads line.bytes none) refl taken
+-- a comment
+pub passed_comment : (codes text : List ℕ) (line : LineAt) (lines : List LineAt) (number : ℕ) (was now : Pass) → Passed codes text (deck (line ∷ lines)) number was → reading line.bytes ≡ Ok comment_card
+    → IsTaken codes line (number + 1) comment_card was now → Passed codes text (deck lines) (number + 1) now
+passed_comment codes text line lines number was now so is taken = passed_next codes text line lines number comment_card false was now so is refl taken
 
 -- ---- the end
 
@@ -231,9 +227,3 @@ pub misread_line : (codes text : List ℕ) (line : LineAt) (lines : List LineAt)
 misread_line codes text line lines number was (Source error) so (fault, is, error_is) =
     misread text error (rw error_is (reading_fault text line lines number fault so.reading is))
 misread_line codes text line lines number was NoMemory so is = tt
-
--- ---- in the code
-
-pub empty_so : (bytes : List ℕ) (b : Bool) → b ≡ (length bytes == 0) → b ≡ true → length bytes ≡ 0
-empty_so [] b is so = refl
-empty_so (x ∷ bytes) b is so = absurd (true≢false (sym so ∙ is ∙ ne_eqb (length (x ∷ bytes)) 0 (λ e. omega (arith, e))))

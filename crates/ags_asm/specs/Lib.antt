@@ -1,5 +1,6 @@
 -- what the public contracts cite
 pub mod Faulty
+pub mod Pieces
 pub mod Source
 pub mod Word
 -- what serves inside

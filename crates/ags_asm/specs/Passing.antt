@@ -1,7 +1,6 @@
 -- One card further in one pass over a source.
 use Rattle.std.specs.Prelude.{◌≡◌, ◌⊎◌, ℕ, ◌≤◌, Bool, List, [], ◌∷◌, ◌++◌, length, Some, None, Ok, Err}
 use Rattle.ags_text.specs.Line.{LineAt}
-use Rattle.ags_card.specs.declared.cards.Body.TheVariants.{Comment}
 use Rattle.ags_card.specs.declared.cards.Card.{Card}
 use Rattle.ags_card.specs.declared.cards.CardFault.{CardFault}
 use Rattle.ags_card.specs.Reading.{reading}
@@ -32,10 +31,6 @@ IsTaken codes line number card was now =
     ((was.misplaced ≡ None) × IsTakenWhole codes line number card was now)
     ⊎ ((was.misplaced ≡ None) × (error : SourceError) × (now.misplaced ≡ Some error) × (error.card ≡ number) × (place_fault_at was.symbols was.place card ≡ Some error.kind))
     ⊎ ((error : SourceError) × (was.misplaced ≡ Some error) × (now.misplaced ≡ Some error))
-
--- the card of an empty line
-abbrev pub blank_card : Card
-blank_card = record { symbol = None; body = Comment }
 
 -- the line is a card, that was taken, and ends the source or doesn't
 abbrev pub IsTakenLine : (codes : List ℕ) (line : LineAt) (number : ℕ) (last : Bool) (was now : Pass) → Type 0

@@ -5,6 +5,7 @@
 #![tactic(auto)]
 
 mod assembling;
+mod building;
 mod closing;
 mod fix_ups;
 mod half_words;
@@ -15,6 +16,7 @@ mod wording;
 
 pub use ags_places::{AssembleError, Placed, SOURCE_LIMIT, SourceError, SourceKind};
 pub use assembling::{Assembled, assemble};
+pub use building::Building;
 pub use laws::{
     each_card_has_its_definition, each_text_has_a_meaning, least_fault_is_told,
     owner_is_the_nearest_earlier_card, source_defines_each_place_once,

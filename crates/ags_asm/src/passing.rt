@@ -6,11 +6,12 @@ ghost use Rattle.std.specs.Prelude.{◌≡◌, ◌+◌, ◌≤◌, ◌<◌, ◌^
 ghost use Rattle.ags_text.specs.LineView.{line_at};
 ghost use Rattle.ags_places.specs.Limit.{source_limit};
 ghost use Rattle.ags_asm.specs.Pass.{IsFresh, IsPassed};
-ghost use Rattle.ags_asm.specs.Passing.{IsMisread, IsTaken, IsTakenLine, IsWithinLimits, blank_card};
+ghost use Rattle.ags_asm.specs.Passing.{IsMisread, IsTaken, IsTakenLine, IsWithinLimits};
+ghost use Rattle.ags_card.specs.Spelling.{comment_card};
 ghost use Rattle.ags_asm.specs.Source.{IsRefused};
 
 use crate::half_words::HalfWords;
-use ags_card::{Card, read_card};
+use ags_card::{Card, is_comment_card, read_card};
 use ags_isa::Codes;
 use ags_places::{
     AssembleError, Placed, SOURCE_LIMIT, SourceError, Stop, is_end, kind_of, place_card,
@@ -86,11 +87,11 @@ impl Pass {
         }
     }
 
-    /// Takes the next card, where its line is empty.
-    fn take_blank(&mut self, line: Line<'_>) -> Result<(), AllocError>
+    /// Takes the next card, where it is a comment.
+    fn take_comment(&mut self, line: Line<'_>) -> Result<(), AllocError>
         requires line { line.start + length line.bytes.now < 2 ^ 32 }
         requires within { IsWithinLimits self.old }
-        ensures taken { OnOk result ((codes : List ℕ) (number : ℕ) → 0 < number → IsTaken codes (line_at line.entry) number blank_card self.old self.new) }
+        ensures taken { OnOk result ((codes : List ℕ) (number : ℕ) → 0 < number → IsTaken codes (line_at line.entry) number comment_card self.old self.new) }
         ensures within { OnOk result (IsWithinLimits self.new) }
     {
         if self.misplaced.is_none() {
@@ -131,8 +132,8 @@ pub(crate) fn read_cards(codes: &Codes, bytes: &[u8], pass: &mut Pass) -> Result
     let mut number: u32 = 0;
     for line in Lines::of(bytes) {
         number += 1;
-        if line.bytes.is_empty() {
-            pass.take_blank(line)?;
+        if is_comment_card(line.bytes) {
+            pass.take_comment(line)?;
             continue;
         }
         if pass.read(codes, line, number)? {

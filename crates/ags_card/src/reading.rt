@@ -1,9 +1,9 @@
 //! From a line to its card or its fault (docs/SOURCE.md, Cards).
 
-ghost use Rattle.std.specs.Prelude.{◌≡◌, ◌≤◌, ◌==◌, length, codes, nat_eq};
+ghost use Rattle.std.specs.Prelude.{◌≡◌, ◌≤◌, ◌==◌, ◌&&◌, length, codes, nat_eq, nat_lt, true, Ok};
 ghost use Rattle.std.specs.List.{list_all};
 ghost use Rattle.std.specs.Cmp.Lexicographic.{pointwise};
-ghost use Rattle.ags_card.specs.Spelling.{is_allowed};
+ghost use Rattle.ags_card.specs.Spelling.{comment_card, is_allowed};
 ghost use Rattle.ags_card.specs.Reading.{is_comment, fits_symbol, body_reading, fields_reading, reading};
 ghost use Rattle.ags_card.specs.declared.operations.Operation.TheVariants.{OfOrder};
 
@@ -36,6 +36,15 @@ fn is_comment(line: &[u8]) -> bool
         [b'*', ..] => true,
         _ => are_blanks(line),
     }
+}
+
+/// Whether a line is a comment without a fault. So much is told without room for a card, since most lines may be comments.
+#[tactic(auto, unfolding(crate::specs::Reading::reading))]
+pub fn is_comment_card(line: &[u8]) -> bool
+    ensures exact { result ≡ (is_comment line.now && (nat_lt (length line.now) 121 && list_all is_allowed line.now)) }
+    ensures comment { result ≡ true → reading line.now ≡ Ok comment_card }
+{
+    is_comment(line) && line.len() <= MOST_BYTES && are_allowed(line)
 }
 
 /// Whether a text is the name of EQU.

@@ -1,6 +1,7 @@
 //! The writer of listings.
 
-ghost use Rattle.std.specs.Prelude.{◌≡◌, ◌+◌, ◌≤◌, ◌<◌, ◌++◌, length, OnOk, OnErr};
+ghost use Rattle.std.specs.Prelude.{◌≡◌, ◌+◌, ◌≤◌, ◌<◌, ◌++◌, length, codes, OnOk, OnErr};
+ghost use Rattle.ags_text.specs.Numeral.{decimal7_text};
 ghost use Rattle.ags_outside.specs.Count.{HasCause};
 ghost use Rattle.ags_outside.specs.Send.{is_write_fault};
 ghost use Rattle.ags_outside.specs.Sink.{appended, WroteFront};
@@ -14,16 +15,23 @@ use ags_outside::{SendError, Sink, send};
 use ags_text::{decimal7, octal4};
 use std::alloc::{AllocError, Global};
 
-/// Adds the columns of a card's place and word.
-fn push_columns(line: &mut Vec<u8>, card: &Placed) -> Result<(), AllocError>
-    ensures { OnOk result (line.new.items ≡ line.old.items ++ columns (word_of card.now)) }
+/// What stands before a card's text in its line: its number, its place and its word, each with a blank behind it. All of it is made
+/// at once, since a source may have four million lines.
+fn line_front(number: u32, card: &Placed) -> [u8; 20]
+    ensures { result ≡ decimal7_text number ++ codes " " ++ columns (word_of card.now) ++ codes " " }
 {
+    let [n1, n2, n3, n4, n5, n6, n7] = decimal7(number);
     let Some(place) = card.place else {
-        return line.extend_from_slice(b"           ");
+        return [
+            n1, n2, n3, n4, n5, n6, n7, b' ', b' ', b' ', b' ', b' ', b' ', b' ', b' ', b' ', b' ',
+            b' ', b' ', b' ',
+        ];
     };
-    line.extend_from_slice(&octal4(u32::from(place)))?;
-    line.push(b' ')?;
-    line.extend_from_slice(&card.word.octal6())
+    let [p1, p2, p3, p4] = octal4(u32::from(place));
+    let [w1, w2, w3, w4, w5, w6] = card.word.octal6();
+    [
+        n1, n2, n3, n4, n5, n6, n7, b' ', p1, p2, p3, p4, b' ', w1, w2, w3, w4, w5, w6, b' ',
+    ]
 }
 
 /// Adds a card's line.
@@ -38,10 +46,7 @@ fn push_line(
     requires within { card.now.end ≤ length source.now }
     ensures { OnOk result (line.new.items ≡ line.old.items ++ placed_line source.now number card.now) }
 {
-    line.extend_from_slice(&decimal7(number))?;
-    line.push(b' ')?;
-    push_columns(line, card)?;
-    line.push(b' ')?;
+    line.extend_from_slice(&line_front(number, card))?;
     line.extend_from_slice(&source[card.start as usize..card.end as usize])?;
     line.push(b'\n')?;
     Ok(())

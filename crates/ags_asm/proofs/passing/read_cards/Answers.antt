@@ -3,7 +3,7 @@ use Rattle.std.proofs.lemmas.Result.{err_from_is_err_and}
 use Rattle.ags_text.specs.LineView.{line_at}
 use Rattle.ags_text.proofs.FollowLemmas.{lines_follow}
 use Rattle.ags_places.proofs.PlacingLemmas.{deck-nil, follow_deck}
-use Rattle.ags_asm.proofs.PassLemmas.{empty_so, fresh_within, misread_line, passed_none, passed_blank, passed_line, passed_all}
+use Rattle.ags_asm.proofs.PassLemmas.{fresh_within, misread_line, passed_none, passed_comment, passed_line, passed_all}
 use Rattle.ags_asm.proofs.ReadingLemmas.{reading_within}
 use Rattle.ags_asm.proofs.passing.read_cards.Goals as goal
 
@@ -21,19 +21,19 @@ overflow_add-number c =
     let within = reading_within c.args.bytes.now (line_at c.in-Some.line) c.next.new.self c.loop-line.number passed.reading in
     omega (arith, within.0, within.1, c.requires.limit)
 
-pub take_blank-requires-clause-line : goal.take_blank-requires-clause-line
-take_blank-requires-clause-line c =
+pub take_comment-requires-clause-line : goal.take_comment-requires-clause-line
+take_comment-requires-clause-line c =
     let passed = rw c.in-Some.ensures.steps at c.loop-line.invariant.passed in
     let within = reading_within c.args.bytes.now (line_at c.in-Some.line) c.next.new.self c.loop-line.number passed.reading in
     omega (arith, within.1, c.requires.limit)
 
-pub loop-line-preserved-then-is_empty : goal.loop-line-preserved-then-is_empty
-loop-line-preserved-then-is_empty c =
+pub loop-line-preserved-then-is_comment_card : goal.loop-line-preserved-then-is_comment_card
+loop-line-preserved-then-is_comment_card c =
     let passed = rw c.in-Some.ensures.steps at c.loop-line.invariant.passed in
     record {
-      passed = passed_blank c.args.codes.now c.args.bytes.now (line_at c.in-Some.line) c.next.new.self c.loop-line.number c.loop-line.pass c.take_blank.new.self passed
-          (empty_so (line_at c.in-Some.line).bytes c.is_empty.result c.is_empty.ensures c.if-is_empty.true) (c.in_ok-take_blank.ensures.taken c.args.codes.now (c.loop-line.number + 1) (omega arith));
-      within = c.in_ok-take_blank.ensures.within;
+      passed = passed_comment c.args.codes.now c.args.bytes.now (line_at c.in-Some.line) c.next.new.self c.loop-line.number c.loop-line.pass c.take_comment.new.self passed
+          (c.is_comment_card.ensures.comment c.if-is_comment_card.true) (c.in_ok-take_comment.ensures.taken c.args.codes.now (c.loop-line.number + 1) (omega arith));
+      within = c.in_ok-take_comment.ensures.within;
     }
 
 pub read-requires-clause-line : goal.read-requires-clause-line
