@@ -24,12 +24,6 @@ use Rattle.ags_certread.proofs.UniqueLemmas.{one_cert}
 pub each_text_means : (ports : Registers) (text : List ℕ) → ((cert : Cert_stated) × IsCertOf ports text cert) ⊎ ((line : ℕ) × (kind : CertKind) × IsFaultyCert ports text line kind)
 each_text_means = text_means
 
--- where it isn't read, that is why
-pub refused_so : (ports : Registers) (text : List ℕ) (result : Result Cert_stated CertError)
-    → IfErr result (λ error. HaveReadings (behind_first (lines_of text)) → IsRefused ports text error) → IfErr result (IsRefused ports text)
-refused_so ports text (Ok cert) refused = tt
-refused_so ports text (Err error) refused = refused (have_readings (behind_first (lines_of text)))
-
 -- ---- and one thing
 
 no_two : (lines : List LineAt) → HaveNoTwoReadings lines

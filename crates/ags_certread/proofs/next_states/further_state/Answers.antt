@@ -1,6 +1,6 @@
 use Rattle.ags_certread.specs.Gathering.{gathering_of}
 use Rattle.ags_certread.proofs.ReadLemmas.{sound_keeps}
-use Rattle.ags_certread.proofs.StandLemmas.{stood_sound, stood_more}
+use Rattle.ags_certread.proofs.StandLemmas.{stood_gathered, stood_sound, stood_more}
 use Rattle.ags_certread.proofs.next_states.further_state.Goals as goal
 
 pub take_line-requires-clause-sized : goal.take_line-requires-clause-sized
@@ -11,6 +11,9 @@ take_line-requires-clause-counting c = (sound_keeps (gathering_of c.args.gathere
 
 pub take_line-requires-clause-closable : goal.take_line-requires-clause-closable
 take_line-requires-clause-closable c = (sound_keeps (gathering_of c.args.gatherer) (stood_sound c.args.ports.now (gathering_of c.args.gatherer) c.requires.lines)).2
+
+pub take_line-requires-clause-gathered : goal.take_line-requires-clause-gathered
+take_line-requires-clause-gathered c = stood_gathered c.args.ports.now (gathering_of c.args.gatherer) c.requires.lines
 
 pub returns-in-Ok-clause-lines : goal.returns-in-Ok-clause-lines
 returns-in-Ok-clause-lines c = stood_more c.args.ports.now (gathering_of c.args.gatherer) (gathering_of c.take_line.new.self) c.args.line.now c.requires.lines c.in-Ok.ensures.fine
