@@ -4,7 +4,6 @@ use Rattle.std.specs.List.{filter_map}
 use Rattle.std.specs.Prelude.{unwrap_or}
 use Rattle.std.proofs.lemmas.List.{get_or-map, length-map}
 use Rattle.ags_text.specs.Line.{LineAt, lines_of}
-use Rattle.ags_text.proofs.FollowLemmas.{lines_follow}
 use Rattle.ags_domain.specs.Domain.{IsFull}
 use Rattle.ags_domain.specs.LowBits.{all_ones}
 use Rattle.ags_domain.specs.Value.{value_meaning}
@@ -35,9 +34,10 @@ use Rattle.ags_certread.specs.Gathering.{Gathering, Closes, ClosesBefore, Takes,
 use Rattle.ags_certread.specs.LineTaken.{HaveReadings, behind_first, opening_fault}
 use Rattle.ags_certread.proofs.FinishLemmas.{cert_made, finished}
 use Rattle.ags_certread.proofs.ReadLemmas.{SoFar, SoFar-first, SoFar-faulty, one_more, SoFar-missing, SoFar-all, empty_refused, opening_refused}
-use Rattle.ags_certread.proofs.SoundLemmas.{IsSound}
+use Rattle.ags_certread.specs.Sound.{IsSound}
 use Rattle.ags_certread.proofs.FaultLemmas.{last_end}
-use Rattle.ags_certread.proofs.TakeLemmas.{Stands, taken}
+use Rattle.ags_certread.proofs.TakeLemmas.{taken}
+use Rattle.ags_certread.specs.Before.{Stands}
 
 -- ---- the row before a statement
 
@@ -189,7 +189,7 @@ module _ (ports : Registers) (text : List ℕ) where
   by_opening first left reading (Some kind) whole is found =
       inr (1, kind, opening_refused ports text first left reading kind whole is found (have_readings (behind_first (lines_of text))))
   by_opening first left reading None whole is none =
-      further left nothing_stated 1 (SoFar-first ports text first left reading nothing_stated whole (rw whole at (lines_follow text)) is none refl)
+      further left nothing_stated 1 (SoFar-first ports text first left reading nothing_stated whole is none refl)
 
   by_lines : (lines : List LineAt) → lines_of text ≡ lines → Meaning
   by_lines [] none = inr (1, BadLine, empty_refused ports text none)

@@ -18,6 +18,7 @@ use Rattle.ags_certtext.specs.Fault.{entry_fault, fault_after, fault_if, is_empt
 use Rattle.ags_certtext.specs.Kind.{follows, is_kind, is_last, is_second_start, kinds_before, last_kind, stands_in_order}
 use Rattle.ags_certtext.specs.Statement.{IsStatement, entries, entries_before, has_address, value_at}
 use Rattle.ags_certread.specs.Before.{Gathered}
+use Rattle.ags_certread.specs.Sound.{kinds_come}
 use Rattle.ags_certread.specs.Gathering.{Gathering, is_stated_in, row_count, stated, IsPlaced}
 use Rattle.ags_certread.proofs.CheckLemmas.{neither}
 
@@ -49,11 +50,6 @@ both true b is = (refl, is)
 both false b is = let clash : false ≡ true = is in absurd cc
 
 -- ---- the last kind
-
--- how many kinds have come, with the last
-abbrev pub kinds_come : Option Kind → ℕ
-kinds_come None = 0
-kinds_come (Some last) = kinds_before last + 1
 
 -- the last kind is no later than that of a statement that stands in order
 pub no_higher : (last : Option Kind) (its : Kind) → follows last its ≡ true → kinds_come last ≤ kinds_before its + 1

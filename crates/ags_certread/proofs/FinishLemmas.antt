@@ -27,8 +27,7 @@ use Rattle.ags_certread.proofs.CheckLemmas.{within_is}
 use Rattle.ags_certread.proofs.TableLemmas.{apart, any_reversed, chosen_reversed, value_reversed}
 use Rattle.ags_certread.proofs.RowLemmas.{rows_are, rows_of_reversed, with_open}
 use Rattle.ags_certread.specs.Before.{Gathered, IsTable, closed_rows, open_line}
-use Rattle.ags_certread.proofs.FaultLemmas.{kinds_come}
-use Rattle.ags_certread.proofs.SoundLemmas.{IsSound, open_at}
+use Rattle.ags_certread.specs.Sound.{IsSound, open_at}
 
 -- ---- cells that ascend
 
@@ -131,9 +130,9 @@ pub finished : (g : Gathering) → IsSound g → g.last ≡ Some kind.End → Is
 finished g sound end = record {
   sized = sound.sized;
   start = sound.start;
-  some_row = sound.early.some_row (ap kinds_come end);
+  some_row = sound.early.some_row end;
   few_rows = (let most = sound.few.most in omega (arith, most));
-  few_at_one = few_each g sound (sound.early.ended (ap kinds_come end));
+  few_at_one = few_each g sound (sound.early.ended end);
   firsts = sound.inside.firsts;
   in_rows = sound.inside.in_rows;
 }
@@ -173,6 +172,6 @@ what_is_stated before g cert gathered sound end is = record {
     every = is.limits.every;
   };
   init = λ address below. ap (λ (l : List (Option Value)). get_or l address None) is.init ∙ turned Init before g.init gathered.tables.init address;
-  rows = subst (λ (l : List RowOfLines). AreRowsOf l cert.rows) (all_rows before (sym gathered.rows.line ∙ sound.early.ended (ap kinds_come end)))
+  rows = subst (λ (l : List RowOfLines). AreRowsOf l cert.rows) (all_rows before (sym gathered.rows.line ∙ sound.early.ended end))
       (subst (λ (rows : List (Row_of Value)). AreRowsOf (reverse (closed_rows before)) rows) (sym is.rows) gathered.rows.closed);
 }

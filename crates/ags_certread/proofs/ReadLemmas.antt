@@ -4,7 +4,7 @@ use Rattle.std.specs.List.{filter_map}
 use Rattle.std.proofs.lemmas.List.{append-nil}
 use Rattle.std.proofs.lemmas.List.Elements.{filter_map-append}
 use Rattle.ags_text.specs.Fault.{first_fault, first_fault-nil, first_fault-faulty, first_fault-faultless}
-use Rattle.ags_text.specs.Line.{LineAt, Follow, lines_of}
+use Rattle.ags_text.specs.Line.{LineAt, lines_of}
 use Rattle.ags_text.specs.Reading.{AreReadingsBy}
 use Rattle.ags_ports.specs.Port.{Registers}
 use Rattle.ags_certtype.specs.Cert.{Stated as Cert_stated}
@@ -23,9 +23,10 @@ use Rattle.ags_certread.specs.LineTaken.{HaveReadings, TakesLine, TakesReading, 
 use Rattle.ags_certread.proofs.TableLemmas.{chosen_reversed, reverse-more}
 use Rattle.ags_certread.proofs.FaultLemmas.{last_end}
 use Rattle.ags_certread.proofs.GatherLemmas.{Gathered-none}
-use Rattle.ags_certread.proofs.SoundLemmas.{IsSound, IsSound-none}
+use Rattle.ags_certread.proofs.SoundLemmas.{IsSound-none}
 use Rattle.ags_certread.proofs.FinishLemmas.{what_is_stated}
-use Rattle.ags_certread.proofs.TakeLemmas.{Stands, taken}
+use Rattle.ags_certread.specs.Before.{Stands}
+use Rattle.ags_certread.specs.Sound.{IsSound}
 
 -- ---- readings of lines
 
@@ -50,7 +51,7 @@ left_readings (line ∷ lines) others (reading ∷ readings) are = left_readings
 -- ---- so many lines are read
 
 -- Of a text's lines so many are read without a fault, with these readings, nearest first; what is kept stands for their statements; and
--- these lines are left. There are no more of them than bytes and one.
+-- these lines are left.
 pub record SoFar (ports : Registers) (text : List ℕ) (left : List LineAt) (g : Gathering) (number : ℕ) : Type 0 where
   pub first : LineAt
   pub more : List LineAt
@@ -60,15 +61,11 @@ pub record SoFar (ports : Registers) (text : List ℕ) (left : List LineAt) (g :
   pub faultless : (rest : List Reading) → first_fault (reading_fault ports) [] (reverse before ++ rest) ≡ first_fault (reading_fault ports) before rest
   pub stands : Stands (filter_map statement_of before) g
   pub so_many : number ≡ length before
-  pub from : ℕ
-  pub few : length before ≤ from
-  pub short : from ≤ length text + 1
-  pub follow : Follow text from left
 
 -- the first line opens the certificate
 pub SoFar-first : (ports : Registers) (text : List ℕ) (first : LineAt) (left : List LineAt) (reading : Reading) (g : Gathering) → lines_of text ≡ first ∷ left
-    → Follow text 0 (first ∷ left) → IsFirstReading first.bytes reading → opening_fault reading ≡ None → g ≡ nothing_stated → SoFar ports text left g 1
-SoFar-first ports text first left Opening g whole follow is none same = record {
+    → IsFirstReading first.bytes reading → opening_fault reading ≡ None → g ≡ nothing_stated → SoFar ports text left g 1
+SoFar-first ports text first left Opening g whole is none same = record {
   first = first;
   more = [];
   whole = whole;
@@ -77,16 +74,12 @@ SoFar-first ports text first left Opening g whole follow is none same = record {
   faultless = λ rest. first_fault-faultless (reading_fault ports) [] Opening rest refl;
   stands = subst (λ (h : Gathering). Stands [] h) (sym same) (record { gathered = Gathered-none; sound = IsSound-none });
   so_many = refl;
-  from = first.start + length first.bytes + 1;
-  few = omega arith;
-  short = omega (arith, follow.1.within);
-  follow = follow.2;
 }
-SoFar-first ports text first left OtherOpening g whole follow is none same = absurd cc
-SoFar-first ports text first left Malformed g whole follow is none same = absurd cc
-SoFar-first ports text first left (Stated statement) g whole follow is none same = absurd is
-SoFar-first ports text first left Skipped g whole follow is none same = absurd is
-SoFar-first ports text first left Ended g whole follow is none same = absurd is
+SoFar-first ports text first left OtherOpening g whole is none same = absurd cc
+SoFar-first ports text first left Malformed g whole is none same = absurd cc
+SoFar-first ports text first left (Stated statement) g whole is none same = absurd is
+SoFar-first ports text first left Skipped g whole is none same = absurd is
+SoFar-first ports text first left Ended g whole is none same = absurd is
 
 module _ (ports : Registers) (text : List ℕ) (line : LineAt) (left : List LineAt) (g : Gathering) (number : ℕ) (so : SoFar ports text (line ∷ left) g number) where
   pub one_more : (reading : Reading) (h : Gathering) → IsReading line.bytes reading → reading_fault ports so.before reading ≡ None
@@ -103,16 +96,11 @@ module _ (ports : Registers) (text : List ℕ) (line : LineAt) (left : List Line
         ∙ so.faultless (reading ∷ rest) ∙ first_fault-faultless (reading_fault ports) so.before reading rest none;
     stands = stands;
     so_many = omega (arith, so.so_many);
-    from = line.start + length line.bytes + 1;
-    few = omega (arith, so.few, so.follow.0);
-    short = omega (arith, so.follow.1.within);
-    follow = so.follow.2;
   }
 
   by_reading : (reading : Reading) (h : Gathering) → IsReading line.bytes reading → TakesReading ports g reading h → SoFar ports text left h (number + 1)
   by_reading (Stated statement) h is takes =
-      let none = takes.1 (filter_map statement_of so.before) so.stands.gathered in
-      one_more (Stated statement) h is none (taken (filter_map statement_of so.before) g so.stands ports statement h takes.0 none takes.2)
+      let taken = takes (filter_map statement_of so.before) so.stands in one_more (Stated statement) h is taken.0 taken.1
   by_reading Skipped h is takes = one_more Skipped h is refl (subst (λ (k : Gathering). Stands (filter_map statement_of so.before) k) (sym takes) so.stands)
   by_reading Opening h is takes = absurd takes
   by_reading OtherOpening h is takes = absurd takes
@@ -164,7 +152,7 @@ module _ (ports : Registers) (text : List ℕ) (line : LineAt) (left : List Line
 
   pub SoFar-fault : (error : CertError) → TellsFault ports (number + 1) g line.bytes error → HaveReadings (behind_first (lines_of text)) → IsRefused ports text error
   SoFar-fault (AtLine place kind) tells have =
-      let fault = same_further tells.1.0 kind (tells.1.2 (filter_map statement_of so.before) so.stands.gathered) in
+      let fault = same_further tells.1.0 kind (tells.1.2 (filter_map statement_of so.before) so.stands) in
       subst (λ (n : ℕ). IsFaultyCert ports text n kind) (sym tells.0) (SoFar-faulty tells.1.0 kind tells.1.1 fault have)
   SoFar-fault NoMemory tells have = tt
 

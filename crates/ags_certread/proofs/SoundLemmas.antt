@@ -20,48 +20,11 @@ use Rattle.ags_certtext.specs.declared.kinds.Kind.{Kind}
 use Rattle.ags_certtext.specs.declared.kinds.Kind.TheVariants as kind
 use Rattle.ags_certtext.specs.Statement.{IsStatement}
 use Rattle.ags_certtext.specs.Fault.{is_outside}
+use Rattle.ags_certread.specs.Sound.{AreFew, AreInside, IsEarly, IsSound, RowInside, kinds_come, open_at}
 use Rattle.ags_certread.specs.Gathering.{Gathering, Closes, IsClosed, IsOpenRow, IsPlaced, IsSized, has_cell, nothing_stated, row_count, stated, with_entry, with_statement}
 use Rattle.ags_certread.proofs.TableLemmas.{each_same, set_read, same_of}
 use Rattle.ags_certread.proofs.CellLemmas.{count_more, value_more, ascend_more}
-use Rattle.ags_certread.proofs.FaultLemmas.{EndsRow, IsClear, IsFine, none_last, below_fixed, kinds_come, last_row, no_higher, room}
-
--- how many open rows stand at a location
-abbrev pub open_at : Option RowLine → ℕ → ℕ
-open_at None location = 0
-open_at (Some line) location = if line.location == location then 1 else 0
-
--- the rows are counted, and few
-pub record AreFew (rows : List (Row_of Value)) (line : Option RowLine) (counts : List ℕ) : Type 0 where
-  pub most : length rows + (if is_some line then 1 else 0) ≤ 20000
-  pub each : (location : ℕ) → rows_at rows location + open_at line location ≡ get_or counts location 0
-  pub few : (location : ℕ) → get_or counts location 0 ≤ 512
-
--- what the cells of a row may hold is within their limits
-abbrev pub RowInside : List (Option Value) → Row_of Value → Type 0
-RowInside cells row = (address : ℕ) → is_outside (value_among row.at address) (stated cells address) ≡ false
-
--- what is stated of a cell, at the start or in a row, is within its limit
-pub record AreInside (cells init : List (Option Value)) (rows : List (Row_of Value)) (row_cells : List (Cell_at Value)) : Type 0 where
-  pub firsts : (address : ℕ) → is_outside (stated init address) (stated cells address) ≡ false
-  pub in_rows : All (RowInside cells) rows
-  pub in_cells : (address : ℕ) → is_outside (value_among row_cells address) (stated cells address) ≡ false
-
--- nothing of a later kind was stated, and at the end a row was
-pub record IsEarly (last : ℕ) (init : List (Option Value)) (rows : List (Row_of Value)) (line : Option RowLine) (row_cells : List (Cell_at Value)) : Type 0 where
-  pub no_init : last ≤ 2 → (address : ℕ) → stated init address ≡ None
-  pub no_rows : last ≤ 6 → rows ≡ []
-  pub no_line : last ≤ 6 → line ≡ None
-  pub no_cells : line ≡ None → row_cells ≡ []
-  pub ended : last ≡ 8 → line ≡ None
-  pub some_row : last ≡ 8 → 1 ≤ length rows
-
-pub record IsSound (g : Gathering) : Type 0 where
-  pub sized : IsSized g
-  pub start : g.start < 4096
-  pub closable : IsOpenRow g.line g.row_cells
-  pub few : AreFew g.rows g.line g.counts
-  pub inside : AreInside g.cells g.init g.rows g.row_cells
-  pub early : IsEarly (kinds_come g.last) g.init g.rows g.line g.row_cells
+use Rattle.ags_certread.proofs.FaultLemmas.{EndsRow, IsClear, IsFine, none_last, below_fixed, last_row, no_higher, room}
 
 no_row_open : IsOpenRow None []
 no_row_open = record { line = tt; a = tt; q = tt; few = omega arith; ascending = refl }
@@ -94,7 +57,7 @@ IsSound-none = record {
     no_line = λ low. refl;
     no_cells = λ none. refl;
     ended = λ end. refl;
-    some_row = λ end. absurd (omega (arith, end));
+    some_row = λ end. let clash : ◌≡◌ {A = Option Kind} None (Some kind.End) = end in absurd cc;
   };
 }
 
@@ -215,28 +178,34 @@ sized_more m _ s = record { cells = s.cells; init = s.init; inputs = s.inputs; o
 
 -- the last kind was no higher than the kind of a statement that stands in order, and wasn't the end
 module _ (m : Gathering) (sound : IsSound m) (shut : m.line ≡ None) where
+  no_init_yet : kinds_come m.last ≤ 2 → (address : ℕ) → stated m.init address ≡ None
+  no_init_yet low = sound.early.no_init low
+
+  no_rows_yet : kinds_come m.last ≤ 6 → m.rows ≡ []
+  no_rows_yet low = sound.early.no_rows low
+
   -- a kind up to the named places: no row was stated
-  early_kind : (kind : ℕ) (init : List (Option Value)) → kinds_come m.last ≤ kind → kind ≤ 6 → (kind ≤ 2 → (address : ℕ) → stated init address ≡ None)
-      → IsEarly kind init m.rows m.line m.row_cells
-  early_kind kind init order low none = record {
-    no_init = none;
-    no_rows = λ least. sound.early.no_rows (omega (arith, order, low));
+  early_kind : (its : Option Kind) (number : ℕ) (init : List (Option Value)) → kinds_come its ≡ number → kinds_come m.last ≤ number → number ≤ 6
+      → (number ≤ 2 → (address : ℕ) → stated init address ≡ None) → IsEarly its init m.rows m.line m.row_cells
+  early_kind its number init own order low none = record {
+    no_init = λ least. none (let few : kinds_come its ≤ 2 = least in omega (arith, few, own));
+    no_rows = λ least. no_rows_yet (omega (arith, order, low));
     no_line = λ least. shut;
     no_cells = sound.early.no_cells;
-    ended = λ end. absurd (omega (arith, end, low));
-    some_row = λ end. absurd (omega (arith, end, low));
+    ended = λ end. shut;
+    some_row = λ end. absurd (let last : kinds_come its ≡ 8 = ap kinds_come end in omega (arith, last, own, low));
   }
 
   no_cells : m.row_cells ≡ []
   no_cells = sound.early.no_cells shut
 
   -- a row, or the end
-  late_kind : (kind : ℕ) (line : Option RowLine) → 7 ≤ kind → (kind ≡ 8 → line ≡ None) → (kind ≡ 8 → 1 ≤ length m.rows)
-      → IsEarly kind m.init m.rows line m.row_cells
-  late_kind kind line late ended some_row = record {
-    no_init = λ low. absurd (omega (arith, low, late));
-    no_rows = λ low. absurd (omega (arith, low, late));
-    no_line = λ low. absurd (omega (arith, low, late));
+  late_kind : (its : Option Kind) (number : ℕ) (line : Option RowLine) → kinds_come its ≡ number → 7 ≤ number → (its ≡ Some kind.End → line ≡ None)
+      → (its ≡ Some kind.End → 1 ≤ length m.rows) → IsEarly its m.init m.rows line m.row_cells
+  late_kind its number line own late ended some_row = record {
+    no_init = λ low. absurd (let few : kinds_come its ≤ 2 = low in omega (arith, few, own, late));
+    no_rows = λ low. absurd (let few : kinds_come its ≤ 6 = low in omega (arith, few, own, late));
+    no_line = λ low. absurd (let few : kinds_come its ≤ 6 = low in omega (arith, few, own, late));
     no_cells = λ none. no_cells;
     ended = ended;
     some_row = some_row;
@@ -244,8 +213,8 @@ module _ (m : Gathering) (sound : IsSound m) (shut : m.line ≡ None) where
 
   inside_cell : (entry : Entry) → kinds_come m.last ≤ 2 → AreInside (set m.cells entry.address entry.value) m.init m.rows m.row_cells
   inside_cell entry low = record {
-    firsts = λ address. rw (sound.early.no_init low address) refl;
-    in_rows = rw (sound.early.no_rows (omega (arith, low))) (All-nil (RowInside (set m.cells entry.address entry.value)));
+    firsts = λ address. rw (no_init_yet low address) refl;
+    in_rows = rw (no_rows_yet (omega (arith, low))) (All-nil (RowInside (set m.cells entry.address entry.value)));
     in_cells = λ address. rw no_cells refl;
   }
 
@@ -320,20 +289,27 @@ module _ (m : Gathering) (sound : IsSound m) (shut : m.line ≡ None) where
   behind_start least init late low = absurd (omega (arith, late, low))
 
   early_more : (statement : Statement) → IsFine m statement → EndsRow statement
-      → IsEarly (kinds_come (with_statement m statement).last) (with_statement m statement).init (with_statement m statement).rows (with_statement m statement).line (with_statement m statement).row_cells
+      → IsEarly (with_statement m statement).last (with_statement m statement).init (with_statement m statement).rows (with_statement m statement).line (with_statement m statement).row_cells
   early_more (Start location) fine ends =
       let none : kinds_come m.last ≡ 0 = ap kinds_come (none_last m.last fine.order) in
-      early_kind 1 m.init (omega (arith, none)) (omega arith) (λ low. sound.early.no_init (omega (arith, none)))
+      early_kind (Some kind.Start) 1 m.init refl (omega (arith, none)) (omega arith) (λ low. no_init_yet (omega (arith, none)))
   early_more (EntryOf Cell entry) fine ends =
-      let low : kinds_come m.last ≤ 2 = no_higher m.last kind.Cell fine.order in early_kind 2 m.init low (omega arith) (λ least. sound.early.no_init low)
+      let low : kinds_come m.last ≤ 2 = no_higher m.last kind.Cell fine.order in early_kind (Some kind.Cell) 2 m.init refl low (omega arith) (λ least. no_init_yet low)
   early_more (EntryOf Init entry) fine ends =
-      early_kind 3 (set m.init entry.address entry.value) (no_higher m.last kind.Init fine.order) (omega arith) (behind_start 3 (set m.init entry.address entry.value) (omega arith))
-  early_more (EntryOf In entry) fine ends = early_kind 4 m.init (no_higher m.last kind.In fine.order) (omega arith) (behind_start 4 m.init (omega arith))
-  early_more (EntryOf Out entry) fine ends = early_kind 5 m.init (no_higher m.last kind.Out fine.order) (omega arith) (behind_start 5 m.init (omega arith))
+      let init = set m.init entry.address entry.value in
+      early_kind (Some kind.Init) 3 init refl (no_higher m.last kind.Init fine.order) (omega arith) (behind_start 3 init (omega arith))
+  early_more (EntryOf In entry) fine ends =
+      early_kind (Some kind.In) 4 m.init refl (no_higher m.last kind.In fine.order) (omega arith) (behind_start 4 m.init (omega arith))
+  early_more (EntryOf Out entry) fine ends =
+      early_kind (Some kind.Out) 5 m.init refl (no_higher m.last kind.Out fine.order) (omega arith) (behind_start 5 m.init (omega arith))
   early_more (EntryOf At entry) fine ends = absurd ends
-  early_more (May location) fine ends = early_kind 6 m.init (no_higher m.last kind.May fine.order) (omega arith) (behind_start 6 m.init (omega arith))
-  early_more (Row row) fine ends = late_kind 7 (Some row) (omega arith) (λ end. absurd (omega (arith, end))) (λ end. absurd (omega (arith, end)))
-  early_more End fine ends = late_kind 8 m.line (omega arith) (λ end. shut) (λ end.
+  early_more (May location) fine ends =
+      early_kind (Some kind.May) 6 m.init refl (no_higher m.last kind.May fine.order) (omega arith) (behind_start 6 m.init (omega arith))
+  early_more (Row row) fine ends = late_kind (Some kind.Row) 7 (Some row) refl (omega arith) (λ end. absurd (no_end end)) (λ end. absurd (no_end end))
+    where
+      no_end : ◌≡◌ {A = Option Kind} (Some kind.Row) (Some kind.End) → ⊥
+      no_end end = let clash : ◌≡◌ {A = ℕ} 7 8 = ap kinds_come end in omega (arith, clash)
+  early_more End fine ends = late_kind (Some kind.End) 8 m.line refl (omega arith) (λ end. shut) (λ end.
       let count : 1 ≤ length m.rows + 0 = rw shut at fine.part in
       omega (arith, count))
 

@@ -3,8 +3,7 @@ use Rattle.std.proofs.Common.{◌≡◌, ℕ, zero, suc, ◌+◌, ◌-◌, ◌^�
 use Rattle.std.specs.Prelude.{Result, Ok, Err, IfOk, IfErr}
 use Rattle.std.specs.Str.Lines.{strip_carriage_return}
 use Rattle.std.proofs.lemmas.List.{append-nil}
-use Rattle.ags_text.specs.Line.{LineAt, Follow, HasNoFeed, lines_of}
-use Rattle.ags_text.proofs.FollowLemmas.{lines_follow}
+use Rattle.ags_text.specs.Line.{LineAt, HasNoFeed, lines_of}
 use Rattle.ags_ports.specs.Port.{Registers}
 use Rattle.ags_certtype.specs.Cert.{Stated as Cert_stated}
 use Rattle.ags_certtext.specs.declared.cert_error.CertKind.{CertKind}
@@ -22,7 +21,8 @@ use Rattle.ags_certread.specs.LineTaken.{TakesLine, TakesReading, TellsFault, be
 use Rattle.ags_text.specs.Piece.{HasEnded, line_of}
 use Rattle.ags_certread.specs.NextState.{IsNext, IsWhole}
 use Rattle.ags_certread.specs.Pieces.{Standing, TookCert}
-use Rattle.ags_certread.specs.Before.{Gathered}
+use Rattle.ags_certread.specs.Before.{Stands}
+use Rattle.ags_certread.specs.Sound.{IsSound}
 use Rattle.ags_certread.specs.Gathered.{Gathers, IsOpening, AreTaken, IsOfLines}
 use Rattle.ags_certread.specs.declared.gatherer.Gatherer.{Gatherer}
 use Rattle.ags_certread.specs.declared.states.State.{State}
@@ -31,14 +31,13 @@ use Rattle.ags_certread.proofs.ExistenceLemmas.{have_readings}
 use Rattle.ags_certread.proofs.GatherLemmas.{Gathered-none}
 use Rattle.ags_text.proofs.PieceLemmas.{ended_none, ended_more, ended_feed, ended_all, ended_long}
 use Rattle.ags_certread.proofs.ReadLemmas.{SoFar, SoFar-first, SoFar-more, SoFar-fault, SoFar-missing, SoFar-all, opening_refused, empty_refused}
-use Rattle.ags_certread.proofs.SoundLemmas.{IsSound, IsSound-none}
-use Rattle.ags_certread.proofs.TakeLemmas.{Stands, taken}
+use Rattle.ags_certread.proofs.SoundLemmas.{IsSound-none}
 
 -- ---- what was gathered of lines is sound
 
 stands_line : (ports : Registers) (before : List Statement) (g h : Gathering) → Stands before g → (reading : Reading) → TakesReading ports g reading h
     → (after : List Statement) × Stands after h
-stands_line ports before g h stands (Stated statement) takes = (statement ∷ before, taken before g stands ports statement h takes.0 (takes.1 before stands.gathered) takes.2)
+stands_line ports before g h stands (Stated statement) takes = (statement ∷ before, (takes before stands).1)
 stands_line ports before g h stands Skipped same = (before, subst (λ (k : Gathering). Stands before k) (sym same) stands)
 stands_line ports before g h stands Opening takes = absurd takes
 stands_line ports before g h stands OtherOpening takes = absurd takes
@@ -52,13 +51,11 @@ stands_lines ports before g (line ∷ lines) h stands gathers =
     let next = stands_line ports before g gathers.0 stands gathers.1.0 gathers.1.2 in
     stands_lines ports next.0 gathers.0 lines h next.1 gathers.2
 
-pub stood_gathered : (ports : Registers) (g : Gathering) → IsOfLines ports g → (before : List Statement) × Gathered before g
-stood_gathered ports g (lines, gathers) =
-    let stands = stands_lines ports [] nothing_stated lines g (record { gathered = Gathered-none; sound = IsSound-none }) gathers in (stands.0, stands.1.gathered)
+pub stood : (ports : Registers) (g : Gathering) → IsOfLines ports g → (before : List Statement) × Stands before g
+stood ports g (lines, gathers) = stands_lines ports [] nothing_stated lines g (record { gathered = Gathered-none; sound = IsSound-none }) gathers
 
 pub stood_sound : (ports : Registers) (g : Gathering) → IsOfLines ports g → IsSound g
-stood_sound ports g (lines, gathers) =
-    (stands_lines ports [] nothing_stated lines g (record { gathered = Gathered-none; sound = IsSound-none }) gathers).1.sound
+stood_sound ports g is = (stood ports g is).1.sound
 
 pub gathers_push : (ports : Registers) (g : Gathering) (lines : List LineAt) (m h : Gathering) (line : LineAt) → Gathers ports g lines m → TakesLine ports m line.bytes h
     → Gathers ports g (lines ++ line ∷ []) h
@@ -84,7 +81,7 @@ gathered_so_far ports text g (line ∷ lines) left h number so (mid, takes, rest
 
 opened : (ports : Registers) (text : List ℕ) (first : LineAt) (left : List LineAt) → lines_of text ≡ first ∷ left → IsOpening first → SoFar ports text left nothing_stated 1
 opened ports text first left whole (reading, is, none) =
-    SoFar-first ports text first left reading nothing_stated whole (subst (λ (ls : List LineAt). Follow text 0 ls) whole (lines_follow text)) is none refl
+    SoFar-first ports text first left reading nothing_stated whole is none refl
 
 taken_so_far : (ports : Registers) (text : List ℕ) (ended left : List LineAt) (g : Gathering) → lines_of text ≡ ended ++ left → AreTaken ports ended g → 0 < length ended
     → SoFar ports text left g (length ended)

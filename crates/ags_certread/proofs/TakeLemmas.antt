@@ -8,16 +8,11 @@ use Rattle.ags_certtext.specs.declared.statements.Statement.TheVariants.{Entry a
 use Rattle.ags_certtext.specs.declared.statements.Table.TheVariants.{At}
 use Rattle.ags_certtext.specs.Fault.{fault_after}
 use Rattle.ags_certtext.specs.Statement.{IsStatement}
-use Rattle.ags_certread.specs.Before.{Gathered}
+use Rattle.ags_certread.specs.Before.{Gathered, Stands}
 use Rattle.ags_certread.specs.Gathering.{Gathering, Closes, ClosesBefore, IsPlaced, IsSized, Takes, with_statement}
 use Rattle.ags_certread.proofs.FaultLemmas.{EndsRow, IsFine, fine, last_row, placed}
 use Rattle.ags_certread.proofs.GatherLemmas.{Gathered-more, Gathered-at, shut}
-use Rattle.ags_certread.proofs.SoundLemmas.{IsSound, counts_shut, fine_shut, line_gone, sized_beside, sound_at, sound_more, sound_shut}
-
--- what is kept stands for the statements, and is sound
-pub record Stands (before : List Statement) (g : Gathering) : Type 0 where
-  pub gathered : Gathered before g
-  pub sound : IsSound g
+use Rattle.ags_certread.proofs.SoundLemmas.{counts_shut, fine_shut, line_gone, sized_beside, sound_at, sound_more, sound_shut}
 
 module _ (before : List Statement) (g : Gathering) (stands : Stands before g) where
   other_taken : (statement : Statement) (m : Gathering) → IsStatement statement → IsFine g statement → Closes g.line g m

@@ -16,6 +16,7 @@ use Rattle.ags_certtext.specs.Kind.{last_kind}
 use Rattle.ags_certtext.specs.Statement.{may_place, row_line, entries, has_address, row_entries, value_at}
 use Rattle.ags_certtext.specs.Text.{RowOfLines, AreRowsOf, start_of}
 use Rattle.ags_certread.specs.Gathering.{Gathering, has_cell, row_count, stated}
+use Rattle.ags_certread.specs.Sound.{IsSound}
 
 -- ---- tables
 
@@ -93,3 +94,8 @@ pub record Gathered (before : List Statement) (g : Gathering) : Type 0 where
   pub rows : AreGatheredRows before g.rows g.line g.row_cells
   pub count : row_count g ≡ length (filter_map row_line before)
   pub some_line : g.last ≡ Some kind.Row → g.line ≡ None → ⊥
+
+-- so it does, and is sound
+pub record Stands (before : List Statement) (g : Gathering) : Type 0 where
+  pub gathered : Gathered before g
+  pub sound : IsSound g

@@ -9,10 +9,9 @@ use Rattle.ags_certtext.specs.declared.cert_error.CertError.{CertError}
 use Rattle.ags_certtext.specs.declared.cert_error.CertError.TheVariants.{At as AtLine, NoMemory}
 use Rattle.ags_certtext.specs.Reading.{Reading, Opening, OtherOpening, Stated, Skipped, Malformed, Ended, IsReading}
 use Rattle.ags_certtext.specs.declared.statements.Statement.{Statement}
-use Rattle.ags_certtext.specs.Statement.{IsStatement}
 use Rattle.ags_certtext.specs.Fault.{fault_after}
-use Rattle.ags_certread.specs.Before.{Gathered}
-use Rattle.ags_certread.specs.Gathering.{Gathering, Takes}
+use Rattle.ags_certread.specs.Before.{Stands}
+use Rattle.ags_certread.specs.Gathering.{Gathering}
 
 -- the fault of a first line by its reading
 abbrev pub opening_fault : Reading → Option CertKind
@@ -23,13 +22,15 @@ opening_fault (Stated statement) = None
 opening_fault Skipped = None
 opening_fault Ended = None
 
--- the statement has no fault, whatever the statements are that what is kept stands for
-abbrev pub IsFaultless : Registers → Gathering → Statement → Type 0
-IsFaultless ports g statement = (before : List Statement) → Gathered before g → fault_after ports before statement ≡ None
+-- The statement is taken, whatever the statements are that what is kept stands for: it has no fault behind them, and what is kept
+-- then stands for it too.
+abbrev pub TakesStatement : Registers → (old : Gathering) → Statement → (new : Gathering) → Type 0
+TakesStatement ports old statement new =
+    (before : List Statement) → Stands before old → (fault_after ports before statement ≡ None) × Stands (statement ∷ before) new
 
--- the reading of a further line is taken: its statement, if it makes one, has no fault and is added
+-- the reading of a further line is taken: its statement, if it makes one, is taken
 abbrev pub TakesReading : Registers → (old : Gathering) → Reading → (new : Gathering) → Type 0
-TakesReading ports old (Stated statement) new = IsStatement statement × IsFaultless ports old statement × Takes old statement new
+TakesReading ports old (Stated statement) new = TakesStatement ports old statement new
 TakesReading ports old Skipped new = new ≡ old
 TakesReading ports old Opening new = ⊥
 TakesReading ports old OtherOpening new = ⊥
@@ -51,7 +52,7 @@ further_fault ports before Ended = None
 
 -- the reading has this fault, whatever the statements are that what is kept stands for
 abbrev pub HasReadingFault : Registers → Gathering → Reading → CertKind → Type 0
-HasReadingFault ports g reading kind = (before : List Statement) → Gathered before g → further_fault ports before reading ≡ Some kind
+HasReadingFault ports g reading kind = (before : List Statement) → Stands before g → further_fault ports before reading ≡ Some kind
 
 -- the error tells the fault of a further line, by its reading, where it isn't want of memory
 abbrev pub TellsFault : Registers → (number : ℕ) → Gathering → List ℕ → CertError → Type 0

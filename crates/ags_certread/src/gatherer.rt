@@ -1,12 +1,12 @@
 //! What is gathered of the statements of a certificate, one after the other.
 
-ghost use Rattle.std.specs.Prelude.{◌≡◌, ◌<◌, false, List, Ok, None, IfOk, length, get_or, set, replicate};
+ghost use Rattle.std.specs.Prelude.{◌≡◌, ◌<◌, false, ◌∷◌, List, Ok, None, IfOk, length, get_or, set, replicate};
 ghost use Rattle.ags_certtext.specs.declared.statements.Statement.TheVariants.{Entry as EntryOf, Row as RowOf};
 ghost use Rattle.ags_certtext.specs.declared.statements.Statement.{Statement};
 ghost use Rattle.ags_certtext.specs.Fault.{fault_after};
 ghost use Rattle.ags_certtext.specs.Statement.{IsStatement};
-ghost use Rattle.ags_certread.specs.Before.{Gathered};
-ghost use Rattle.ags_certread.specs.Gathering.{Closes, ClosesBefore, IsClosable, IsCounting, IsPlaced, IsSized, Takes, gathering_of, nothing_stated, with_entry_in, with_part, with_statement};
+ghost use Rattle.ags_certread.specs.Before.{Stands};
+ghost use Rattle.ags_certread.specs.Gathering.{Closes, ClosesBefore, IsClosable, IsCounting, IsPlaced, IsSized, gathering_of, nothing_stated, with_entry_in, with_part, with_statement};
 
 use crate::open_rows::{add_cell, row_of};
 use ags_certtext::{CertKind, Entry, Kind, RowLine, Statement, Table};
@@ -187,14 +187,12 @@ impl Gatherer {
         ports: &Ports,
         statement: &Statement,
     ) -> Result<Option<CertKind>, AllocError>
-        requires sized { IsSized (gathering_of self.old) }
-        requires counting { IsCounting (gathering_of self.old) }
-        requires closable { IsClosable (gathering_of self.old) }
-        requires gathered { (before : List Statement) × Gathered before (gathering_of self.old) }
+        requires stands { (before : List Statement) × Stands before (gathering_of self.old) }
         requires statement { IsStatement statement.now }
-        ensures fault { IfOk result (λ fault. (before : List Statement) → Gathered before (gathering_of self.old)
+        ensures fault { IfOk result (λ fault. (before : List Statement) → Stands before (gathering_of self.old)
             → fault ≡ fault_after ports.now before statement.now) }
-        ensures taken { result ≡ Ok None → Takes (gathering_of self.old) statement.now (gathering_of self.new) }
+        ensures taken { result ≡ Ok None → (before : List Statement) → Stands before (gathering_of self.old)
+            → Stands (statement.now ∷ before) (gathering_of self.new) }
     {
         match self.fault(ports, statement) {
             Some(kind) => Ok(Some(kind)),
