@@ -1,5 +1,5 @@
 -- Lines that were taken one after the other, and the reader that took them in pieces.
-use Rattle.std.proofs.Common.{◌≡◌, ℕ, zero, suc, ◌+◌, ◌-◌, ◌^◌, ◌<◌, ◌≤◌, min, eqb, true, false, ◌==◌, refl, sym, subst, ◌∙◌, List, [], ◌∷◌, ◌++◌, length, Some, None, append_assoc, length-append, arith}
+use Rattle.std.proofs.Common.{◌≡◌, ℕ, zero, suc, ◌+◌, ◌-◌, ◌^◌, ◌<◌, ◌≤◌, min, eqb, true, false, refl, sym, subst, ◌∙◌, List, [], ◌∷◌, ◌++◌, length, Some, None, append_assoc, length-append, arith}
 use Rattle.std.specs.Prelude.{Result, Ok, Err, IfOk, IfErr}
 use Rattle.std.specs.Str.Lines.{strip_carriage_return}
 use Rattle.std.proofs.lemmas.List.{append-nil}

@@ -1,4 +1,3 @@
-use Rattle.std.proofs.Common.{refl}
 use Rattle.ags_certread.specs.Gathering.{gathering_of}
 use Rattle.ags_certread.proofs.FinishLemmas.{cert_made}
 use Rattle.ags_certread.proofs.certificates.certificate_of.Goals as goal

@@ -1,4 +1,4 @@
-use Rattle.std.proofs.Common.{◌≡◌, ◌∙◌, ap, length, refl, ℕ, Option}
+use Rattle.std.proofs.Common.{◌≡◌, ◌∙◌, ap, length, refl, Option}
 use Rattle.ags_domain.specs.declared.values.Value.{Value}
 use Rattle.ags_certtext.specs.declared.statements.Table.TheVariants.{Cell}
 use Rattle.ags_certtext.specs.Fault.{is_full_with, leaves_limit}

@@ -1,4 +1,4 @@
-use Rattle.std.proofs.Common.{refl, sym, ◌∙◌}
+use Rattle.std.proofs.Common.{sym, ◌∙◌}
 use Rattle.ags_certread.specs.Gathering.{gathering_of}
 use Rattle.ags_certread.proofs.ReadLemmas.{sound_keeps}
 use Rattle.ags_certread.proofs.TakeLemmas.{placed_behind, sized_behind, taken}
