@@ -17,7 +17,6 @@ use Rattle.ags_certtext.specs.declared.statements.Entry.{Entry}
 use Rattle.ags_certtext.specs.declared.statements.RowLine.{RowLine}
 use Rattle.ags_certtext.specs.declared.statements.Statement.{Statement}
 use Rattle.ags_certtext.specs.declared.statements.Statement.TheVariants.{Start, Entry as EntryOf, May, Row, End}
-use Rattle.ags_certtext.specs.declared.statements.Table.{Table}
 use Rattle.ags_certtext.specs.declared.statements.Table.TheVariants.{Cell, Init, In, Out, At}
 use Rattle.ags_certtext.specs.Statement.{IsStatement}
 use Rattle.ags_certtext.specs.Spelling.{StatesPlace, StatesEntry, StatesRow, States, table_name, Opens, OpensAnother, flag_digits}

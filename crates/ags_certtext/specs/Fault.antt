@@ -16,7 +16,7 @@ use Rattle.ags_certtext.specs.declared.statements.Table.TheVariants.{Cell, Init,
 use Rattle.ags_certtext.specs.declared.kinds.Kind.TheVariants as kind
 use Rattle.ags_certtext.specs.declared.statements.Entry.{Entry}
 use Rattle.ags_certtext.specs.Kind.{last_kind, is_last, stands_in_order, is_second_start}
-use Rattle.ags_certtext.specs.Statement.{may_place, row_line, entries, has_address, value_at, row_entries, entries_before, is_within}
+use Rattle.ags_certtext.specs.Statement.{may_place, row_line, entries, has_address, value_at, entries_before, is_within}
 use Rattle.ags_certtext.specs.Reading.{Reading, Opening, OtherOpening, Stated, Skipped, Malformed, Ended, statement_of}
 
 -- a fault where a test holds, and else what is found later: so of several faults the first that is written is told
