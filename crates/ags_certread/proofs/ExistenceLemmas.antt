@@ -1,9 +1,9 @@
 -- Each text means something: it is a certificate for the registers, or it has a first fault.
-use Rattle.std.proofs.Common.{◌≡◌, ℕ, ◌+◌, ◌<◌, ◌^◌, ◌⊎◌, ◌==◌, Bool, true, false, List, [], ◌∷◌, ◌++◌, length, map, get_or, Option, Some, None, is_some, refl, sym, subst, ◌∙◌, inl, inr, arith}
+use Rattle.std.proofs.Common.{◌≡◌, ℕ, ◌+◌, ◌<◌, ◌^◌, ◌⊎◌, Bool, true, false, List, [], ◌∷◌, ◌++◌, length, map, get_or, Option, Some, None, is_some, refl, sym, subst, ◌∙◌, inl, inr, arith}
+use Rattle.std.specs.List.{filter_map}
 use Rattle.std.specs.Prelude.{unwrap_or}
 use Rattle.std.proofs.lemmas.List.{get_or-map, length-map}
 use Rattle.ags_text.specs.Line.{LineAt, lines_of}
-use Rattle.ags_text.proofs.FollowLemmas.{lines_follow}
 use Rattle.ags_domain.specs.Domain.{IsFull}
 use Rattle.ags_domain.specs.LowBits.{all_ones}
 use Rattle.ags_domain.specs.Value.{value_meaning}
@@ -18,21 +18,26 @@ use Rattle.ags_row.specs.declared.rows.Row.{Row as Row_of}
 use Rattle.ags_certtype.specs.Cert.{Stated as Cert_stated}
 use Rattle.ags_certtext.specs.declared.cert_error.CertKind.{CertKind}
 use Rattle.ags_certtext.specs.declared.cert_error.CertKind.TheVariants.{BadLine}
-use Rattle.ags_certtext.specs.declared.cert_error.CertError.TheVariants.{At as AtLine}
 use Rattle.ags_certtext.specs.declared.statements.RowLine.{RowLine}
 use Rattle.ags_certtext.specs.declared.statements.Statement.{Statement}
-use Rattle.ags_certtext.specs.declared.statements.Statement.TheVariants.{At}
-use Rattle.ags_certtext.specs.Reading.{Reading, Opening, OtherOpening, Stated, Skipped, Malformed, Ended, IsFirstReading, IsReading}
+use Rattle.ags_certtext.specs.declared.statements.Statement.TheVariants.{Entry as EntryOf}
+use Rattle.ags_certtext.specs.declared.statements.Table.TheVariants.{At}
+use Rattle.ags_certtext.specs.declared.kinds.Kind.TheVariants as kind
+use Rattle.ags_certtext.specs.Reading.{Reading, Opening, OtherOpening, Stated, Skipped, Malformed, Ended, IsFirstReading, IsReading, statement_of}
+use Rattle.ags_certtext.specs.Fault.{reading_fault}
+use Rattle.ags_certtext.specs.Kind.{is_last}
 use Rattle.ags_certtext.specs.Statement.{IsStatement}
 use Rattle.ags_certtext.specs.Text.{IsCertOf, IsFaultyCert, IsLimit}
 use Rattle.ags_certtext.proofs.ReadingLaws.{some_first_reading, some_reading}
 use Rattle.ags_certtext.proofs.StatementLemmas.{stated_is}
 use Rattle.ags_certread.specs.Gathering.{Gathering, Closes, ClosesBefore, Takes, IsOpenRow, IsFinished, AreLimitsOf, IsCertOfGathering, nothing_stated, stated, with_statement}
-use Rattle.ags_certread.specs.LineTaken.{HaveReadings, TakesReading, behind_first, further_fault, opening_fault}
+use Rattle.ags_certread.specs.LineTaken.{HaveReadings, behind_first, opening_fault}
 use Rattle.ags_certread.proofs.FinishLemmas.{cert_made, finished}
-use Rattle.ags_certread.proofs.ReadLemmas.{SoFar, SoFar-first, SoFar-more, SoFar-fault, SoFar-missing, SoFar-all, empty_refused, opening_refused}
-use Rattle.ags_certread.proofs.SoundLemmas.{IsSound}
-use Rattle.ags_certread.proofs.TableLemmas.{same_of}
+use Rattle.ags_certread.proofs.ReadLemmas.{SoFar, SoFar-first, SoFar-faulty, one_more, SoFar-missing, SoFar-all, empty_refused, opening_refused}
+use Rattle.ags_certread.specs.Sound.{IsSound}
+use Rattle.ags_certread.proofs.FaultLemmas.{last_end}
+use Rattle.ags_certread.proofs.TakeLemmas.{taken}
+use Rattle.ags_certread.specs.Before.{Stands}
 
 -- ---- the row before a statement
 
@@ -66,7 +71,7 @@ some_closed (Some line) g whole =
     )
 
 some_before : (statement : Statement) (g : Gathering) → IsSound g → (m : Gathering) × ClosesBefore statement g m
-some_before (At entry) g sound = (g, refl)
+some_before (EntryOf At entry) g sound = (g, refl)
 some_before _ g sound = some_closed g.line g sound.closable
 
 -- a statement can be taken
@@ -141,9 +146,9 @@ module _ (ports : Registers) (text : List ℕ) where
   abbrev pub Meaning : Type 0
   Meaning = ((cert : Cert_stated) × IsCertOf ports text cert) ⊎ ((line : ℕ) × (kind : CertKind) × IsFaultyCert ports text line kind)
 
-  at_end : (g : Gathering) (number : ℕ) (ended : Bool) → (g.last == 8) ≡ ended → SoFar ports text [] g number → Meaning
+  at_end : (g : Gathering) (number : ℕ) (ended : Bool) → is_last kind.End g.last ≡ ended → SoFar ports text [] g number → Meaning
   at_end g number true ended so =
-      let (cert, is) = some_cert g (finished g so.stands.sound (same_of g.last 8 ended)) in
+      let (cert, is) = some_cert g (finished g so.stands.sound (last_end g.last ended)) in
       inl (cert, SoFar-all ports text g number so cert ended is)
   at_end g number false missing so = inr (number + 1, BadLine, SoFar-missing ports text g number so missing)
 
@@ -151,29 +156,32 @@ module _ (ports : Registers) (text : List ℕ) where
   Onward : List LineAt → Type 0
   Onward left = (g : Gathering) (number : ℕ) → SoFar ports text left g number → Meaning
 
-  takes : (line : List ℕ) (g : Gathering) (reading : Reading) → IsSound g → IsReading line reading → further_fault ports g reading ≡ None → (h : Gathering) × TakesReading ports g reading h
-  takes line g (Stated statement) sound is none = let (h, taken) = some_taken statement g sound in (h, (lawful line statement is, none, taken))
-  takes line g Skipped sound is none = (g, refl)
-  takes line g Malformed sound is none = absurd cc
-  takes line g Opening sound is none = absurd is
-  takes line g OtherOpening sound is none = absurd is
-  takes line g Ended sound is none = absurd is
+  stands_on : (line : LineAt) (left : List LineAt) (g : Gathering) (number : ℕ) (so : SoFar ports text (line ∷ left) g number) (reading : Reading) → IsReading line.bytes reading
+      → reading_fault ports so.before reading ≡ None → (h : Gathering) × Stands (filter_map statement_of (reading ∷ so.before)) h
+  stands_on line left g number so (Stated statement) is none =
+      let (h, takes) = some_taken statement g so.stands.sound in
+      (h, taken (filter_map statement_of so.before) g so.stands ports statement h (lawful line.bytes statement is) none takes)
+  stands_on line left g number so Skipped is none = (g, so.stands)
+  stands_on line left g number so Malformed is none = absurd cc
+  stands_on line left g number so Opening is none = absurd is
+  stands_on line left g number so OtherOpening is none = absurd is
+  stands_on line left g number so Ended is none = absurd is
 
   by_fault : (line : LineAt) (left : List LineAt) (g : Gathering) (number : ℕ) (reading : Reading) (fault : Option CertKind) → Onward left → IsReading line.bytes reading
-      → further_fault ports g reading ≡ fault → SoFar ports text (line ∷ left) g number → Meaning
+      → (so : SoFar ports text (line ∷ left) g number) → reading_fault ports so.before reading ≡ fault → Meaning
   unfolding Onward
-  by_fault line left g number reading (Some kind) onward is found so =
-      inr (number + 1, kind, SoFar-fault ports text line left g number so (AtLine (number + 1) kind) (refl, (reading, is, found)) (have_readings (behind_first (lines_of text))))
-  by_fault line left g number reading None onward is none so =
-      let (h, taken) = takes line.bytes g reading so.stands.sound is none in
-      onward h (number + 1) (SoFar-more ports text line left g number so h (reading, is, taken))
+  by_fault line left g number reading (Some kind) onward is so found =
+      inr (number + 1, kind, SoFar-faulty ports text line left g number so reading kind is found (have_readings (behind_first (lines_of text))))
+  by_fault line left g number reading None onward is so none =
+      let (h, stands) = stands_on line left g number so reading is none in
+      onward h (number + 1) (one_more ports text line left g number so reading h is none stands)
 
   further : (left : List LineAt) → Onward left
   unfolding Onward
-  further [] g number so = at_end g number (g.last == 8) refl so
+  further [] g number so = at_end g number (is_last kind.End g.last) refl so
   further (line ∷ left) g number so =
       let (reading, is) = some_reading line.bytes in
-      by_fault line left g number reading (further_fault ports g reading) (further left) is refl so
+      by_fault line left g number reading (reading_fault ports so.before reading) (further left) is so refl
 
   by_opening : (first : LineAt) (left : List LineAt) (reading : Reading) (fault : Option CertKind) → lines_of text ≡ first ∷ left → IsFirstReading first.bytes reading
       → opening_fault reading ≡ fault → Meaning
@@ -181,7 +189,7 @@ module _ (ports : Registers) (text : List ℕ) where
   by_opening first left reading (Some kind) whole is found =
       inr (1, kind, opening_refused ports text first left reading kind whole is found (have_readings (behind_first (lines_of text))))
   by_opening first left reading None whole is none =
-      further left nothing_stated 1 (SoFar-first ports text first left reading nothing_stated whole (rw whole at (lines_follow text)) is none refl)
+      further left nothing_stated 1 (SoFar-first ports text first left reading nothing_stated whole is none refl)
 
   by_lines : (lines : List LineAt) → lines_of text ≡ lines → Meaning
   by_lines [] none = inr (1, BadLine, empty_refused ports text none)

@@ -1,82 +1,97 @@
--- What it says of a statement that it has no fault.
-use Rattle.std.proofs.Common.{◌≡◌, ℕ, ◌<◌, ◌≤◌, Bool, true, false, not, ◌&&◌, ◌==◌, refl, get_or, Option, Some, None, arith}
+-- What it says of what is kept that the next statement has no fault.
+use Rattle.std.proofs.Common.{◌≡◌, ℕ, ◌+◌, ◌<◌, ◌≤◌, Bool, true, false, not, ◌&&◌, ◌==◌, refl, ◌∙◌, List, length, get_or, Option, Some, None, arith}
 use Rattle.std.specs.Prelude.{nat_le, is_some}
 use Rattle.std.proofs.lemmas.Bool.Decides.{nat_tests}
 use Rattle.ags_domain.specs.declared.values.Value.{Value}
 use Rattle.ags_ports.specs.Port.{Registers}
 use Rattle.ags_certtext.specs.declared.cert_error.CertKind.{CertKind}
-use Rattle.ags_certtext.specs.declared.cert_error.CertKind.TheVariants.{BadLine, Twice, EmptyRange}
+use Rattle.ags_certtext.specs.declared.cert_error.CertKind.TheVariants.{BadLine, Twice, EmptyRange, OutsideGlobal, NoZero, TooManyAt}
+use Rattle.ags_certtext.specs.declared.kinds.Kind.{Kind}
+use Rattle.ags_certtext.specs.declared.kinds.Kind.TheVariants as kind
+use Rattle.ags_certtext.specs.declared.statements.Entry.{Entry}
 use Rattle.ags_certtext.specs.declared.statements.RowLine.{RowLine}
 use Rattle.ags_certtext.specs.declared.statements.Statement.{Statement}
-use Rattle.ags_certtext.specs.declared.statements.Statement.TheVariants.{Cell, Init, In, Out, May, Row, At}
-use Rattle.ags_certtext.specs.Statement.{IsStatement}
-use Rattle.ags_certtext.specs.Fault.{fault_if, is_empty, stands_in_order, is_second_start}
-use Rattle.ags_certread.specs.Gathering.{Gathering, entry_fault, gathered_fault, part_fault, row_count, IsPlaced}
+use Rattle.ags_certtext.specs.declared.statements.Statement.TheVariants.{Start, Entry as EntryOf, May, Row, End}
+use Rattle.ags_certtext.specs.declared.statements.Table.{Table}
+use Rattle.ags_certtext.specs.declared.statements.Table.TheVariants.{Cell, Init, In, Out, At}
+use Rattle.ags_certtext.specs.Fault.{entry_fault, fault_after, fault_if, is_empty, is_full_with, lacks_word, leaves_limit, may_stand, statement_fault}
+use Rattle.ags_certtext.specs.Kind.{follows, is_kind, is_last, is_second_start, kinds_before, last_kind, stands_in_order}
+use Rattle.ags_certtext.specs.Statement.{IsStatement, entries, entries_before, has_address, value_at}
+use Rattle.ags_certread.specs.Before.{Gathered}
+use Rattle.ags_certread.specs.Sound.{kinds_come}
+use Rattle.ags_certread.specs.Gathering.{Gathering, is_stated_in, row_count, stated, IsPlaced}
 use Rattle.ags_certread.proofs.CheckLemmas.{neither}
 
 pub clear : (found : Bool) (kind : CertKind) (later : Option CertKind) → fault_if found kind later ≡ None → (found ≡ false) × (later ≡ None)
 clear true kind later none = let clash : ◌≡◌ {A = Option CertKind} (Some kind) None = none in absurd cc
 clear false kind later none = (refl, none)
 
--- an entry has no fault
-pub record IsClear (misplaced twice : Bool) (value : Option Value) (further : Option CertKind) : Type 0 where
-  pub place : misplaced ≡ false
-  pub once : twice ≡ false
-  pub some : is_some value ≡ true
-  pub later : further ≡ None
-
 not_empty : (value : Option Value) → is_empty value ≡ false → is_some value ≡ true
 not_empty None is = let clash : true ≡ false = is in absurd cc
 not_empty (Some value) is = refl
-
-pub clear_entry : (misplaced twice : Bool) (value : Option Value) (later : Option CertKind) → entry_fault misplaced twice value later ≡ None
-    → IsClear misplaced twice value later
-clear_entry misplaced twice value later none =
-    let first = clear misplaced BadLine (fault_if twice Twice (fault_if (is_empty value) EmptyRange later)) none in
-    let second = clear twice Twice (fault_if (is_empty value) EmptyRange later) first.1 in
-    let third = clear (is_empty value) EmptyRange later second.1 in
-    record { place = first.0; once = second.0; some = not_empty value third.0; later = third.1 }
 
 not_false : (b : Bool) → not b ≡ false → b ≡ true
 not_false true is = refl
 not_false false is = let clash : true ≡ false = is in absurd cc
 
--- a statement has no fault: it stands in order, and has none by its kind
-pub record IsFine (ports : Registers) (g : Gathering) (statement : Statement) : Type 0 where
-  pub order : stands_in_order g.last statement ≡ true
-  pub part : part_fault ports g statement ≡ None
-
--- the statement doesn't belong to the row before it, which ends
-abbrev pub EndsRow : Statement → Type 0
-EndsRow (At entry) = ⊥
-EndsRow _ = Unit {0}
-
-pub fine : (ports : Registers) (g : Gathering) (statement : Statement) → gathered_fault ports g statement ≡ None → IsFine ports g statement
-fine ports g statement none =
-    let first = clear (is_second_start g.last statement) Twice (fault_if (not (stands_in_order g.last statement)) BadLine (part_fault ports g statement)) none in
-    let second = clear (not (stands_in_order g.last statement)) BadLine (part_fault ports g statement) first.1 in
-    record { order = not_false (stands_in_order g.last statement) second.0; part = second.1 }
-
 -- ---- tests of numbers
 
-pub erasable : (address : ℕ) → nat_le 2048 address ≡ false → address < 2048
+erasable : (address : ℕ) → not (nat_le 2048 address) ≡ true → address < 2048
 erasable address is = grind (arith, nat_tests)
 
 pub room : (count most : ℕ) → nat_le most count ≡ false → count < most
 room count most is = grind (arith, nat_tests)
 
-pub some_left : (count : ℕ) → (count == 0) ≡ false → 1 ≤ count
+some_left : (count : ℕ) → (count == 0) ≡ false → 1 ≤ count
 some_left count is = grind (arith, nat_tests)
 
 both : (a b : Bool) → (a && b) ≡ true → (a ≡ true) × (b ≡ true)
 both true b is = (refl, is)
 both false b is = let clash : false ≡ true = is in absurd cc
 
--- the last kind is no higher than that of a statement that stands in order
-pub no_higher : (last kind : ℕ) → (nat_le last kind && not (last == 8)) ≡ true → last ≤ kind
-no_higher last kind is = let first = both (nat_le last kind) (not (last == 8)) is in let h = first.0 in grind (arith, nat_tests)
+-- ---- the last kind
 
--- ---- a row without a fault
+-- the last kind is no later than that of a statement that stands in order
+pub no_higher : (last : Option Kind) (its : Kind) → follows last its ≡ true → kinds_come last ≤ kinds_before its + 1
+no_higher None its is = omega arith
+no_higher (Some last) its is =
+    let first = (both (nat_le (kinds_before last) (kinds_before its)) (not (is_kind kind.End last)) is).0 in
+    no_later (kinds_before last) (kinds_before its) first
+  where
+    no_later : (one other : ℕ) → nat_le one other ≡ true → one + 1 ≤ other + 1
+    no_later one other is = grind (arith, nat_tests)
+
+-- a kind that a test tells is the one
+is_row : (its : Kind) → is_kind kind.Row its ≡ true → its ≡ kind.Row
+is_row kind.Row is = refl
+is_row _ is = let clash : false ≡ true = is in absurd cc
+
+is_end : (its : Kind) → is_kind kind.End its ≡ true → its ≡ kind.End
+is_end kind.End is = refl
+is_end _ is = let clash : false ≡ true = is in absurd cc
+
+pub last_row : (last : Option Kind) → is_last kind.Row last ≡ true → last ≡ Some kind.Row
+last_row None is = let clash : false ≡ true = is in absurd cc
+last_row (Some its) is = rw (is_row its is) refl
+
+pub last_end : (last : Option Kind) → is_last kind.End last ≡ true → last ≡ Some kind.End
+last_end None is = let clash : false ≡ true = is in absurd cc
+last_end (Some its) is = rw (is_end its is) refl
+
+pub none_last : (last : Option Kind) → not (is_some last) ≡ true → last ≡ None
+none_last None is = refl
+none_last (Some its) is = let clash : false ≡ true = is in absurd cc
+
+-- ---- what an entry, a row or the end without a fault says of what is kept
+
+-- the address is one of its table, and nothing is stated there; a value is stated, within the cell's limit where that is asked; and
+-- there is room
+pub record IsClearEntry (g : Gathering) (table : Table) (entry : Entry) : Type 0 where
+  pub place : (ports : Registers) × (may_stand ports table entry.address ≡ true)
+  pub once : is_stated_in g table entry.address ≡ false
+  pub some : is_some entry.value ≡ true
+  pub within : leaves_limit table entry.value (stated g.cells entry.address) ≡ false
+  pub room : is_full_with (length g.row_cells) table ≡ false
 
 pub record IsClearRow (g : Gathering) (row : RowLine) : Type 0 where
   pub a : is_some row.a ≡ true
@@ -84,21 +99,116 @@ pub record IsClearRow (g : Gathering) (row : RowLine) : Type 0 where
   pub few : row_count g < 20000
   pub room : get_or g.counts row.location 0 < 512
 
-pub clear_row : (ports : Registers) (g : Gathering) (row : RowLine) → part_fault ports g (Row row) ≡ None → IsClearRow g row
-clear_row ports g row none =
-    let first = clear _ _ _ none in
-    let values = neither (is_empty row.a) (is_empty row.q) first.0 in
-    let second = clear _ _ _ first.1 in
-    let counts = neither (nat_le 20000 (row_count g)) (nat_le 512 (get_or g.counts row.location 0)) second.0 in
-    record { a = not_empty row.a values.0; q = not_empty row.q values.1; few = room (row_count g) 20000 counts.0; room = room (get_or g.counts row.location 0) 512 counts.1 }
+abbrev pub IsClear : Gathering → Statement → Type 0
+IsClear g (Start location) = Unit {0}
+IsClear g (EntryOf table entry) = IsClearEntry g table entry
+IsClear g (May location) = Unit {0}
+IsClear g (Row row) = IsClearRow g row
+IsClear g End = 1 ≤ row_count g
+
+-- a statement has no fault: it stands in order, and has none by its kind
+pub record IsFine (g : Gathering) (statement : Statement) : Type 0 where
+  pub order : stands_in_order g.last statement ≡ true
+  pub part : IsClear g statement
+
+-- the statement doesn't belong to the row before it, which ends
+abbrev pub EndsRow : Statement → Type 0
+EndsRow (EntryOf At entry) = ⊥
+EndsRow _ = Unit {0}
+
+-- what is kept has an entry at the address where the statements before have one
+pub stated_before : (before : List Statement) (g : Gathering) → Gathered before g → (table : Table) (address : ℕ)
+    → is_stated_in g table address ≡ has_address (entries_before table before) address
+stated_before before g is Cell address = is.tables.cells.has address
+stated_before before g is Init address = is.tables.init.has address
+stated_before before g is In address = is.tables.inputs.has address
+stated_before before g is Out address = is.tables.outputs.has address
+stated_before before g is At address = is.rows.cells.has address
+
+-- and has room where there is some behind them
+pub full_before : (before : List Statement) (g : Gathering) → Gathered before g → (table : Table)
+    → is_full_with (length g.row_cells) table ≡ is_full_with (length (entries_before table before)) table
+full_before before g is Cell = refl
+full_before before g is Init = refl
+full_before before g is In = refl
+full_before before g is Out = refl
+full_before before g is At = rw is.rows.cells.count refl
+
+-- what it says of the statements before that an entry has no fault
+pub record HasNoFault (ports : Registers) (before : List Statement) (table : Table) (entry : Entry) : Type 0 where
+  pub place : may_stand ports table entry.address ≡ true
+  pub once : has_address (entries_before table before) entry.address ≡ false
+  pub some : is_some entry.value ≡ true
+  pub within : leaves_limit table entry.value (value_at (entries Cell before) entry.address) ≡ false
+  pub zero : lacks_word ports table entry ≡ false
+  pub room : is_full_with (length (entries_before table before)) table ≡ false
+
+pub no_fault : (ports : Registers) (before : List Statement) (table : Table) (entry : Entry) → entry_fault ports before table entry ≡ None
+    → HasNoFault ports before table entry
+no_fault ports before table entry none =
+    let first = clear _ BadLine _ none in
+    let second = clear _ Twice _ first.1 in
+    let third = clear _ EmptyRange _ second.1 in
+    let fourth = clear _ OutsideGlobal _ third.1 in
+    let fifth = clear _ NoZero _ fourth.1 in
+    let sixth = clear _ TooManyAt _ fifth.1 in
+    record {
+      place = not_false (may_stand ports table entry.address) first.0;
+      once = second.0;
+      some = not_empty entry.value third.0;
+      within = fourth.0;
+      zero = fifth.0;
+      room = sixth.0;
+    }
+
+module _ (ports : Registers) (before : List Statement) (g : Gathering) (is : Gathered before g) where
+  clear_entry : (table : Table) (entry : Entry) → entry_fault ports before table entry ≡ None → IsClearEntry g table entry
+  clear_entry table entry none =
+      let its = no_fault ports before table entry none in
+      record {
+        place = (ports, its.place);
+        once = stated_before before g is table entry.address ∙ its.once;
+        some = its.some;
+        within = rw (is.tables.cells.at entry.address) its.within;
+        room = full_before before g is table ∙ its.room;
+      }
+
+  clear_row : (row : RowLine) → statement_fault ports before (Row row) ≡ None → IsClearRow g row
+  clear_row row none =
+      let first = clear _ _ _ none in
+      let values = neither (is_empty row.a) (is_empty row.q) first.0 in
+      let second = clear _ _ _ first.1 in
+      let counts = neither _ _ second.0 in
+      let few = room _ 20000 counts.0 in
+      let here = room _ 512 counts.1 in
+      record { a = not_empty row.a values.0; q = not_empty row.q values.1; few = rw is.count few; room = rw (is.tables.counts row.location) here }
+
+  clear_part : (statement : Statement) → statement_fault ports before statement ≡ None → IsClear g statement
+  clear_part (Start location) none = tt
+  clear_part (EntryOf table entry) none = clear_entry table entry none
+  clear_part (May location) none = tt
+  clear_part (Row row) none = clear_row row none
+  clear_part End none = rw is.count (some_left _ (clear _ _ _ none).0)
+
+  pub fine : (statement : Statement) → fault_after ports before statement ≡ None → IsFine g statement
+  fine statement none =
+      let first = clear (is_second_start (last_kind before) statement) Twice _ none in
+      let second = clear (not (stands_in_order (last_kind before) statement)) BadLine (statement_fault ports before statement) first.1 in
+      record { order = rw is.tables.last (not_false (stands_in_order (last_kind before) statement) second.0); part = clear_part statement second.1 }
 
 -- ---- a statement without a fault can be added
 
-pub placed : (ports : Registers) (g : Gathering) (statement : Statement) → gathered_fault ports g statement ≡ None → IsStatement statement → IsPlaced g.counts statement
-placed ports g (Cell entry) none is = erasable entry.address (clear_entry _ _ entry.value _ (fine ports g (Cell entry) none).part).place
-placed ports g (Init entry) none is = erasable entry.address (clear_entry _ _ entry.value _ (fine ports g (Init entry) none).part).place
-placed ports g (In entry) none is = is
-placed ports g (Out entry) none is = is
-placed ports g (May location) none is = is
-placed ports g (Row row) none is = (is.location, (clear_row ports g row (fine ports g (Row row) none).part).room)
-placed ports g _ none is = tt
+pub placed : (g : Gathering) (statement : Statement) → IsFine g statement → IsStatement statement → IsPlaced g.counts statement
+placed g (Start location) fine is = tt
+placed g (EntryOf Cell entry) fine is = erasable entry.address fine.part.place.1
+placed g (EntryOf Init entry) fine is = erasable entry.address fine.part.place.1
+placed g (EntryOf In entry) fine is = is
+placed g (EntryOf Out entry) fine is = is
+placed g (EntryOf At entry) fine is = tt
+placed g (May location) fine is = is
+placed g (Row row) fine is = (is.location, fine.part.room)
+placed g End fine is = tt
+
+-- a cell of a row is erasable
+pub below_fixed : (g : Gathering) (entry : Entry) → IsFine g (EntryOf At entry) → entry.address < 2048
+below_fixed g entry fine = erasable entry.address fine.part.place.1

@@ -1,60 +1,37 @@
--- What is kept stands for the statements so far: the same fault comes of it, and so it goes on.
+-- What is kept stands for the statements so far, and so it goes on.
 use Rattle.std.proofs.Common.{◌≡◌, ℕ, ◌+◌, ◌<◌, Bool, true, false, ◌||◌, ◌==◌, refl, sym, ap, ◌∙◌, subst, List, [], ◌∷◌, ◌++◌, length, reverse, get_or, set, Option, Some, None, arith}
 use Rattle.std.specs.Prelude.{is_some}
 use Rattle.std.specs.List.{list_any, filter_map}
 use Rattle.std.proofs.lemmas.List.{length-append}
 use Rattle.ags_domain.specs.declared.values.Value.{Value}
-use Rattle.ags_ports.specs.Port.{Registers}
 use Rattle.ags_row.specs.declared.ats.At.{At as Cell_at}
 use Rattle.ags_row.specs.declared.rows.Row.{Row as Row_of}
-use Rattle.ags_certtext.specs.declared.cert_error.CertKind.{CertKind}
+use Rattle.ags_certtext.specs.declared.kinds.Kind.{Kind}
+use Rattle.ags_certtext.specs.declared.kinds.Kind.TheVariants as kind
 use Rattle.ags_certtext.specs.declared.statements.Entry.{Entry}
 use Rattle.ags_certtext.specs.declared.statements.RowLine.{RowLine}
 use Rattle.ags_certtext.specs.declared.statements.Statement.{Statement}
-use Rattle.ags_certtext.specs.declared.statements.Statement.TheVariants.{Start, Cell, Init, In, Out, May, Row, At, End}
-use Rattle.ags_certtext.specs.Statement.{cell_entry, init_entry, in_entry, out_entry, may_place, row_line, entries, kind_number, last_kind, row_entries}
-use Rattle.ags_certtext.specs.Fault.{fault_after, statement_fault, rows_at}
+use Rattle.ags_certtext.specs.declared.statements.Statement.TheVariants.{Start, Entry as EntryOf, May, Row}
+use Rattle.ags_certtext.specs.declared.statements.Table.TheVariants.{Cell, Init, In, Out, At}
+use Rattle.ags_certtext.specs.Fault.{rows_at}
+use Rattle.ags_certtext.specs.Kind.{is_last, last_kind}
+use Rattle.ags_certtext.specs.Statement.{may_place, row_line, entries, row_entries}
 use Rattle.ags_certtext.specs.Text.{start_of}
-use Rattle.ags_certread.specs.Gathering.{Gathering, Closes, IsPlaced, IsSized, entry_fault, gathered_fault, nothing_stated, part_fault, row_count, stated, with_statement}
-use Rattle.ags_certread.proofs.TableLemmas.{IsTable, IsTable-none, IsTable-more, each_same, set_read, same_of}
+use Rattle.ags_certread.specs.Before.{AreCounted, AreGatheredRows, AreNamed, AreTables, Gathered, IsTable}
+use Rattle.ags_certread.specs.Gathering.{Gathering, Closes, IsPlaced, IsSized, nothing_stated, row_count, stated, with_statement}
+use Rattle.ags_certread.proofs.TableLemmas.{IsTable-none, IsTable-more, each_same, set_read, same_of}
 use Rattle.ags_certread.proofs.CellLemmas.{AreCells-none, AreCells-more}
-use Rattle.ags_certread.proofs.RowLemmas.{AreGatheredRows, AreShutRows, shut_closed, shut_open, start_kept}
-use Rattle.ags_certread.proofs.FaultLemmas.{EndsRow, IsFine, clear_entry}
+use Rattle.ags_certread.proofs.RowLemmas.{AreShutRows, shut_closed, shut_open, start_kept}
+use Rattle.ags_certread.proofs.FaultLemmas.{EndsRow, IsFine, last_row, none_last}
 
--- the places are those that the statements name
-abbrev pub AreNamed : List Statement → List Bool → Type 0
-AreNamed before places = (location : ℕ) → get_or places location false ≡ list_any (λ (other : ℕ). other == location) (filter_map may_place before)
-
--- the counts are those of the rows that the statements begin
-abbrev pub AreCounted : List Statement → List ℕ → Type 0
-AreCounted before counts = (location : ℕ) → get_or counts location 0 ≡ length (rows_at before location)
-
--- the tables have what the statements state
-pub record AreTables (before : List Statement) (g : Gathering) : Type 0 where
-  pub last : g.last ≡ last_kind before
-  pub start : g.start ≡ start_of (reverse before)
-  pub cells : IsTable (entries cell_entry before) g.cells
-  pub init : IsTable (entries init_entry before) g.init
-  pub inputs : IsTable (entries in_entry before) g.inputs
-  pub outputs : IsTable (entries out_entry before) g.outputs
-  pub places : AreNamed before g.places
-  pub counts : AreCounted before g.counts
-
--- what is kept stands for the statements
-pub record IsGathered (before : List Statement) (g : Gathering) : Type 0 where
-  pub tables : AreTables before g
-  pub rows : AreGatheredRows before g.rows g.line g.row_cells
-  pub count : row_count g ≡ length (filter_map row_line before)
-  pub some_line : g.last ≡ 7 → g.line ≡ None → ⊥
-
--- the same where no row is open
+-- what is kept stands for the statements, where no row is open
 pub record IsShut (before : List Statement) (g : Gathering) : Type 0 where
   pub tables : AreTables before g
   pub rows : AreShutRows before g.rows g.line g.row_cells
   pub count : length g.rows ≡ length (filter_map row_line before)
 
-pub IsGathered-none : IsGathered [] nothing_stated
-IsGathered-none = record {
+pub Gathered-none : Gathered [] nothing_stated
+Gathered-none = record {
   tables = record {
     last = refl;
     start = refl;
@@ -67,25 +44,8 @@ IsGathered-none = record {
   };
   rows = record { line = refl; cells = AreCells-none; closed = tt };
   count = refl;
-  some_line = λ row none. absurd (omega (arith, row));
+  some_line = λ row none. let clash : ◌≡◌ {A = Option Kind} None (Some kind.Row) = row in absurd cc;
 }
-
--- ---- the same fault
-
-module _ (ports : Registers) (before : List Statement) (g : Gathering) (is : IsGathered before g) where
-  pub same_part : (statement : Statement) → part_fault ports g statement ≡ statement_fault ports before statement
-  same_part (Start location) = refl
-  same_part (Cell entry) = rw (is.tables.cells.has entry.address) refl
-  same_part (Init entry) = rw (is.tables.init.has entry.address, is.tables.cells.at entry.address) refl
-  same_part (In entry) = rw (is.tables.inputs.has entry.address) refl
-  same_part (Out entry) = rw (is.tables.outputs.has entry.address) refl
-  same_part (May location) = rw (is.tables.places location) refl
-  same_part (Row row) = rw (is.count, is.tables.counts row.location) refl
-  same_part (At entry) = rw (is.rows.cells.has entry.address, is.tables.cells.at entry.address, is.rows.cells.count) refl
-  same_part End = rw is.count refl
-
-  pub same_fault : (statement : Statement) → gathered_fault ports g statement ≡ fault_after ports before statement
-  same_fault statement = rw (is.tables.last, same_part statement) refl
 
 -- ---- the open row is closed
 
@@ -106,7 +66,7 @@ tables_kept before g rows line row_cells are = record {
 one_more : (count : ℕ) (rows : List (Row_of Value)) (row : Row_of Value) → length rows + 1 ≡ count → length (rows ++ row ∷ []) ≡ count
 one_more count rows row is = length-append rows (row ∷ []) ∙ is
 
-pub shut : (before : List Statement) (g m : Gathering) (line : Option RowLine) → g.line ≡ line → Closes line g m → IsGathered before g
+pub shut : (before : List Statement) (g m : Gathering) (line : Option RowLine) → g.line ≡ line → Closes line g m → Gathered before g
     → (g.line ≡ None → g.row_cells ≡ []) → IsShut before m
 shut before g m None is closes gathered empty = subst (λ (h : Gathering). IsShut before h) (sym closes) (record {
   tables = gathered.tables;
@@ -124,20 +84,16 @@ shut before g m (Some line) is closes gathered empty = subst (λ (h : Gathering)
 -- ---- a statement is added to the tables
 
 -- no kind was the last where there is no statement
-none_before : (before : List Statement) → last_kind before ≡ 0 → before ≡ []
+none_before : (before : List Statement) → last_kind before ≡ None → before ≡ []
 none_before [] is = refl
-none_before (Start location ∷ before) is = absurd (omega (arith, is))
-none_before (_ ∷ before) is = absurd (omega (arith, is))
+none_before (statement ∷ before) is = absurd cc
 
--- an entry without a fault is added to the table of its kind
-entered : {found : List Entry} {table : List (Option Value)} {entry : Entry} {count : ℕ} (misplaced : Bool) (later : Option CertKind) → IsTable found table
-    → length table ≡ count → entry.address < count → entry_fault misplaced (is_some (stated table entry.address)) entry.value later ≡ None
-    → IsTable (entry ∷ found) (set table entry.address entry.value)
-entered {found} {table} {entry} misplaced later is sized inside none =
-    let c = clear_entry misplaced (is_some (stated table entry.address)) entry.value later none in
-    IsTable-more found table entry is (rw sized inside) c.once c.some
+-- an entry without a fault is added to its table
+entered : {found : List Entry} {table : List (Option Value)} {entry : Entry} {count : ℕ} → IsTable found table → length table ≡ count → entry.address < count
+    → is_some (stated table entry.address) ≡ false → is_some entry.value ≡ true → IsTable (entry ∷ found) (set table entry.address entry.value)
+entered {found} {table} {entry} is sized inside once some = IsTable-more found table entry is (rw sized inside) once some
 
-module _ (ports : Registers) (before : List Statement) (m : Gathering) (are : AreTables before m) (sized : IsSized m) where
+module _ (before : List Statement) (m : Gathering) (are : AreTables before m) (sized : IsSized m) where
   named : (location : ℕ) → location < length m.places → (other : ℕ) (b : Bool) → (location == other) ≡ b
       → get_or (set m.places location true) other false ≡ (b || list_any (λ (place : ℕ). place == other) (filter_map may_place before))
   named location inside other true same = set_read m.places location other true false inside true same
@@ -153,46 +109,49 @@ module _ (ports : Registers) (before : List Statement) (m : Gathering) (are : Ar
   counted row inside other false same =
       set_read m.counts row.location other (get_or m.counts row.location 0 + 1) 0 inside false same ∙ are.counts other ∙ rw same refl
 
-  last_more : (statement : Statement) → IsFine ports m statement → (with_statement m statement).last ≡ kind_number statement
-  last_more (At entry) fine = same_of m.last 7 fine.order
-  last_more _ fine = refl
-
-  start_more : (statement : Statement) → IsFine ports m statement → (with_statement m statement).start ≡ start_of (reverse (statement ∷ before))
+  start_more : (statement : Statement) → IsFine m statement → (with_statement m statement).start ≡ start_of (reverse (statement ∷ before))
   start_more (Start location) fine =
-      let none = none_before before (sym are.last ∙ same_of m.last 0 fine.order) in ap (λ (l : List Statement). start_of (reverse (Start location ∷ l))) (sym none)
+      let none = none_before before (sym are.last ∙ none_last m.last fine.order) in ap (λ (l : List Statement). start_of (reverse (Start location ∷ l))) (sym none)
+  start_more (EntryOf Cell entry) fine = are.start ∙ sym (start_kept before (EntryOf Cell entry) refl)
+  start_more (EntryOf Init entry) fine = are.start ∙ sym (start_kept before (EntryOf Init entry) refl)
+  start_more (EntryOf In entry) fine = are.start ∙ sym (start_kept before (EntryOf In entry) refl)
+  start_more (EntryOf Out entry) fine = are.start ∙ sym (start_kept before (EntryOf Out entry) refl)
+  start_more (EntryOf At entry) fine = are.start ∙ sym (start_kept before (EntryOf At entry) refl)
   start_more statement fine = are.start ∙ sym (start_kept before statement refl)
 
-  cells_more : (statement : Statement) → IsFine ports m statement → IsPlaced m.counts statement
-      → IsTable (entries cell_entry (statement ∷ before)) (with_statement m statement).cells
-  cells_more (Cell entry) fine inside = entered _ _ are.cells sized.cells inside fine.part
+  cells_more : (statement : Statement) → IsFine m statement → IsPlaced m.counts statement
+      → IsTable (entries Cell (statement ∷ before)) (with_statement m statement).cells
+  cells_more (EntryOf Cell entry) fine inside = entered are.cells sized.cells inside fine.part.once fine.part.some
   cells_more _ fine inside = are.cells
 
-  init_more : (statement : Statement) → IsFine ports m statement → IsPlaced m.counts statement
-      → IsTable (entries init_entry (statement ∷ before)) (with_statement m statement).init
-  init_more (Init entry) fine inside = entered _ _ are.init sized.init inside fine.part
+  init_more : (statement : Statement) → IsFine m statement → IsPlaced m.counts statement
+      → IsTable (entries Init (statement ∷ before)) (with_statement m statement).init
+  init_more (EntryOf Init entry) fine inside = entered are.init sized.init inside fine.part.once fine.part.some
   init_more _ fine inside = are.init
 
-  inputs_more : (statement : Statement) → IsFine ports m statement → IsPlaced m.counts statement
-      → IsTable (entries in_entry (statement ∷ before)) (with_statement m statement).inputs
-  inputs_more (In entry) fine inside = entered _ _ are.inputs sized.inputs inside fine.part
+  inputs_more : (statement : Statement) → IsFine m statement → IsPlaced m.counts statement
+      → IsTable (entries In (statement ∷ before)) (with_statement m statement).inputs
+  inputs_more (EntryOf In entry) fine inside = entered are.inputs sized.inputs inside fine.part.once fine.part.some
   inputs_more _ fine inside = are.inputs
 
-  outputs_more : (statement : Statement) → IsFine ports m statement → IsPlaced m.counts statement
-      → IsTable (entries out_entry (statement ∷ before)) (with_statement m statement).outputs
-  outputs_more (Out entry) fine inside = entered _ _ are.outputs sized.outputs inside fine.part
+  outputs_more : (statement : Statement) → IsFine m statement → IsPlaced m.counts statement
+      → IsTable (entries Out (statement ∷ before)) (with_statement m statement).outputs
+  outputs_more (EntryOf Out entry) fine inside = entered are.outputs sized.outputs inside fine.part.once fine.part.some
   outputs_more _ fine inside = are.outputs
 
   places_more : (statement : Statement) → IsPlaced m.counts statement → AreNamed (statement ∷ before) (with_statement m statement).places
   places_more (May location) inside = λ other. named location (rw sized.places inside) other (location == other) refl
+  places_more (EntryOf Cell entry) inside = are.places
   places_more _ inside = are.places
 
   counts_more : (statement : Statement) → IsPlaced m.counts statement → AreCounted (statement ∷ before) (with_statement m statement).counts
   counts_more (Row row) inside = λ other. counted row (rw sized.counts inside.0) other (row.location == other) refl
+  counts_more (EntryOf Cell entry) inside = are.counts
   counts_more _ inside = are.counts
 
-  tables_more : (statement : Statement) → IsFine ports m statement → IsPlaced m.counts statement → AreTables (statement ∷ before) (with_statement m statement)
+  tables_more : (statement : Statement) → IsFine m statement → IsPlaced m.counts statement → AreTables (statement ∷ before) (with_statement m statement)
   tables_more statement fine inside = record {
-    last = last_more statement fine;
+    last = refl;
     start = start_more statement fine;
     cells = cells_more statement fine inside;
     init = init_more statement fine inside;
@@ -205,41 +164,42 @@ module _ (ports : Registers) (before : List Statement) (m : Gathering) (are : Ar
 -- ---- and to all that is kept
 
 -- a statement that isn't a cell of a row
-module _ (ports : Registers) (before : List Statement) (m : Gathering) (is : IsShut before m) (sized : IsSized m) where
+module _ (before : List Statement) (m : Gathering) (is : IsShut before m) (sized : IsSized m) where
   rows_more : (statement : Statement) → EndsRow statement
       → AreGatheredRows (statement ∷ before) (with_statement m statement).rows (with_statement m statement).line (with_statement m statement).row_cells
   rows_more (Row row) ends = record { line = refl; cells = rw is.rows.cells AreCells-none; closed = is.rows.closed }
-  rows_more (At entry) ends = absurd ends
+  rows_more (EntryOf At entry) ends = absurd ends
   rows_more _ ends = record { line = is.rows.line; cells = rw is.rows.cells AreCells-none; closed = is.rows.closed }
 
   count_more : (statement : Statement) → row_count (with_statement m statement) ≡ length (filter_map row_line (statement ∷ before))
   count_more (Row row) = let count = is.count in omega (arith, count)
+  count_more (EntryOf Cell entry) = let count = is.count in rw is.rows.line (omega (arith, count))
   count_more _ = let count = is.count in rw is.rows.line (omega (arith, count))
 
-  some_line_more : (statement : Statement) → EndsRow statement → (with_statement m statement).last ≡ 7 → (with_statement m statement).line ≡ None → ⊥
+  some_line_more : (statement : Statement) → EndsRow statement → (with_statement m statement).last ≡ Some kind.Row → (with_statement m statement).line ≡ None → ⊥
   some_line_more (Row row) ends last none = let clash : ◌≡◌ {A = Option RowLine} (Some row) None = none in absurd cc
-  some_line_more (At entry) ends last none = absurd ends
-  some_line_more _ ends last none = absurd (omega (arith, last))
+  some_line_more (EntryOf At entry) ends last none = absurd ends
+  some_line_more _ ends last none = let clash : false ≡ true = ap (λ (k : Option Kind). is_last kind.Row k) last in absurd cc
 
-  pub IsGathered-more : (statement : Statement) → IsFine ports m statement → IsPlaced m.counts statement → EndsRow statement
-      → IsGathered (statement ∷ before) (with_statement m statement)
-  IsGathered-more statement fine inside ends = record {
-    tables = tables_more ports before m is.tables sized statement fine inside;
+  pub Gathered-more : (statement : Statement) → IsFine m statement → IsPlaced m.counts statement → EndsRow statement
+      → Gathered (statement ∷ before) (with_statement m statement)
+  Gathered-more statement fine inside ends = record {
+    tables = tables_more before m is.tables sized statement fine inside;
     rows = rows_more statement ends;
     count = count_more statement;
     some_line = some_line_more statement ends;
   }
 
 -- a cell of the open row
-pub IsGathered-at : (ports : Registers) (before : List Statement) (g : Gathering) (entry : Entry) → IsGathered before g → IsSized g → IsFine ports g (At entry)
-    → IsGathered (At entry ∷ before) (with_statement g (At entry))
-IsGathered-at ports before g entry is sized fine = record {
-  tables = tables_more ports before g is.tables sized (At entry) fine tt;
+pub Gathered-at : (before : List Statement) (g : Gathering) (entry : Entry) → Gathered before g → IsSized g → IsFine g (EntryOf At entry)
+    → Gathered (EntryOf At entry ∷ before) (with_statement g (EntryOf At entry))
+Gathered-at before g entry is sized fine = record {
+  tables = tables_more before g is.tables sized (EntryOf At entry) fine tt;
   rows = record {
     line = is.rows.line;
-    cells = (let c = clear_entry _ _ entry.value _ fine.part in AreCells-more (row_entries before) g.row_cells entry is.rows.cells c.once entry.value refl c.some);
+    cells = AreCells-more (row_entries before) g.row_cells entry is.rows.cells fine.part.once entry.value refl fine.part.some;
     closed = is.rows.closed;
   };
   count = is.count;
-  some_line = is.some_line;
+  some_line = λ row none. is.some_line (last_row g.last fine.order) none;
 }

@@ -1,10 +1,10 @@
 -- The lines of a certificate, one after the other.
-use Rattle.std.proofs.Common.{◌≡◌, ℕ, ◌+◌, ◌≤◌, true, false, ◌==◌, refl, sym, ap, ◌∙◌, subst, List, [], ◌∷◌, ◌++◌, length, reverse, Some, None, append_assoc, arith}
+use Rattle.std.proofs.Common.{◌≡◌, ℕ, ◌+◌, true, false, refl, sym, ap, ◌∙◌, subst, List, [], ◌∷◌, ◌++◌, length, reverse, Some, None, append_assoc, arith}
 use Rattle.std.specs.List.{filter_map}
 use Rattle.std.proofs.lemmas.List.{append-nil}
 use Rattle.std.proofs.lemmas.List.Elements.{filter_map-append}
 use Rattle.ags_text.specs.Fault.{first_fault, first_fault-nil, first_fault-faulty, first_fault-faultless}
-use Rattle.ags_text.specs.Line.{LineAt, Follow, lines_of}
+use Rattle.ags_text.specs.Line.{LineAt, lines_of}
 use Rattle.ags_text.specs.Reading.{AreReadingsBy}
 use Rattle.ags_ports.specs.Port.{Registers}
 use Rattle.ags_certtype.specs.Cert.{Stated as Cert_stated}
@@ -13,16 +13,20 @@ use Rattle.ags_certtext.specs.declared.cert_error.CertKind.TheVariants.{BadLine}
 use Rattle.ags_certtext.specs.declared.cert_error.CertError.{CertError}
 use Rattle.ags_certtext.specs.declared.cert_error.CertError.TheVariants.{At as AtLine, NoMemory}
 use Rattle.ags_certtext.specs.declared.statements.Statement.{Statement}
+use Rattle.ags_certtext.specs.declared.kinds.Kind.TheVariants as kind
 use Rattle.ags_certtext.specs.Fault.{reading_fault}
+use Rattle.ags_certtext.specs.Kind.{is_last}
 use Rattle.ags_certtext.specs.Reading.{Reading, Opening, OtherOpening, Stated, Skipped, Malformed, Ended, IsFirstReading, IsReading, AreLineReadings, AreReadings, statement_of}
 use Rattle.ags_certtext.specs.Text.{IsCertOf, IsFaultyCert, IsRefused, IsWhatIsStated}
 use Rattle.ags_certread.specs.Gathering.{Gathering, IsCertOfGathering, IsClosable, IsCounting, IsSized, nothing_stated}
 use Rattle.ags_certread.specs.LineTaken.{HaveReadings, TakesLine, TakesReading, TellsFault, behind_first, further_fault, opening_fault}
-use Rattle.ags_certread.proofs.TableLemmas.{chosen_reversed, reverse-more, same_of}
-use Rattle.ags_certread.proofs.GatherLemmas.{IsGathered-none, same_fault}
-use Rattle.ags_certread.proofs.SoundLemmas.{IsSound, IsSound-none}
+use Rattle.ags_certread.proofs.TableLemmas.{chosen_reversed, reverse-more}
+use Rattle.ags_certread.proofs.FaultLemmas.{last_end}
+use Rattle.ags_certread.proofs.GatherLemmas.{Gathered-none}
+use Rattle.ags_certread.proofs.SoundLemmas.{IsSound-none}
 use Rattle.ags_certread.proofs.FinishLemmas.{what_is_stated}
-use Rattle.ags_certread.proofs.TakeLemmas.{Stands, taken}
+use Rattle.ags_certread.specs.Before.{Stands}
+use Rattle.ags_certread.specs.Sound.{IsSound}
 
 -- ---- readings of lines
 
@@ -47,7 +51,7 @@ left_readings (line ∷ lines) others (reading ∷ readings) are = left_readings
 -- ---- so many lines are read
 
 -- Of a text's lines so many are read without a fault, with these readings, nearest first; what is kept stands for their statements; and
--- these lines are left. There are no more of them than bytes and one.
+-- these lines are left.
 pub record SoFar (ports : Registers) (text : List ℕ) (left : List LineAt) (g : Gathering) (number : ℕ) : Type 0 where
   pub first : LineAt
   pub more : List LineAt
@@ -57,36 +61,28 @@ pub record SoFar (ports : Registers) (text : List ℕ) (left : List LineAt) (g :
   pub faultless : (rest : List Reading) → first_fault (reading_fault ports) [] (reverse before ++ rest) ≡ first_fault (reading_fault ports) before rest
   pub stands : Stands (filter_map statement_of before) g
   pub so_many : number ≡ length before
-  pub from : ℕ
-  pub few : length before ≤ from
-  pub short : from ≤ length text + 1
-  pub follow : Follow text from left
 
 -- the first line opens the certificate
 pub SoFar-first : (ports : Registers) (text : List ℕ) (first : LineAt) (left : List LineAt) (reading : Reading) (g : Gathering) → lines_of text ≡ first ∷ left
-    → Follow text 0 (first ∷ left) → IsFirstReading first.bytes reading → opening_fault reading ≡ None → g ≡ nothing_stated → SoFar ports text left g 1
-SoFar-first ports text first left Opening g whole follow is none same = record {
+    → IsFirstReading first.bytes reading → opening_fault reading ≡ None → g ≡ nothing_stated → SoFar ports text left g 1
+SoFar-first ports text first left Opening g whole is none same = record {
   first = first;
   more = [];
   whole = whole;
   before = Opening ∷ [];
   readings = (is, tt);
   faultless = λ rest. first_fault-faultless (reading_fault ports) [] Opening rest refl;
-  stands = subst (λ (h : Gathering). Stands [] h) (sym same) (record { gathered = IsGathered-none; sound = IsSound-none });
+  stands = subst (λ (h : Gathering). Stands [] h) (sym same) (record { gathered = Gathered-none; sound = IsSound-none });
   so_many = refl;
-  from = first.start + length first.bytes + 1;
-  few = omega arith;
-  short = omega (arith, follow.1.within);
-  follow = follow.2;
 }
-SoFar-first ports text first left OtherOpening g whole follow is none same = absurd cc
-SoFar-first ports text first left Malformed g whole follow is none same = absurd cc
-SoFar-first ports text first left (Stated statement) g whole follow is none same = absurd is
-SoFar-first ports text first left Skipped g whole follow is none same = absurd is
-SoFar-first ports text first left Ended g whole follow is none same = absurd is
+SoFar-first ports text first left OtherOpening g whole is none same = absurd cc
+SoFar-first ports text first left Malformed g whole is none same = absurd cc
+SoFar-first ports text first left (Stated statement) g whole is none same = absurd is
+SoFar-first ports text first left Skipped g whole is none same = absurd is
+SoFar-first ports text first left Ended g whole is none same = absurd is
 
 module _ (ports : Registers) (text : List ℕ) (line : LineAt) (left : List LineAt) (g : Gathering) (number : ℕ) (so : SoFar ports text (line ∷ left) g number) where
-  one_more : (reading : Reading) (h : Gathering) → IsReading line.bytes reading → reading_fault ports so.before reading ≡ None
+  pub one_more : (reading : Reading) (h : Gathering) → IsReading line.bytes reading → reading_fault ports so.before reading ≡ None
       → Stands (filter_map statement_of (reading ∷ so.before)) h → SoFar ports text left h (number + 1)
   one_more reading h is none stands = record {
     first = so.first;
@@ -100,16 +96,11 @@ module _ (ports : Registers) (text : List ℕ) (line : LineAt) (left : List Line
         ∙ so.faultless (reading ∷ rest) ∙ first_fault-faultless (reading_fault ports) so.before reading rest none;
     stands = stands;
     so_many = omega (arith, so.so_many);
-    from = line.start + length line.bytes + 1;
-    few = omega (arith, so.few, so.follow.0);
-    short = omega (arith, so.follow.1.within);
-    follow = so.follow.2;
   }
 
   by_reading : (reading : Reading) (h : Gathering) → IsReading line.bytes reading → TakesReading ports g reading h → SoFar ports text left h (number + 1)
-  by_reading (Stated statement) h is takes = one_more (Stated statement) h is
-      (sym (same_fault ports (filter_map statement_of so.before) g so.stands.gathered statement) ∙ takes.1)
-      (taken ports (filter_map statement_of so.before) g so.stands statement h takes.0 takes.1 takes.2)
+  by_reading (Stated statement) h is takes =
+      let taken = takes (filter_map statement_of so.before) so.stands in one_more (Stated statement) h is taken.0 taken.1
   by_reading Skipped h is takes = one_more Skipped h is refl (subst (λ (k : Gathering). Stands (filter_map statement_of so.before) k) (sym takes) so.stands)
   by_reading Opening h is takes = absurd takes
   by_reading OtherOpening h is takes = absurd takes
@@ -122,15 +113,16 @@ module _ (ports : Registers) (text : List ℕ) (line : LineAt) (left : List Line
 
   -- ---- the next line is at fault
 
-  same_further : (reading : Reading) (kind : CertKind) → further_fault ports g reading ≡ Some kind → reading_fault ports so.before reading ≡ Some kind
-  same_further (Stated statement) kind is = sym (same_fault ports (filter_map statement_of so.before) g so.stands.gathered statement) ∙ is
+  same_further : (reading : Reading) (kind : CertKind) → further_fault ports (filter_map statement_of so.before) reading ≡ Some kind
+      → reading_fault ports so.before reading ≡ Some kind
+  same_further (Stated statement) kind is = is
   same_further Malformed kind is = is
   same_further Skipped kind is = absurd cc
   same_further Opening kind is = absurd cc
   same_further OtherOpening kind is = absurd cc
   same_further Ended kind is = absurd cc
 
-  faulty : (reading : Reading) (kind : CertKind) (rest : List Reading) → IsReading line.bytes reading → further_fault ports g reading ≡ Some kind
+  faulty : (reading : Reading) (kind : CertKind) (rest : List Reading) → IsReading line.bytes reading → reading_fault ports so.before reading ≡ Some kind
       → AreReadingsBy IsReading left rest → IsFaultyCert ports text (number + 1) kind
   faulty reading kind rest is fault are =
       let all : List Reading = reverse so.before ++ reading ∷ rest in
@@ -144,7 +136,7 @@ module _ (ports : Registers) (text : List ℕ) (line : LineAt) (left : List Line
         };
         first = ap (λ (l : List Reading). first_fault (reading_fault ports) [] l) (append_assoc (reverse so.before) (reading ∷ rest) (Ended ∷ []))
             ∙ so.faultless (reading ∷ (rest ++ Ended ∷ []))
-            ∙ first_fault-faulty (reading_fault ports) so.before reading (rest ++ Ended ∷ []) kind (same_further reading kind fault)
+            ∙ first_fault-faulty (reading_fault ports) so.before reading (rest ++ Ended ∷ []) kind fault
             ∙ ap (λ (n : ℕ). Some (n + 1, kind)) (sym so.so_many);
       }
 
@@ -154,10 +146,14 @@ module _ (ports : Registers) (text : List ℕ) (line : LineAt) (left : List Line
   rest_readings : HaveReadings (line ∷ left) → HaveReadings left
   rest_readings have = left_readings (line ∷ []) left have.0 have.1
 
+  pub SoFar-faulty : (reading : Reading) (kind : CertKind) → IsReading line.bytes reading → reading_fault ports so.before reading ≡ Some kind
+      → HaveReadings (behind_first (lines_of text)) → IsFaultyCert ports text (number + 1) kind
+  SoFar-faulty reading kind is fault have = let rest = rest_readings (behind have) in faulty reading kind rest.0 is fault rest.1
+
   pub SoFar-fault : (error : CertError) → TellsFault ports (number + 1) g line.bytes error → HaveReadings (behind_first (lines_of text)) → IsRefused ports text error
   SoFar-fault (AtLine place kind) tells have =
-      let rest = rest_readings (behind have) in
-      subst (λ (n : ℕ). IsFaultyCert ports text n kind) (sym tells.0) (faulty tells.1.0 kind rest.0 tells.1.1 tells.1.2 rest.1)
+      let fault = same_further tells.1.0 kind (tells.1.2 (filter_map statement_of so.before) so.stands) in
+      subst (λ (n : ℕ). IsFaultyCert ports text n kind) (sym tells.0) (SoFar-faulty tells.1.0 kind tells.1.1 fault have)
   SoFar-fault NoMemory tells have = tt
 
 -- the first line is at fault
@@ -201,7 +197,7 @@ module _ (ports : Registers) (text : List ℕ) (g : Gathering) (number : ℕ) (s
     whole = refl;
   }
 
-  pub SoFar-missing : (g.last == 8) ≡ false → IsFaultyCert ports text (number + 1) BadLine
+  pub SoFar-missing : is_last kind.End g.last ≡ false → IsFaultyCert ports text (number + 1) BadLine
   SoFar-missing missing = record {
     readings = reverse so.before ++ Ended ∷ [];
     are_readings = all_readings;
@@ -214,7 +210,7 @@ module _ (ports : Registers) (text : List ℕ) (g : Gathering) (number : ℕ) (s
   statements_are = filter_map-append statement_of (reverse so.before) (Ended ∷ []) ∙ append-nil (filter_map statement_of (reverse so.before)) ∙ chosen_reversed statement_of so.before
 
   -- all lines are read
-  pub SoFar-all : (cert : Cert_stated) → (g.last == 8) ≡ true → IsCertOfGathering g cert → IsCertOf ports text cert
+  pub SoFar-all : (cert : Cert_stated) → is_last kind.End g.last ≡ true → IsCertOfGathering g cert → IsCertOf ports text cert
   SoFar-all cert ended is = record {
     readings = reverse so.before ++ Ended ∷ [];
     are_readings = all_readings;
@@ -222,11 +218,8 @@ module _ (ports : Registers) (text : List ℕ) (g : Gathering) (number : ℕ) (s
         ∙ first_fault-faultless (reading_fault ports) so.before Ended [] (rw (sym so.stands.gathered.tables.last, ended) refl)
         ∙ first_fault-nil (reading_fault ports) (Ended ∷ so.before);
     is_stated = subst (λ (l : List Statement). IsWhatIsStated l cert) (sym statements_are)
-        (what_is_stated (filter_map statement_of so.before) g cert so.stands.gathered so.stands.sound (same_of g.last 8 ended) is);
+        (what_is_stated (filter_map statement_of so.before) g cert so.stands.gathered so.stands.sound (last_end g.last ended) is);
   }
-
-pub SoFar-few : (ports : Registers) (text : List ℕ) (left : List LineAt) (g : Gathering) (number : ℕ) → SoFar ports text left g number → number ≤ length text + 1
-SoFar-few ports text left g number so = omega (arith, so.so_many, so.few, so.short)
 
 -- what a line's reader asks of what is kept
 pub sound_keeps : (g : Gathering) → IsSound g → IsSized g × IsCounting g × IsClosable g

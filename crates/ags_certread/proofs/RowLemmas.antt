@@ -8,35 +8,15 @@ use Rattle.ags_row.specs.declared.rows.Row.{Row as Row_of}
 use Rattle.ags_certtext.specs.declared.statements.Entry.{Entry}
 use Rattle.ags_certtext.specs.declared.statements.RowLine.{RowLine}
 use Rattle.ags_certtext.specs.declared.statements.Statement.{Statement}
-use Rattle.ags_certtext.specs.declared.statements.Statement.TheVariants.{Start, Row, At}
+use Rattle.ags_certtext.specs.declared.statements.Statement.TheVariants.{Start, Entry as EntryOf, Row}
+use Rattle.ags_certtext.specs.declared.statements.Table.TheVariants.{At}
 use Rattle.ags_certtext.specs.Statement.{row_entries, value_at}
 use Rattle.ags_certtext.specs.Text.{RowOfLines, leading_cells, rows_of, IsRowOfLines, AreRowsOf, start_of}
+use Rattle.ags_certread.specs.Before.{AreCells, AreGatheredRows, closed_rows, open_line, rows_back}
 use Rattle.ags_certread.specs.Gathering.{IsClosed}
 use Rattle.ags_certread.proofs.TableLemmas.{reverse-more, value_reversed}
-use Rattle.ags_certread.proofs.CellLemmas.{AreCells}
 
 -- ---- rows, nearest first
-
--- the rows of statements, where these cells stand behind them
-abbrev pub rows_back : List Entry → List Statement → List RowOfLines
-rows_back cells [] = []
-rows_back cells (At entry ∷ before) = rows_back (entry ∷ cells) before
-rows_back cells (Row line ∷ before) = record { line = line; cells = cells } ∷ rows_back [] before
-rows_back cells (_ ∷ before) = rows_back [] before
-
--- the line of the row that is open behind the statements
-abbrev pub open_line : List Statement → Option RowLine
-open_line [] = None
-open_line (At entry ∷ before) = open_line before
-open_line (Row line ∷ before) = Some line
-open_line (_ ∷ before) = None
-
--- the rows before it
-abbrev pub closed_rows : List Statement → List RowOfLines
-closed_rows [] = []
-closed_rows (At entry ∷ before) = closed_rows before
-closed_rows (Row line ∷ before) = rows_back [] before
-closed_rows (_ ∷ before) = rows_back [] before
 
 abbrev pub with_open : Option RowLine → List Entry → List RowOfLines → List RowOfLines
 with_open None cells rows = rows
@@ -50,7 +30,7 @@ turned entry found cells =
 pub rows_are : (cells : List Entry) (before : List Statement)
     → rows_back cells before ≡ with_open (open_line before) (reverse (row_entries before) ++ cells) (closed_rows before)
 rows_are cells [] = refl
-rows_are cells (At entry ∷ before) =
+rows_are cells (EntryOf At entry ∷ before) =
     rows_are (entry ∷ cells) before ∙ ap (λ (l : List Entry). with_open (open_line before) l (closed_rows before)) (turned entry (row_entries before) cells)
 rows_are cells (_ ∷ before) = refl
 
@@ -61,7 +41,7 @@ moved {X} x xs tail = ap (λ (l : List X). l ++ tail) (reverse-more x xs) ∙ ap
 
 pub rows_forward : (before tail : List Statement) → rows_of (reverse before ++ tail) ≡ reverse (rows_back (leading_cells tail) before) ++ rows_of tail
 rows_forward [] tail = refl
-rows_forward (At entry ∷ before) tail = ap rows_of (moved (At entry) before tail) ∙ rows_forward before (At entry ∷ tail)
+rows_forward (EntryOf At entry ∷ before) tail = ap rows_of (moved (EntryOf At entry) before tail) ∙ rows_forward before (EntryOf At entry ∷ tail)
 rows_forward (Row line ∷ before) tail =
     ap rows_of (moved (Row line) before tail) ∙ rows_forward before (Row line ∷ tail)
     ∙ sym (moved (record { line = line; cells = leading_cells tail }) (rows_back [] before) (rows_of tail))
@@ -80,12 +60,6 @@ rows-more [] [] last row are is = (is, tt)
 rows-more (lines ∷ others) (first ∷ rows) last row are is = (are.0, rows-more others rows last row are.1 is)
 rows-more [] (first ∷ rows) last row are is = absurd are
 rows-more (lines ∷ others) [] last row are is = absurd are
-
--- what is kept of the rows of some statements
-pub record AreGatheredRows (before : List Statement) (rows : List (Row_of Value)) (kept : Option RowLine) (kept_cells : List (Cell_at Value)) : Type 0 where
-  pub line : kept ≡ open_line before
-  pub cells : AreCells (row_entries before) kept_cells
-  pub closed : AreRowsOf (reverse (closed_rows before)) rows
 
 -- the same where no row is open
 pub record AreShutRows (before : List Statement) (rows : List (Row_of Value)) (kept : Option RowLine) (kept_cells : List (Cell_at Value)) : Type 0 where

@@ -1,13 +1,11 @@
 -- What is kept is sound by itself: it has its sizes, the rows are few, what is stated of a cell is within its limit, and the kinds came
 -- in order. So a certificate comes of it.
 use Rattle.std.proofs.Common.{◌≡◌, ℕ, ◌+◌, ◌<◌, ◌≤◌, Bool, true, false, ◌==◌, refl, sym, ap, ◌∙◌, subst, List, [], ◌∷◌, ◌++◌, length, get_or, set, Option, Some, None, arith}
-use Rattle.std.specs.Prelude.{is_some, replicate, if◌then◌else◌}
-use Rattle.std.specs.List.{All}
+use Rattle.std.specs.Prelude.{replicate, if◌then◌else◌}
 use Rattle.std.proofs.lemmas.List.{length-append, length-set, length-replicate}
 use Rattle.std.proofs.lemmas.List.Elements.{All-append, All-nil, All-cons}
 use Rattle.std.proofs.lemmas.List.Sums.{sum_by-append}
 use Rattle.ags_domain.specs.declared.values.Value.{Value}
-use Rattle.ags_ports.specs.Port.{Registers}
 use Rattle.ags_row.specs.Cell.{value_among}
 use Rattle.ags_row.specs.declared.ats.At.{At as Cell_at}
 use Rattle.ags_row.specs.declared.rows.Row.{Row as Row_of}
@@ -15,51 +13,17 @@ use Rattle.ags_certtype.specs.Cert.{rows_at}
 use Rattle.ags_certtext.specs.declared.statements.Entry.{Entry}
 use Rattle.ags_certtext.specs.declared.statements.RowLine.{RowLine}
 use Rattle.ags_certtext.specs.declared.statements.Statement.{Statement}
-use Rattle.ags_certtext.specs.declared.statements.Statement.TheVariants.{Start, Cell, Init, In, Out, May, Row, At, End}
-use Rattle.ags_certtext.specs.Statement.{IsStatement, kind_number}
+use Rattle.ags_certtext.specs.declared.statements.Statement.TheVariants.{Start, Entry as EntryOf, May, Row, End}
+use Rattle.ags_certtext.specs.declared.statements.Table.TheVariants.{Cell, Init, In, Out, At}
+use Rattle.ags_certtext.specs.declared.kinds.Kind.{Kind}
+use Rattle.ags_certtext.specs.declared.kinds.Kind.TheVariants as kind
+use Rattle.ags_certtext.specs.Statement.{IsStatement}
 use Rattle.ags_certtext.specs.Fault.{is_outside}
-use Rattle.ags_certread.specs.Gathering.{Gathering, Closes, IsClosed, IsOpenRow, IsPlaced, IsSized, has_cell, nothing_stated, part_fault, row_count, stated, with_entry, with_statement}
+use Rattle.ags_certread.specs.Sound.{AreFew, AreInside, IsEarly, IsSound, RowInside, kinds_come, open_at}
+use Rattle.ags_certread.specs.Gathering.{Gathering, Closes, IsClosed, IsOpenRow, IsPlaced, IsSized, has_cell, nothing_stated, row_count, stated, with_entry, with_statement}
 use Rattle.ags_certread.proofs.TableLemmas.{each_same, set_read, same_of}
 use Rattle.ags_certread.proofs.CellLemmas.{count_more, value_more, ascend_more}
-use Rattle.ags_certread.proofs.FaultLemmas.{EndsRow, IsFine, clear, clear_entry, clear_row, erasable, room, some_left, no_higher}
-
--- how many open rows stand at a location
-abbrev pub open_at : Option RowLine → ℕ → ℕ
-open_at None location = 0
-open_at (Some line) location = if line.location == location then 1 else 0
-
--- the rows are counted, and few
-pub record AreFew (rows : List (Row_of Value)) (line : Option RowLine) (counts : List ℕ) : Type 0 where
-  pub most : length rows + (if is_some line then 1 else 0) ≤ 20000
-  pub each : (location : ℕ) → rows_at rows location + open_at line location ≡ get_or counts location 0
-  pub few : (location : ℕ) → get_or counts location 0 ≤ 512
-
--- what the cells of a row may hold is within their limits
-abbrev pub RowInside : List (Option Value) → Row_of Value → Type 0
-RowInside cells row = (address : ℕ) → is_outside (value_among row.at address) (stated cells address) ≡ false
-
--- what is stated of a cell, at the start or in a row, is within its limit
-pub record AreInside (cells init : List (Option Value)) (rows : List (Row_of Value)) (row_cells : List (Cell_at Value)) : Type 0 where
-  pub firsts : (address : ℕ) → is_outside (stated init address) (stated cells address) ≡ false
-  pub in_rows : All (RowInside cells) rows
-  pub in_cells : (address : ℕ) → is_outside (value_among row_cells address) (stated cells address) ≡ false
-
--- nothing of a later kind was stated, and at the end a row was
-pub record IsEarly (last : ℕ) (init : List (Option Value)) (rows : List (Row_of Value)) (line : Option RowLine) (row_cells : List (Cell_at Value)) : Type 0 where
-  pub no_init : last ≤ 2 → (address : ℕ) → stated init address ≡ None
-  pub no_rows : last ≤ 6 → rows ≡ []
-  pub no_line : last ≤ 6 → line ≡ None
-  pub no_cells : line ≡ None → row_cells ≡ []
-  pub ended : last ≡ 8 → line ≡ None
-  pub some_row : last ≡ 8 → 1 ≤ length rows
-
-pub record IsSound (g : Gathering) : Type 0 where
-  pub sized : IsSized g
-  pub start : g.start < 4096
-  pub closable : IsOpenRow g.line g.row_cells
-  pub few : AreFew g.rows g.line g.counts
-  pub inside : AreInside g.cells g.init g.rows g.row_cells
-  pub early : IsEarly g.last g.init g.rows g.line g.row_cells
+use Rattle.ags_certread.proofs.FaultLemmas.{EndsRow, IsClear, IsFine, none_last, below_fixed, last_row, no_higher, room}
 
 no_row_open : IsOpenRow None []
 no_row_open = record { line = tt; a = tt; q = tt; few = omega arith; ascending = refl }
@@ -92,14 +56,14 @@ IsSound-none = record {
     no_line = λ low. refl;
     no_cells = λ none. refl;
     ended = λ end. refl;
-    some_row = λ end. absurd (omega (arith, end));
+    some_row = λ end. let clash : ◌≡◌ {A = Option Kind} None (Some kind.End) = end in absurd cc;
   };
 }
 
 -- ---- the open row is closed
 
 -- the tables keep their sizes whatever is kept of the rows
-sized_beside : (g : Gathering) (rows : List (Row_of Value)) (line : Option RowLine) (row_cells : List (Cell_at Value)) → IsSized g
+pub sized_beside : (g : Gathering) (rows : List (Row_of Value)) (line : Option RowLine) (row_cells : List (Cell_at Value)) → IsSized g
     → IsSized (record g { rows = rows; line = line; row_cells = row_cells })
 sized_beside g rows line row_cells s = record { cells = s.cells; init = s.init; inputs = s.inputs; outputs = s.outputs; places = s.places; counts = s.counts }
 
@@ -163,19 +127,25 @@ line_gone g m (Some line) is closes = subst (λ (h : Gathering). h.line ≡ None
 count_kept : (g : Gathering) (line : RowLine) (row : Row_of Value) → g.line ≡ Some line → length (g.rows ++ row ∷ []) + 0 ≡ row_count g
 count_kept g line row is = let longer = length-append g.rows (row ∷ []) in rw is (omega (arith, longer))
 
-part_kept : (ports : Registers) (g : Gathering) (line : RowLine) (row : Row_of Value) → g.line ≡ Some line → (statement : Statement) → EndsRow statement
-    → part_fault ports (record g { rows = g.rows ++ row ∷ []; line = None; row_cells = [] }) statement ≡ part_fault ports g statement
-part_kept ports g line row is (Row next) ends = rw (count_kept g line row is) refl
-part_kept ports g line row is End ends = rw (count_kept g line row is) refl
-part_kept ports g line row is (At entry) ends = absurd ends
-part_kept ports g line row is _ ends = refl
+clear_kept : (g : Gathering) (line : RowLine) (row : Row_of Value) → g.line ≡ Some line → (statement : Statement) → EndsRow statement → IsClear g statement
+    → IsClear (record g { rows = g.rows ++ row ∷ []; line = None; row_cells = [] }) statement
+clear_kept g line row kept (Start location) ends is = tt
+clear_kept g line row kept (EntryOf Cell entry) ends is = record { place = is.place; once = is.once; some = is.some; within = is.within; room = refl }
+clear_kept g line row kept (EntryOf Init entry) ends is = record { place = is.place; once = is.once; some = is.some; within = is.within; room = refl }
+clear_kept g line row kept (EntryOf In entry) ends is = record { place = is.place; once = is.once; some = is.some; within = is.within; room = refl }
+clear_kept g line row kept (EntryOf Out entry) ends is = record { place = is.place; once = is.once; some = is.some; within = is.within; room = refl }
+clear_kept g line row kept (EntryOf At entry) ends is = absurd ends
+clear_kept g line row kept (May location) ends is = tt
+clear_kept g line row kept (Row next) ends is =
+    record { a = is.a; q = is.q; few = subst (λ (n : ℕ). n < 20000) (sym (count_kept g line row kept)) is.few; room = is.room }
+clear_kept g line row kept End ends is = subst (λ (n : ℕ). 1 ≤ n) (sym (count_kept g line row kept)) is
 
-pub fine_shut : (ports : Registers) (g m : Gathering) (line : Option RowLine) → g.line ≡ line → Closes line g m → (statement : Statement)
-    → EndsRow statement → IsFine ports g statement → IsFine ports m statement
-fine_shut ports g m None is closes statement ends fine = subst (λ (h : Gathering). IsFine ports h statement) (sym closes) fine
-fine_shut ports g m (Some line) is closes statement ends fine = subst (λ (h : Gathering). IsFine ports h statement) (sym closes.2) (record {
+pub fine_shut : (g m : Gathering) (line : Option RowLine) → g.line ≡ line → Closes line g m → (statement : Statement)
+    → EndsRow statement → IsFine g statement → IsFine m statement
+fine_shut g m None is closes statement ends fine = subst (λ (h : Gathering). IsFine h statement) (sym closes) fine
+fine_shut g m (Some line) is closes statement ends fine = subst (λ (h : Gathering). IsFine h statement) (sym closes.2) (record {
   order = fine.order;
-  part = part_kept ports g line closes.0 is statement ends ∙ fine.part;
+  part = clear_kept g line closes.0 is statement ends fine.part;
 })
 
 pub counts_shut : (g m : Gathering) (line : Option RowLine) → Closes line g m → m.counts ≡ g.counts
@@ -185,13 +155,13 @@ counts_shut g m (Some line) closes = ap (λ (h : Gathering). h.counts) closes.2
 -- ---- a statement is added
 
 sized_more : (m : Gathering) (statement : Statement) → IsSized m → IsSized (with_statement m statement)
-sized_more m (Cell entry) s =
+sized_more m (EntryOf Cell entry) s =
     record { cells = length-set m.cells entry.address entry.value ∙ s.cells; init = s.init; inputs = s.inputs; outputs = s.outputs; places = s.places; counts = s.counts }
-sized_more m (Init entry) s =
+sized_more m (EntryOf Init entry) s =
     record { cells = s.cells; init = length-set m.init entry.address entry.value ∙ s.init; inputs = s.inputs; outputs = s.outputs; places = s.places; counts = s.counts }
-sized_more m (In entry) s =
+sized_more m (EntryOf In entry) s =
     record { cells = s.cells; init = s.init; inputs = length-set m.inputs entry.address entry.value ∙ s.inputs; outputs = s.outputs; places = s.places; counts = s.counts }
-sized_more m (Out entry) s =
+sized_more m (EntryOf Out entry) s =
     record { cells = s.cells; init = s.init; inputs = s.inputs; outputs = length-set m.outputs entry.address entry.value ∙ s.outputs; places = s.places; counts = s.counts }
 sized_more m (May location) s =
     record { cells = s.cells; init = s.init; inputs = s.inputs; outputs = s.outputs; places = length-set m.places location true ∙ s.places; counts = s.counts }
@@ -207,37 +177,43 @@ sized_more m _ s = record { cells = s.cells; init = s.init; inputs = s.inputs; o
 
 -- the last kind was no higher than the kind of a statement that stands in order, and wasn't the end
 module _ (m : Gathering) (sound : IsSound m) (shut : m.line ≡ None) where
+  no_init_yet : kinds_come m.last ≤ 2 → (address : ℕ) → stated m.init address ≡ None
+  no_init_yet low = sound.early.no_init low
+
+  no_rows_yet : kinds_come m.last ≤ 6 → m.rows ≡ []
+  no_rows_yet low = sound.early.no_rows low
+
   -- a kind up to the named places: no row was stated
-  early_kind : (kind : ℕ) (init : List (Option Value)) → m.last ≤ kind → kind ≤ 6 → (kind ≤ 2 → (address : ℕ) → stated init address ≡ None)
-      → IsEarly kind init m.rows m.line m.row_cells
-  early_kind kind init order low none = record {
-    no_init = none;
-    no_rows = λ least. sound.early.no_rows (omega (arith, order, low));
+  early_kind : (its : Option Kind) (number : ℕ) (init : List (Option Value)) → kinds_come its ≡ number → kinds_come m.last ≤ number → number ≤ 6
+      → (number ≤ 2 → (address : ℕ) → stated init address ≡ None) → IsEarly its init m.rows m.line m.row_cells
+  early_kind its number init own order low none = record {
+    no_init = λ least. none (let few : kinds_come its ≤ 2 = least in omega (arith, few, own));
+    no_rows = λ least. no_rows_yet (omega (arith, order, low));
     no_line = λ least. shut;
     no_cells = sound.early.no_cells;
-    ended = λ end. absurd (omega (arith, end, low));
-    some_row = λ end. absurd (omega (arith, end, low));
+    ended = λ end. shut;
+    some_row = λ end. absurd (let last : kinds_come its ≡ 8 = ap kinds_come end in omega (arith, last, own, low));
   }
 
   no_cells : m.row_cells ≡ []
   no_cells = sound.early.no_cells shut
 
   -- a row, or the end
-  late_kind : (kind : ℕ) (line : Option RowLine) → 7 ≤ kind → (kind ≡ 8 → line ≡ None) → (kind ≡ 8 → 1 ≤ length m.rows)
-      → IsEarly kind m.init m.rows line m.row_cells
-  late_kind kind line late ended some_row = record {
-    no_init = λ low. absurd (omega (arith, low, late));
-    no_rows = λ low. absurd (omega (arith, low, late));
-    no_line = λ low. absurd (omega (arith, low, late));
+  late_kind : (its : Option Kind) (number : ℕ) (line : Option RowLine) → kinds_come its ≡ number → 7 ≤ number → (its ≡ Some kind.End → line ≡ None)
+      → (its ≡ Some kind.End → 1 ≤ length m.rows) → IsEarly its m.init m.rows line m.row_cells
+  late_kind its number line own late ended some_row = record {
+    no_init = λ low. absurd (let few : kinds_come its ≤ 2 = low in omega (arith, few, own, late));
+    no_rows = λ low. absurd (let few : kinds_come its ≤ 6 = low in omega (arith, few, own, late));
+    no_line = λ low. absurd (let few : kinds_come its ≤ 6 = low in omega (arith, few, own, late));
     no_cells = λ none. no_cells;
     ended = ended;
     some_row = some_row;
   }
 
-  inside_cell : (entry : Entry) → m.last ≤ 2 → AreInside (set m.cells entry.address entry.value) m.init m.rows m.row_cells
+  inside_cell : (entry : Entry) → kinds_come m.last ≤ 2 → AreInside (set m.cells entry.address entry.value) m.init m.rows m.row_cells
   inside_cell entry low = record {
-    firsts = λ address. rw (sound.early.no_init low address) refl;
-    in_rows = rw (sound.early.no_rows (omega (arith, low))) (All-nil (RowInside (set m.cells entry.address entry.value)));
+    firsts = λ address. rw (no_init_yet low address) refl;
+    in_rows = rw (no_rows_yet (omega (arith, low))) (All-nil (RowInside (set m.cells entry.address entry.value)));
     in_cells = λ address. rw no_cells refl;
   }
 
@@ -281,65 +257,76 @@ module _ (m : Gathering) (sound : IsSound m) (shut : m.line ≡ None) where
 
   start_more : (statement : Statement) → IsStatement statement → (with_statement m statement).start < 4096
   start_more (Start location) is = is
+  start_more (EntryOf Cell entry) is = sound.start
   start_more _ is = sound.start
 
-  closable_more : (ports : Registers) (statement : Statement) → IsFine ports m statement → IsStatement statement → EndsRow statement
+  closable_more : (statement : Statement) → IsFine m statement → IsStatement statement → EndsRow statement
       → IsOpenRow (with_statement m statement).line (with_statement m statement).row_cells
-  closable_more ports (Row row) fine is ends =
-      let c = clear_row ports m row fine.part in
-      record { line = is; a = c.a; q = c.q; few = sound.closable.few; ascending = sound.closable.ascending }
-  closable_more ports (At entry) fine is ends = absurd ends
-  closable_more ports _ fine is ends = sound.closable
+  closable_more (Row row) fine is ends = record { line = is; a = fine.part.a; q = fine.part.q; few = sound.closable.few; ascending = sound.closable.ascending }
+  closable_more (EntryOf At entry) fine is ends = absurd ends
+  closable_more _ fine is ends = sound.closable
 
-  few_more : (ports : Registers) (statement : Statement) → IsFine ports m statement → IsPlaced m.counts statement
+  few_more : (statement : Statement) → IsFine m statement → IsPlaced m.counts statement
       → AreFew (with_statement m statement).rows (with_statement m statement).line (with_statement m statement).counts
-  few_more ports (Row row) fine inside = let c = clear_row ports m row fine.part in few_row row (rw sound.sized.counts inside.0) c.few c.room
-  few_more ports _ fine inside = sound.few
+  few_more (Row row) fine inside = few_row row (rw sound.sized.counts inside.0) fine.part.few fine.part.room
+  few_more (EntryOf Cell entry) fine inside = sound.few
+  few_more _ fine inside = sound.few
 
-  inside_more : (ports : Registers) (statement : Statement) → IsFine ports m statement → IsPlaced m.counts statement → EndsRow statement
+  inside_more : (statement : Statement) → IsFine m statement → IsPlaced m.counts statement → EndsRow statement
       → AreInside (with_statement m statement).cells (with_statement m statement).init (with_statement m statement).rows (with_statement m statement).row_cells
-  inside_more ports (Cell entry) fine inside ends = inside_cell entry (no_higher m.last 2 fine.order)
-  inside_more ports (Init entry) fine inside ends =
-      let c = clear_entry _ _ entry.value _ fine.part in
-      let within = (clear _ _ _ c.later).0 in
-      record {
-        firsts = λ address. first_inside entry (rw sound.sized.init inside) within address (entry.address == address) refl;
-        in_rows = sound.inside.in_rows;
-        in_cells = sound.inside.in_cells;
-      }
-  inside_more ports (At entry) fine inside ends = absurd ends
-  inside_more ports _ fine inside ends = sound.inside
+  inside_more (EntryOf Cell entry) fine inside ends = inside_cell entry (no_higher m.last kind.Cell fine.order)
+  inside_more (EntryOf Init entry) fine inside ends = record {
+    firsts = λ address. first_inside entry (rw sound.sized.init inside) fine.part.within address (entry.address == address) refl;
+    in_rows = sound.inside.in_rows;
+    in_cells = sound.inside.in_cells;
+  }
+  inside_more (EntryOf At entry) fine inside ends = absurd ends
+  inside_more _ fine inside ends = sound.inside
 
-  early_more : (ports : Registers) (statement : Statement) → IsFine ports m statement → EndsRow statement
+  -- what is in the table of the start says nothing to a kind behind it
+  behind_start : (least : ℕ) (init : List (Option Value)) → 3 ≤ least → least ≤ 2 → (address : ℕ) → stated init address ≡ None
+  behind_start least init late low = absurd (omega (arith, late, low))
+
+  early_more : (statement : Statement) → IsFine m statement → EndsRow statement
       → IsEarly (with_statement m statement).last (with_statement m statement).init (with_statement m statement).rows (with_statement m statement).line (with_statement m statement).row_cells
-  early_more ports (Start location) fine ends =
-      let none = same_of m.last 0 fine.order in early_kind 1 m.init (omega (arith, none)) (omega arith) (λ low. sound.early.no_init (omega (arith, none)))
-  early_more ports (Cell entry) fine ends =
-      let low = no_higher m.last 2 fine.order in early_kind 2 m.init low (omega arith) (λ least. sound.early.no_init low)
-  early_more ports (Row row) fine ends = late_kind 7 (Some row) (omega arith) (λ end. absurd (omega (arith, end))) (λ end. absurd (omega (arith, end)))
-  early_more ports (At entry) fine ends = absurd ends
-  early_more ports End fine ends = late_kind 8 m.line (omega arith) (λ end. shut) (λ end.
-      let some = some_left (row_count m) (clear _ _ _ fine.part).0 in
-      let count : 1 ≤ length m.rows + 0 = rw shut at some in
+  early_more (Start location) fine ends =
+      let none : kinds_come m.last ≡ 0 = ap kinds_come (none_last m.last fine.order) in
+      early_kind (Some kind.Start) 1 m.init refl (omega (arith, none)) (omega arith) (λ low. no_init_yet (omega (arith, none)))
+  early_more (EntryOf Cell entry) fine ends =
+      let low : kinds_come m.last ≤ 2 = no_higher m.last kind.Cell fine.order in early_kind (Some kind.Cell) 2 m.init refl low (omega arith) (λ least. no_init_yet low)
+  early_more (EntryOf Init entry) fine ends =
+      let init = set m.init entry.address entry.value in
+      early_kind (Some kind.Init) 3 init refl (no_higher m.last kind.Init fine.order) (omega arith) (behind_start 3 init (omega arith))
+  early_more (EntryOf In entry) fine ends =
+      early_kind (Some kind.In) 4 m.init refl (no_higher m.last kind.In fine.order) (omega arith) (behind_start 4 m.init (omega arith))
+  early_more (EntryOf Out entry) fine ends =
+      early_kind (Some kind.Out) 5 m.init refl (no_higher m.last kind.Out fine.order) (omega arith) (behind_start 5 m.init (omega arith))
+  early_more (EntryOf At entry) fine ends = absurd ends
+  early_more (May location) fine ends =
+      early_kind (Some kind.May) 6 m.init refl (no_higher m.last kind.May fine.order) (omega arith) (behind_start 6 m.init (omega arith))
+  early_more (Row row) fine ends = late_kind (Some kind.Row) 7 (Some row) refl (omega arith) (λ end. absurd (no_end end)) (λ end. absurd (no_end end))
+    where
+      no_end : ◌≡◌ {A = Option Kind} (Some kind.Row) (Some kind.End) → ⊥
+      no_end end = let clash : ◌≡◌ {A = ℕ} 7 8 = ap kinds_come end in omega (arith, clash)
+  early_more End fine ends = late_kind (Some kind.End) 8 m.line refl (omega arith) (λ end. shut) (λ end.
+      let count : 1 ≤ length m.rows + 0 = rw shut at fine.part in
       omega (arith, count))
-  early_more ports statement fine ends =
-      early_kind (kind_number statement) (with_statement m statement).init (no_higher m.last (kind_number statement) fine.order) (omega arith) (λ least. absurd (omega (arith, least)))
 
-  pub sound_more : (ports : Registers) (statement : Statement) → IsFine ports m statement → IsStatement statement → IsPlaced m.counts statement
+  pub sound_more : (statement : Statement) → IsFine m statement → IsStatement statement → IsPlaced m.counts statement
       → EndsRow statement → IsSound (with_statement m statement)
-  sound_more ports statement fine is inside ends = record {
+  sound_more statement fine is inside ends = record {
     sized = sized_more m statement sound.sized;
     start = start_more statement is;
-    closable = closable_more ports statement fine is ends;
-    few = few_more ports statement fine inside;
-    inside = inside_more ports statement fine inside ends;
-    early = early_more ports statement fine ends;
+    closable = closable_more statement fine is ends;
+    few = few_more statement fine inside;
+    inside = inside_more statement fine inside ends;
+    early = early_more statement fine ends;
   }
 
 -- ---- a cell of the open row
 
 module _ (g : Gathering) (sound : IsSound g) (entry : Entry) (once : has_cell g.row_cells entry.address ≡ false) (below : entry.address < 2048)
-    (few : length g.row_cells < 64) (last : g.last ≡ 7) (within : is_outside entry.value (stated g.cells entry.address) ≡ false) where
+    (few : length g.row_cells < 64) (within : is_outside entry.value (stated g.cells entry.address) ≡ false) where
   cell_inside : (value : Value) → entry.value ≡ Some value → (address : ℕ) (b : Bool) → (entry.address == address) ≡ b
       → is_outside (if entry.address == address then Some value else value_among g.row_cells address) (stated g.cells address) ≡ false
   cell_inside value is address true same =
@@ -375,9 +362,8 @@ module _ (g : Gathering) (sound : IsSound g) (entry : Entry) (once : has_cell g.
     };
   }
 
-pub sound_at : (ports : Registers) (g : Gathering) (entry : Entry) → IsSound g → IsFine ports g (At entry) → (g.line ≡ None → ⊥)
-    → IsSound (with_statement g (At entry))
-sound_at ports g entry sound fine never =
-    let c = clear_entry _ _ entry.value _ fine.part in
-    let later = clear _ _ _ c.later in
-    at_sound g sound entry c.once (erasable entry.address c.place) (room (length g.row_cells) 64 (clear _ _ _ later.1).0) (same_of g.last 7 fine.order) later.0 entry.value refl never
+pub sound_at : (g : Gathering) (entry : Entry) → IsSound g → IsFine g (EntryOf At entry) → (g.line ≡ None → ⊥)
+    → IsSound (with_statement g (EntryOf At entry))
+sound_at g entry sound fine never =
+    subst (λ (last : Option Kind). IsSound (record g { last = last; row_cells = with_entry entry entry.value g.row_cells })) (last_row g.last fine.order)
+    (at_sound g sound entry fine.part.once (below_fixed g entry fine) (room (length g.row_cells) 64 fine.part.room) fine.part.within entry.value refl never)

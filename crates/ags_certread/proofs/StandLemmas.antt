@@ -1,17 +1,18 @@
 -- Lines that were taken one after the other, and the reader that took them in pieces.
-use Rattle.std.proofs.Common.{◌≡◌, ℕ, zero, suc, ◌+◌, ◌-◌, ◌^◌, ◌<◌, ◌≤◌, min, eqb, true, false, ◌==◌, refl, sym, subst, ◌∙◌, List, [], ◌∷◌, ◌++◌, length, Some, None, append_assoc, length-append, arith}
+use Rattle.std.proofs.Common.{◌≡◌, ℕ, zero, suc, ◌+◌, ◌-◌, ◌^◌, ◌<◌, ◌≤◌, min, eqb, true, false, refl, sym, subst, ◌∙◌, List, [], ◌∷◌, ◌++◌, length, Some, None, append_assoc, length-append, arith}
 use Rattle.std.specs.Prelude.{Result, Ok, Err, IfOk, IfErr}
 use Rattle.std.specs.Str.Lines.{strip_carriage_return}
 use Rattle.std.proofs.lemmas.List.{append-nil}
-use Rattle.ags_text.specs.Line.{LineAt, Follow, HasNoFeed, lines_of}
-use Rattle.ags_text.proofs.FollowLemmas.{lines_follow}
+use Rattle.ags_text.specs.Line.{LineAt, HasNoFeed, lines_of}
 use Rattle.ags_ports.specs.Port.{Registers}
 use Rattle.ags_certtype.specs.Cert.{Stated as Cert_stated}
 use Rattle.ags_certtext.specs.declared.cert_error.CertKind.{CertKind}
 use Rattle.ags_certtext.specs.declared.cert_error.CertKind.TheVariants.{BadLine}
 use Rattle.ags_certtext.specs.declared.cert_error.CertError.{CertError}
 use Rattle.ags_certtext.specs.declared.cert_error.CertError.TheVariants.{At as AtLine}
+use Rattle.ags_certtext.specs.declared.kinds.Kind.TheVariants as kind
 use Rattle.ags_certtext.specs.declared.statements.Statement.{Statement}
+use Rattle.ags_certtext.specs.Kind.{is_last}
 use Rattle.ags_certtext.specs.Reading.{Reading, Opening, OtherOpening, Stated, Skipped, Malformed, Ended, IsFirstReading}
 use Rattle.ags_certtext.specs.Text.{IsCertOf, IsFaultyCert, IsRefused}
 use Rattle.ags_certread.specs.Gathering.{Gathering, IsCertOfGathering, gathering_of, nothing_stated}
@@ -20,22 +21,23 @@ use Rattle.ags_certread.specs.LineTaken.{TakesLine, TakesReading, TellsFault, be
 use Rattle.ags_text.specs.Piece.{HasEnded, line_of}
 use Rattle.ags_certread.specs.NextState.{IsNext, IsWhole}
 use Rattle.ags_certread.specs.Pieces.{Standing, TookCert}
+use Rattle.ags_certread.specs.Before.{Stands}
+use Rattle.ags_certread.specs.Sound.{IsSound}
 use Rattle.ags_certread.specs.Gathered.{Gathers, IsOpening, AreTaken, IsOfLines}
 use Rattle.ags_certread.specs.declared.gatherer.Gatherer.{Gatherer}
 use Rattle.ags_certread.specs.declared.states.State.{State}
 use Rattle.ags_certread.specs.declared.states.State.TheVariants as state
 use Rattle.ags_certread.proofs.ExistenceLemmas.{have_readings}
-use Rattle.ags_certread.proofs.GatherLemmas.{IsGathered-none}
+use Rattle.ags_certread.proofs.GatherLemmas.{Gathered-none}
 use Rattle.ags_text.proofs.PieceLemmas.{ended_none, ended_more, ended_feed, ended_all, ended_long}
 use Rattle.ags_certread.proofs.ReadLemmas.{SoFar, SoFar-first, SoFar-more, SoFar-fault, SoFar-missing, SoFar-all, opening_refused, empty_refused}
-use Rattle.ags_certread.proofs.SoundLemmas.{IsSound, IsSound-none}
-use Rattle.ags_certread.proofs.TakeLemmas.{Stands, taken}
+use Rattle.ags_certread.proofs.SoundLemmas.{IsSound-none}
 
 -- ---- what was gathered of lines is sound
 
 stands_line : (ports : Registers) (before : List Statement) (g h : Gathering) → Stands before g → (reading : Reading) → TakesReading ports g reading h
     → (after : List Statement) × Stands after h
-stands_line ports before g h stands (Stated statement) takes = (statement ∷ before, taken ports before g stands statement h takes.0 takes.1 takes.2)
+stands_line ports before g h stands (Stated statement) takes = (statement ∷ before, (takes before stands).1)
 stands_line ports before g h stands Skipped same = (before, subst (λ (k : Gathering). Stands before k) (sym same) stands)
 stands_line ports before g h stands Opening takes = absurd takes
 stands_line ports before g h stands OtherOpening takes = absurd takes
@@ -49,12 +51,11 @@ stands_lines ports before g (line ∷ lines) h stands gathers =
     let next = stands_line ports before g gathers.0 stands gathers.1.0 gathers.1.2 in
     stands_lines ports next.0 gathers.0 lines h next.1 gathers.2
 
-pub stood_sound : (ports : Registers) (g : Gathering) → IsOfLines ports g → IsSound g
-stood_sound ports g (lines, gathers) =
-    (stands_lines ports [] nothing_stated lines g (record { gathered = IsGathered-none; sound = IsSound-none }) gathers).1.sound
+pub stood : (ports : Registers) (g : Gathering) → IsOfLines ports g → (before : List Statement) × Stands before g
+stood ports g (lines, gathers) = stands_lines ports [] nothing_stated lines g (record { gathered = Gathered-none; sound = IsSound-none }) gathers
 
-pub stood_none : (ports : Registers) (g : Gathering) → g ≡ nothing_stated → IsOfLines ports g
-stood_none ports g same = ([], same)
+pub stood_sound : (ports : Registers) (g : Gathering) → IsOfLines ports g → IsSound g
+stood_sound ports g is = (stood ports g is).1.sound
 
 pub gathers_push : (ports : Registers) (g : Gathering) (lines : List LineAt) (m h : Gathering) (line : LineAt) → Gathers ports g lines m → TakesLine ports m line.bytes h
     → Gathers ports g (lines ++ line ∷ []) h
@@ -80,7 +81,7 @@ gathered_so_far ports text g (line ∷ lines) left h number so (mid, takes, rest
 
 opened : (ports : Registers) (text : List ℕ) (first : LineAt) (left : List LineAt) → lines_of text ≡ first ∷ left → IsOpening first → SoFar ports text left nothing_stated 1
 opened ports text first left whole (reading, is, none) =
-    SoFar-first ports text first left reading nothing_stated whole (subst (λ (ls : List LineAt). Follow text 0 ls) whole (lines_follow text)) is none refl
+    SoFar-first ports text first left reading nothing_stated whole is none refl
 
 taken_so_far : (ports : Registers) (text : List ℕ) (ended left : List LineAt) (g : Gathering) → lines_of text ≡ ended ++ left → AreTaken ports ended g → 0 < length ended
     → SoFar ports text left g (length ended)
@@ -90,12 +91,6 @@ taken_so_far ports text (first ∷ more) left g whole (opens, gathers) some =
     subst (λ (n : ℕ). SoFar ports text left g n) sum (gathered_so_far ports text nothing_stated more left g 1 (opened ports text first (more ++ left) whole opens) gathers)
 
 -- ---- a line that comes next
-
--- what comes of the next line of a text
-abbrev pub ComesOf : Registers → (text : List ℕ) → List LineAt → State → Type 0
-ComesOf ports text ended (state.Open h) = AreTaken ports ended (gathering_of h)
-ComesOf ports text ended (state.Told l kind) = IsFaultyCert ports text l kind
-ComesOf ports text ended state.Spent = ⊥
 
 taken_more : (ports : Registers) (ended : List LineAt) (line : LineAt) (g h : Gathering) → AreTaken ports ended g
     → (length ended ≡ 0 → IsOpening line × (h ≡ g)) → (0 < length ended → TakesLine ports g line.bytes h) → AreTaken ports (ended ++ line ∷ []) h
@@ -134,7 +129,7 @@ long_fault ports text ended left line g whole are long = none_or_some (length en
     (λ none. fault_first ports text ended left line g (length ended + 1) BadLine whole none
     (omega (arith, none), (Malformed, (λ opens. omega (arith, opens.most, long), λ opens. omega (arith, opens.most, long)), refl)))
     (λ some. fault_further ports text ended left line g (length ended + 1) BadLine whole are some
-    (refl, (Malformed, (λ statement spells. omega (arith, spells.most, long), λ skipped. omega (arith, skipped.most, long)), refl)))
+    (refl, (Malformed, (λ statement spells. omega (arith, spells.most, long), λ skipped. omega (arith, skipped.most, long)), λ before gathered. refl)))
 
 -- ---- the reader
 
@@ -233,12 +228,12 @@ module _ (ports : Registers) (text : List ℕ) (g : Gathering) (number : ℕ) (a
   pub whole_empty : number ≡ 0 → IsFaultyCert ports text 1 BadLine
   whole_empty none = empty_refused ports text (none_ended all.ended all.whole (sym all.many ∙ none))
 
-  pub whole_missing : 0 < number → (g.last == 8) ≡ false → (next : ℕ) → next ≡ min (number + 1) (2 ^ 32 - 1) → IsFaultyCert ports text next BadLine
+  pub whole_missing : 0 < number → is_last kind.End g.last ≡ false → (next : ℕ) → next ≡ min (number + 1) (2 ^ 32 - 1) → IsFaultyCert ports text next BadLine
   whole_missing some missing next is =
       let at : number + 1 ≡ next = omega (arith, is, all.few) in
       subst (λ (n : ℕ). IsFaultyCert ports text n BadLine) at (SoFar-missing ports text g number (so_far_all some) missing)
 
-  pub whole_read : 0 < number → (cert : Cert_stated) → (g.last == 8) ≡ true → IsCertOfGathering g cert → IsCertOf ports text cert
+  pub whole_read : 0 < number → (cert : Cert_stated) → is_last kind.End g.last ≡ true → IsCertOfGathering g cert → IsCertOf ports text cert
   whole_read some cert ended is = SoFar-all ports text g number (so_far_all some) cert ended is
 
 -- nothing stands behind the last feed, or a line does

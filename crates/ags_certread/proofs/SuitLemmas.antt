@@ -19,13 +19,15 @@ use Rattle.ags_certtext.specs.declared.cert_error.CertKind.{CertKind}
 use Rattle.ags_certtext.specs.declared.cert_error.CertKind.TheVariants.{BadLine, Twice}
 use Rattle.ags_certtext.specs.declared.statements.Entry.{Entry}
 use Rattle.ags_certtext.specs.declared.statements.Statement.{Statement}
-use Rattle.ags_certtext.specs.declared.statements.Statement.TheVariants.{In, Out}
-use Rattle.ags_certtext.specs.Statement.{in_entry, out_entry, entries, value_at, last_kind}
-use Rattle.ags_certtext.specs.Fault.{fault_if, has_register, lacks_zero, reading_fault, statement_fault, fault_after, is_second_start, stands_in_order}
+use Rattle.ags_certtext.specs.declared.statements.Statement.TheVariants.{Entry as EntryOf}
+use Rattle.ags_certtext.specs.declared.statements.Table.{Table}
+use Rattle.ags_certtext.specs.declared.statements.Table.TheVariants.{In, Out}
+use Rattle.ags_certtext.specs.Statement.{entry_in, entries, value_at}
+use Rattle.ags_certtext.specs.Kind.{is_second_start, last_kind, stands_in_order}
+use Rattle.ags_certtext.specs.Fault.{fault_if, has_register, is_unmet, lacks_zero, reading_fault, statement_fault, fault_after}
 use Rattle.ags_certtext.specs.Reading.{Reading, Stated, statement_of}
 use Rattle.ags_certtext.specs.Text.{IsCertOf, IsLimit}
-use Rattle.ags_certread.specs.Gathering.{is_unmet}
-use Rattle.ags_certread.proofs.FaultLemmas.{clear, clear_entry}
+use Rattle.ags_certread.proofs.FaultLemmas.{clear, no_fault}
 use Rattle.ags_certread.proofs.CheckLemmas.{is_false}
 use Rattle.ags_certread.proofs.TableLemmas.{same_of}
 
@@ -36,10 +38,6 @@ InputSuits ports entry = (has_register ports.inputs entry.address ≡ true) × (
 -- an entry is one of an output register
 abbrev pub OutputSuits : Registers → Entry → Type 0
 OutputSuits ports entry = has_register ports.outputs entry.address ≡ true
-
-not_false : (b : Bool) → not b ≡ false → b ≡ true
-not_false true is = refl
-not_false false is = let clash : true ≡ false = is in absurd cc
 
 here_none : (number : ℕ) (found : Option CertKind) (later : Option (ℕ × CertKind)) → or_later number found later ≡ None → (found ≡ None) × (later ≡ None)
 here_none number None later none = (refl, none)
@@ -57,30 +55,29 @@ part_none ports before statement none =
     (clear (not (stands_in_order (last_kind before) statement)) BadLine (statement_fault ports before statement) first.1).1
 
 -- What holds of the entry of a statement without a fault, where the statement is of one kind, holds of all entries of that kind.
-module _ (ports : Registers) (chosen : Statement → Option Entry) (Holds : Entry → Type 0)
-    (holds : (before : List Statement) (statement : Statement) → statement_fault ports before statement ≡ None → IfSome (chosen statement) Holds) where
+module _ (ports : Registers) (table : Table) (Holds : Entry → Type 0)
+    (holds : (before : List Statement) (statement : Statement) → statement_fault ports before statement ≡ None → IfSome (entry_in table statement) Holds) where
   with_one : (found : Option Entry) (others : List Entry) → IfSome found Holds → AllByRecursion Holds others → AllByRecursion Holds (cons_option found others)
   with_one None others here all = all
   with_one (Some entry) others here all = (here, all)
 
   entries_hold : (before readings : List Reading) → first_fault (reading_fault ports) before readings ≡ None
-      → AllByRecursion Holds (entries chosen (filter_map statement_of readings))
+      → AllByRecursion Holds (entries table (filter_map statement_of readings))
   entries_hold before [] none = tt
   entries_hold before (Stated statement ∷ rest) none =
       let parts = first_none ports before (Stated statement) rest none in
       let here = holds (filter_map statement_of before) statement (part_none ports (filter_map statement_of before) statement parts.0) in
-      with_one (chosen statement) (entries chosen (filter_map statement_of rest)) here (entries_hold (Stated statement ∷ before) rest parts.1)
+      with_one (entry_in table statement) (entries table (filter_map statement_of rest)) here (entries_hold (Stated statement ∷ before) rest parts.1)
   entries_hold before (reading ∷ rest) none = entries_hold (reading ∷ before) rest (first_none ports before reading rest none).1
 
 input_suits : (ports : Registers) (before : List Statement) (statement : Statement) → statement_fault ports before statement ≡ None
-    → IfSome (in_entry statement) (InputSuits ports)
-input_suits ports before (In entry) none =
-    let c = clear_entry _ _ entry.value _ none in (not_false (has_register ports.inputs entry.address) c.place, (clear _ _ _ c.later).0)
+    → IfSome (entry_in In statement) (InputSuits ports)
+input_suits ports before (EntryOf In entry) none = let its = no_fault ports before In entry none in (its.place, its.zero)
 input_suits ports before _ none = tt
 
 output_suits : (ports : Registers) (before : List Statement) (statement : Statement) → statement_fault ports before statement ≡ None
-    → IfSome (out_entry statement) (OutputSuits ports)
-output_suits ports before (Out entry) none = not_false (has_register ports.outputs entry.address) (clear_entry _ _ entry.value _ none).place
+    → IfSome (entry_in Out statement) (OutputSuits ports)
+output_suits ports before (EntryOf Out entry) none = (no_fault ports before Out entry none).place
 output_suits ports before _ none = tt
 
 -- ---- what is found at an address
@@ -156,17 +153,17 @@ past_every limits tables address past = get_or_past limits.inputs address limits
 pub suits : (machine : Machine) (text : List ℕ) (cert : Cert_stated) → IsCertOf machine.ports text cert → Suits value_meaning machine (certificate_of cert)
 suits machine text cert is =
     let statements : List Statement = filter_map statement_of is.readings in
-    let inputs = entries_hold machine.ports in_entry (InputSuits machine.ports) (input_suits machine.ports) [] is.readings is.faultless in
-    let outputs = entries_hold machine.ports out_entry (OutputSuits machine.ports) (output_suits machine.ports) [] is.readings is.faultless in
+    let inputs = entries_hold machine.ports In (InputSuits machine.ports) (input_suits machine.ports) [] is.readings is.faultless in
+    let outputs = entries_hold machine.ports Out (OutputSuits machine.ports) (output_suits machine.ports) [] is.readings is.faultless in
     record {
-      inputs = λ address below none. full_input machine.ports address (value_at (entries in_entry statements) address) (input_limit cert.limits address)
-          (found_hold (InputSuits machine.ports) (entries in_entry statements) address inputs) (is.is_stated.limits.inputs address below) none;
-      outputs = λ address below none. full_output machine.ports address (value_at (entries out_entry statements) address) (output_limit cert.limits address)
-          (found_hold (OutputSuits machine.ports) (entries out_entry statements) address outputs) (is.is_stated.limits.outputs address below) none;
+      inputs = λ address below none. full_input machine.ports address (value_at (entries In statements) address) (input_limit cert.limits address)
+          (found_hold (InputSuits machine.ports) (entries In statements) address inputs) (is.is_stated.limits.inputs address below) none;
+      outputs = λ address below none. full_output machine.ports address (value_at (entries Out statements) address) (output_limit cert.limits address)
+          (found_hold (OutputSuits machine.ports) (entries Out statements) address outputs) (is.is_stated.limits.outputs address below) none;
       once = λ k d within once.
           let port = get_or machine.ports.inputs k d in ⊎_elim
-          (λ below. holds_zero machine.ports (value_at (entries in_entry statements) port.address) (input_limit cert.limits port.address) k d within
-          (found_hold (InputSuits machine.ports) (entries in_entry statements) port.address inputs) (is.is_stated.limits.inputs port.address below) once)
+          (λ below. holds_zero machine.ports (value_at (entries In statements) port.address) (input_limit cert.limits port.address) k d within
+          (found_hold (InputSuits machine.ports) (entries In statements) port.address inputs) (is.is_stated.limits.inputs port.address below) once)
           (λ past. rw (past_every cert.limits is.is_stated.limits.tables port.address past) (is.is_stated.limits.every.every 0 (omega arith)))
           (cases_lt port.address 4096);
     }

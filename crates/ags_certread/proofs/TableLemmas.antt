@@ -10,6 +10,7 @@ use Rattle.std.proofs.lemmas.List.Sorted.{IsPermutation-reverse, list_any-IsPerm
 use Rattle.ags_domain.specs.declared.values.Value.{Value}
 use Rattle.ags_certtext.specs.declared.statements.Entry.{Entry}
 use Rattle.ags_certtext.specs.Statement.{has_address, value_at}
+use Rattle.ags_certread.specs.Before.{Distinct, IsTable}
 use Rattle.ags_certread.specs.Gathering.{stated}
 
 pub each_same : {E : Type 0} (count : ℕ) (entry : E) (place : ℕ) → get_or (replicate count entry) place entry ≡ entry
@@ -56,10 +57,6 @@ chosen_reversed {X} {Y} h (x ∷ xs) =
     ∙ kept_last h x xs (h x) refl
 
 -- ---- entries of distinct addresses
-
-abbrev pub Distinct : List Entry → Type 0
-Distinct [] = Unit {0}
-Distinct (entry ∷ others) = (has_address others entry.address ≡ false) × Distinct others
 
 none_at : (found : List Entry) (address : ℕ) → has_address found address ≡ false → value_at found address ≡ None
 none_at [] address none = refl
@@ -115,12 +112,6 @@ value_reversed (entry ∷ others) address distinct =
         found_behind (reverse others) (entry ∷ []) address (has_reversed ∙ none) ∙ alone (entry.address == address) refl none
 
 -- ---- tables
-
--- the table has what is found at each address, where no address stands twice
-pub record IsTable (found : List Entry) (table : List (Option Value)) : Type 0 where
-  pub at : (address : ℕ) → stated table address ≡ value_at found address
-  pub has : (address : ℕ) → is_some (stated table address) ≡ has_address found address
-  pub distinct : Distinct found
 
 pub IsTable-none : (count : ℕ) → IsTable [] (replicate count None)
 IsTable-none count = record {

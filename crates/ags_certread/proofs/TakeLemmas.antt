@@ -1,47 +1,64 @@
 -- A statement without a fault is taken: what is kept then stands for it too, and is sound.
-use Rattle.std.proofs.Common.{◌≡◌, ℕ, refl, sym, subst, List, ◌∷◌, None}
+use Rattle.std.proofs.Common.{◌≡◌, ℕ, refl, sym, ap, subst, List, [], ◌∷◌, ◌++◌, Option, Some, None}
 use Rattle.ags_ports.specs.Port.{Registers}
 use Rattle.ags_certtext.specs.declared.statements.Entry.{Entry}
+use Rattle.ags_certtext.specs.declared.statements.RowLine.{RowLine}
 use Rattle.ags_certtext.specs.declared.statements.Statement.{Statement}
-use Rattle.ags_certtext.specs.declared.statements.Statement.TheVariants.{At}
+use Rattle.ags_certtext.specs.declared.statements.Statement.TheVariants.{Entry as EntryOf}
+use Rattle.ags_certtext.specs.declared.statements.Table.TheVariants.{At}
+use Rattle.ags_certtext.specs.Fault.{fault_after}
 use Rattle.ags_certtext.specs.Statement.{IsStatement}
-use Rattle.ags_certread.specs.Gathering.{Gathering, Closes, ClosesBefore, IsPlaced, Takes, gathered_fault, with_statement}
-use Rattle.ags_certread.proofs.TableLemmas.{same_of}
-use Rattle.ags_certread.proofs.FaultLemmas.{EndsRow, fine, placed}
-use Rattle.ags_certread.proofs.GatherLemmas.{IsGathered, IsGathered-more, IsGathered-at, shut}
-use Rattle.ags_certread.proofs.SoundLemmas.{IsSound, counts_shut, fine_shut, line_gone, sound_at, sound_more, sound_shut}
+use Rattle.ags_certread.specs.Before.{Gathered, Stands}
+use Rattle.ags_certread.specs.Gathering.{Gathering, Closes, ClosesBefore, IsPlaced, IsSized, Takes, with_statement}
+use Rattle.ags_certread.proofs.FaultLemmas.{EndsRow, IsFine, fine, last_row, placed}
+use Rattle.ags_certread.proofs.GatherLemmas.{Gathered-more, Gathered-at, shut}
+use Rattle.ags_certread.proofs.SoundLemmas.{counts_shut, fine_shut, line_gone, sized_beside, sound_at, sound_more, sound_shut}
 
--- what is kept stands for the statements, and is sound
-pub record Stands (before : List Statement) (g : Gathering) : Type 0 where
-  pub gathered : IsGathered before g
-  pub sound : IsSound g
-
-module _ (ports : Registers) (before : List Statement) (g : Gathering) (stands : Stands before g) where
-  other_taken : (statement : Statement) (m : Gathering) → IsStatement statement → gathered_fault ports g statement ≡ None → Closes g.line g m
+module _ (before : List Statement) (g : Gathering) (stands : Stands before g) where
+  other_taken : (statement : Statement) (m : Gathering) → IsStatement statement → IsFine g statement → Closes g.line g m
       → EndsRow statement → Stands (statement ∷ before) (with_statement m statement)
-  other_taken statement m is none closes ends =
-      let fine_m = fine_shut ports g m g.line refl closes statement ends (fine ports g statement none) in
+  other_taken statement m is fine_g closes ends =
+      let fine_m = fine_shut g m g.line refl closes statement ends fine_g in
       let sound_m = sound_shut g m g.line refl closes stands.sound in
-      let placed_m = subst (λ (counts : List ℕ). IsPlaced counts statement) (sym (counts_shut g m g.line closes)) (placed ports g statement none is) in
+      let placed_m = subst (λ (counts : List ℕ). IsPlaced counts statement) (sym (counts_shut g m g.line closes)) (placed g statement fine_g is) in
       record {
-        gathered = IsGathered-more ports before m (shut before g m g.line refl closes stands.gathered stands.sound.early.no_cells) sound_m.sized statement fine_m placed_m ends;
-        sound = sound_more m sound_m (line_gone g m g.line refl closes) ports statement fine_m is placed_m ends;
+        gathered = Gathered-more before m (shut before g m g.line refl closes stands.gathered stands.sound.early.no_cells) sound_m.sized statement fine_m placed_m ends;
+        sound = sound_more m sound_m (line_gone g m g.line refl closes) statement fine_m is placed_m ends;
       }
 
-  at_taken : (entry : Entry) (m : Gathering) → gathered_fault ports g (At entry) ≡ None → m ≡ g → Stands (At entry ∷ before) (with_statement m (At entry))
-  at_taken entry m none same =
-      let fine_g = fine ports g (At entry) none in
-      subst (λ (h : Gathering). Stands (At entry ∷ before) (with_statement h (At entry))) (sym same) (record {
-        gathered = IsGathered-at ports before g entry stands.gathered stands.sound.sized fine_g;
-        sound = sound_at ports g entry stands.sound fine_g (λ gone. stands.gathered.some_line (same_of g.last 7 fine_g.order) gone);
+  at_taken : (entry : Entry) (m : Gathering) → IsFine g (EntryOf At entry) → m ≡ g → Stands (EntryOf At entry ∷ before) (with_statement m (EntryOf At entry))
+  at_taken entry m fine_g same =
+      subst (λ (h : Gathering). Stands (EntryOf At entry ∷ before) (with_statement h (EntryOf At entry))) (sym same) (record {
+        gathered = Gathered-at before g entry stands.gathered stands.sound.sized fine_g;
+        sound = sound_at g entry stands.sound fine_g (λ gone. stands.gathered.some_line (last_row g.last fine_g.order) gone);
       })
 
-  by_kind : (statement : Statement) (m : Gathering) → IsStatement statement → gathered_fault ports g statement ≡ None → ClosesBefore statement g m
+  by_kind : (statement : Statement) (m : Gathering) → IsStatement statement → IsFine g statement → ClosesBefore statement g m
       → Stands (statement ∷ before) (with_statement m statement)
-  by_kind (At entry) m is none closes = at_taken entry m none closes
-  by_kind statement m is none closes = other_taken statement m is none closes tt
+  by_kind (EntryOf At entry) m is fine_g closes = at_taken entry m fine_g closes
+  by_kind statement m is fine_g closes = other_taken statement m is fine_g closes tt
 
-  pub taken : (statement : Statement) (h : Gathering) → IsStatement statement → gathered_fault ports g statement ≡ None → Takes g statement h
+  pub taken : (ports : Registers) (statement : Statement) (h : Gathering) → IsStatement statement → fault_after ports before statement ≡ None → Takes g statement h
       → Stands (statement ∷ before) h
-  taken statement h is none takes =
-      subst (λ (k : Gathering). Stands (statement ∷ before) k) (sym takes.added) (by_kind statement takes.between is none takes.closed)
+  taken ports statement h is none takes =
+      subst (λ (k : Gathering). Stands (statement ∷ before) k) (sym takes.added)
+      (by_kind statement takes.between is (fine ports before g stands.gathered statement none) takes.closed)
+
+-- ---- what a statement asks once the row before it is closed
+
+counts_before : (statement : Statement) (g m : Gathering) → ClosesBefore statement g m → m.counts ≡ g.counts
+counts_before (EntryOf At entry) g m same = ap (λ (h : Gathering). h.counts) same
+counts_before statement g m closes = counts_shut g m g.line closes
+
+pub placed_behind : (ports : Registers) (before : List Statement) (g : Gathering) → Gathered before g → (statement : Statement) (m : Gathering) → IsStatement statement
+    → fault_after ports before statement ≡ None → ClosesBefore statement g m → IsPlaced m.counts statement
+placed_behind ports before g gathered statement m is none closes =
+    subst (λ (counts : List ℕ). IsPlaced counts statement) (sym (counts_before statement g m closes)) (placed g statement (fine ports before g gathered statement none) is)
+
+sized_closed : (g m : Gathering) (line : Option RowLine) → Closes line g m → IsSized g → IsSized m
+sized_closed g m None same sized = subst (λ (h : Gathering). IsSized h) (sym same) sized
+sized_closed g m (Some line) closes sized = subst (λ (h : Gathering). IsSized h) (sym closes.2) (sized_beside g (g.rows ++ closes.0 ∷ []) None [] sized)
+
+pub sized_behind : (statement : Statement) (g m : Gathering) → ClosesBefore statement g m → IsSized g → IsSized m
+sized_behind (EntryOf At entry) g m same sized = subst (λ (h : Gathering). IsSized h) (sym same) sized
+sized_behind statement g m closes sized = sized_closed g m g.line closes sized

@@ -4,18 +4,16 @@
 --     one_fault_of      it has one first fault
 --     never_both        and never both
 -- and `SuitLemmas.suits`: a certificate that was read suits the machine.
-use Rattle.std.proofs.Common.{◌≡◌, ℕ, ◌⊎◌, List, [], ◌∷◌, Result, Ok, Err}
-use Rattle.std.specs.Prelude.{IfErr}
+use Rattle.std.proofs.Common.{◌≡◌, ℕ, ◌⊎◌, List, [], ◌∷◌}
 use Rattle.ags_text.specs.Line.{LineAt, lines_of}
 use Rattle.ags_ports.specs.Port.{Registers}
 use Rattle.ags_certtype.specs.Cert.{Stated as Cert_stated}
 use Rattle.ags_certtext.specs.declared.cert_error.CertKind.{CertKind}
-use Rattle.ags_certtext.specs.declared.cert_error.CertError.{CertError}
-use Rattle.ags_certtext.specs.Text.{IsCertOf, IsFaultyCert, IsRefused}
+use Rattle.ags_certtext.specs.Text.{IsCertOf, IsFaultyCert}
 use Rattle.ags_certtext.proofs.ReadingLaws.{one_first_reading, one_reading}
-use Rattle.ags_certread.specs.LineTaken.{HaveReadings, behind_first}
+use Rattle.ags_certread.specs.LineTaken.{behind_first}
 use Rattle.ags_certread.specs.OneMeaning.{HaveNoTwoReadings, FirstHasNoTwoReadings, HasNoTwoReadings}
-use Rattle.ags_certread.proofs.ExistenceLemmas.{have_readings, text_means}
+use Rattle.ags_certread.proofs.ExistenceLemmas.{text_means}
 use Rattle.ags_certread.proofs.MeaningLemmas.{no_two_none, no_two_more, no_two_readings, one_fault, not_both}
 use Rattle.ags_certread.proofs.UniqueLemmas.{one_cert}
 
@@ -23,12 +21,6 @@ use Rattle.ags_certread.proofs.UniqueLemmas.{one_cert}
 
 pub each_text_means : (ports : Registers) (text : List ℕ) → ((cert : Cert_stated) × IsCertOf ports text cert) ⊎ ((line : ℕ) × (kind : CertKind) × IsFaultyCert ports text line kind)
 each_text_means = text_means
-
--- where it isn't read, that is why
-pub refused_so : (ports : Registers) (text : List ℕ) (result : Result Cert_stated CertError)
-    → IfErr result (λ error. HaveReadings (behind_first (lines_of text)) → IsRefused ports text error) → IfErr result (IsRefused ports text)
-refused_so ports text (Ok cert) refused = tt
-refused_so ports text (Err error) refused = refused (have_readings (behind_first (lines_of text)))
 
 -- ---- and one thing
 

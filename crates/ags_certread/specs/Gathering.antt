@@ -1,33 +1,31 @@
--- What is kept of the statements of a certificate while its lines are read, and the fault of the next one by it.
-use Rattle.std.specs.Prelude.{◌≡◌, ℕ, ◌+◌, ◌<◌, ◌≤◌, Bool, true, false, not, ◌||◌, ◌&&◌, ◌==◌, nat_le, List, [], ◌∷◌, ◌++◌, length, get_or, set, replicate, Option, Some, None, is_some, IfSome, if◌then◌else◌}
+-- What is kept of the statements of a certificate while its lines are read.
+use Rattle.std.specs.Prelude.{◌≡◌, ℕ, ◌+◌, ◌<◌, ◌≤◌, Bool, true, false, ◌==◌, nat_le, List, [], ◌∷◌, ◌++◌, length, get_or, set, replicate, Option, Some, None, is_some, IfSome, if◌then◌else◌}
 use Rattle.std.specs.List.{All, list_any, insert, position_or_len}
 use Rattle.ags_domain.specs.Domain.{IsFull}
 use Rattle.ags_domain.specs.Value.{value_meaning}
 use Rattle.ags_domain.specs.declared.values.Value.{Value}
-use Rattle.ags_ports.specs.Port.{Registers}
-use Rattle.ags_ports.specs.declared.registers.Port.{Port}
 use Rattle.ags_row.specs.Cell.{cells_ascend, value_among}
 use Rattle.ags_row.specs.Limit.{Limiting, AreLimits, cell_limit, input_limit, output_limit, is_named}
 use Rattle.ags_row.specs.declared.ats.At.{At as Cell_at}
 use Rattle.ags_row.specs.declared.rows.Row.{Row as Row_of}
 use Rattle.ags_certtype.specs.Cert.{Stated, IsCert, rows_at}
-use Rattle.ags_certtype.specs.Limit.{most_rows, most_rows_at_one}
-use Rattle.ags_certtext.specs.declared.cert_error.CertKind.{CertKind}
-use Rattle.ags_certtext.specs.declared.cert_error.CertKind.TheVariants.{BadLine, Twice, EmptyRange, OutsideGlobal, NoZero, TooManyRows, TooManyAt, NoRows}
 use Rattle.ags_certtext.specs.declared.statements.Entry.{Entry}
 use Rattle.ags_certtext.specs.declared.statements.RowLine.{RowLine}
 use Rattle.ags_certtext.specs.declared.statements.Statement.{Statement}
-use Rattle.ags_certtext.specs.declared.statements.Statement.TheVariants.{Start, Cell, Init, In, Out, May, Row, At, End}
+use Rattle.ags_certtext.specs.declared.statements.Statement.TheVariants.{Start, Entry as EntryOf, May, Row, End}
+use Rattle.ags_certtext.specs.declared.statements.Table.{Table}
+use Rattle.ags_certtext.specs.declared.statements.Table.TheVariants.{Cell, Init, In, Out, At}
+use Rattle.ags_certtext.specs.declared.kinds.Kind.{Kind}
+use Rattle.ags_certtext.specs.Kind.{kind_of}
 use Rattle.ags_certtext.specs.Statement.{IsRowLine}
-use Rattle.ags_certtext.specs.Fault.{fault_if, is_fixed, has_register, is_empty, is_outside, lacks_zero, stands_in_order, is_second_start}
+use Rattle.ags_certtext.specs.Fault.{is_outside}
 use Rattle.ags_certtext.specs.Text.{IsLimit}
 use Rattle.ags_certread.specs.declared.gatherer.Gatherer.{Gatherer}
 
--- What is kept: the number of the last kind; the start; for each address what is stated there, by kind; the named places; the rows
--- before the one that may be open, and how many stand at each location with it; and of the open row its line and its cells, which
--- ascend.
+-- What is kept: the last kind; the start; for each address what is stated there, by table; the named places; the rows before the
+-- one that may be open, and how many stand at each location with it; and of the open row its line and its cells, which ascend.
 pub record Gathering : Type 0 where
-  pub last : ℕ
+  pub last : Option Kind
   pub start : ℕ
   pub cells : List (Option Value)
   pub init : List (Option Value)
@@ -71,7 +69,7 @@ IsCounting g = length g.rows ≤ 20000
 -- nothing is stated yet
 abbrev pub nothing_stated : Gathering
 nothing_stated = record {
-  last = 0;
+  last = None;
   start = 2048;
   cells = replicate 2048 None;
   init = replicate 2048 None;
@@ -84,73 +82,27 @@ nothing_stated = record {
   row_cells = [];
 }
 
--- ---- the fault of a statement
+-- ---- what is asked of it
 
 -- what is stated at an address
 abbrev pub stated : List (Option Value) → ℕ → Option Value
 stated table address = get_or table address None
 
--- the fault of an entry that is misplaced, stands a second time, or has an empty range, and else what is found later
-abbrev pub entry_fault : (misplaced twice : Bool) → Option Value → Option CertKind → Option CertKind
-entry_fault misplaced twice value later = fault_if misplaced BadLine (fault_if twice Twice (fault_if (is_empty value) EmptyRange later))
-
--- one of the registers at the address holds its word once, and the value doesn't hold 0
-abbrev pub is_unmet : List Port → Entry → Bool
-is_unmet ports entry = list_any (λ (port : Port). port.address == entry.address && lacks_zero (Some port) entry.value) ports
-
 -- one of the cells stands at the address
 abbrev pub has_cell : List (Cell_at Value) → ℕ → Bool
 has_cell cells address = list_any (λ (cell : Cell_at Value). cell.address == address) cells
 
+-- something is stated at an address in a table; of the cells of a row, in the open one
+abbrev pub is_stated_in : Gathering → Table → ℕ → Bool
+is_stated_in g Cell address = is_some (stated g.cells address)
+is_stated_in g Init address = is_some (stated g.init address)
+is_stated_in g In address = is_some (stated g.inputs address)
+is_stated_in g Out address = is_some (stated g.outputs address)
+is_stated_in g At address = has_cell g.row_cells address
+
 -- how many rows there are, the open one with them
 abbrev pub row_count : Gathering → ℕ
 row_count g = length g.rows + (if is_some g.line then 1 else 0)
-
-abbrev pub cell_fault : Gathering → Entry → Option CertKind
-cell_fault g entry = entry_fault (is_fixed entry.address) (is_some (stated g.cells entry.address)) entry.value None
-
-abbrev pub init_fault : Gathering → Entry → Option CertKind
-init_fault g entry = entry_fault (is_fixed entry.address) (is_some (stated g.init entry.address)) entry.value
-    (fault_if (is_outside entry.value (stated g.cells entry.address)) OutsideGlobal None)
-
-abbrev pub input_fault : Registers → Gathering → Entry → Option CertKind
-input_fault ports g entry = entry_fault (not (has_register ports.inputs entry.address)) (is_some (stated g.inputs entry.address)) entry.value
-    (fault_if (is_unmet ports.inputs entry) NoZero None)
-
-abbrev pub output_fault : Registers → Gathering → Entry → Option CertKind
-output_fault ports g entry = entry_fault (not (has_register ports.outputs entry.address)) (is_some (stated g.outputs entry.address)) entry.value None
-
-abbrev pub place_fault : Gathering → ℕ → Option CertKind
-place_fault g location = fault_if (get_or g.places location false) Twice None
-
-abbrev pub row_fault : Gathering → RowLine → Option CertKind
-row_fault g row = fault_if (is_empty row.a || is_empty row.q) EmptyRange
-    (fault_if (nat_le most_rows (row_count g) || nat_le most_rows_at_one (get_or g.counts row.location 0)) TooManyRows None)
-
-abbrev pub at_fault : Gathering → Entry → Option CertKind
-at_fault g entry = entry_fault (is_fixed entry.address) (has_cell g.row_cells entry.address) entry.value
-    (fault_if (is_outside entry.value (stated g.cells entry.address)) OutsideGlobal
-    (fault_if (nat_le 64 (length g.row_cells)) TooManyAt None))
-
-abbrev pub last_line_fault : Gathering → Option CertKind
-last_line_fault g = fault_if (row_count g == 0) NoRows None
-
--- the fault of a statement that stands where its kind may
-abbrev pub part_fault : Registers → Gathering → Statement → Option CertKind
-part_fault ports g (Start location) = None
-part_fault ports g (Cell entry) = cell_fault g entry
-part_fault ports g (Init entry) = init_fault g entry
-part_fault ports g (In entry) = input_fault ports g entry
-part_fault ports g (Out entry) = output_fault ports g entry
-part_fault ports g (May location) = place_fault g location
-part_fault ports g (Row row) = row_fault g row
-part_fault ports g (At entry) = at_fault g entry
-part_fault ports g End = last_line_fault g
-
--- the fault of a statement
-abbrev pub gathered_fault : Registers → Gathering → Statement → Option CertKind
-gathered_fault ports g statement = fault_if (is_second_start g.last statement) Twice
-    (fault_if (not (stands_in_order g.last statement)) BadLine (part_fault ports g statement))
 
 -- ---- what a statement adds
 
@@ -167,26 +119,34 @@ with_entry entry None cells = cells
 -- there is room.
 abbrev pub IsPlaced : (counts : List ℕ) → Statement → Type 0
 IsPlaced counts (Start location) = Unit {0}
-IsPlaced counts (Cell entry) = entry.address < 2048
-IsPlaced counts (Init entry) = entry.address < 2048
-IsPlaced counts (In entry) = entry.address < 4096
-IsPlaced counts (Out entry) = entry.address < 4096
+IsPlaced counts (EntryOf Cell entry) = entry.address < 2048
+IsPlaced counts (EntryOf Init entry) = entry.address < 2048
+IsPlaced counts (EntryOf In entry) = entry.address < 4096
+IsPlaced counts (EntryOf Out entry) = entry.address < 4096
+IsPlaced counts (EntryOf At entry) = Unit {0}
 IsPlaced counts (May location) = location < 4096
 IsPlaced counts (Row row) = (row.location < 4096) × (get_or counts row.location 0 < 512)
-IsPlaced counts (At entry) = Unit {0}
 IsPlaced counts End = Unit {0}
+
+-- what is kept once an entry was put into its table
+abbrev pub with_entry_in : Gathering → Table → Entry → Gathering
+with_entry_in g Cell entry = record g { cells = set g.cells entry.address entry.value }
+with_entry_in g Init entry = record g { init = set g.init entry.address entry.value }
+with_entry_in g In entry = record g { inputs = set g.inputs entry.address entry.value }
+with_entry_in g Out entry = record g { outputs = set g.outputs entry.address entry.value }
+with_entry_in g At entry = record g { row_cells = with_entry entry entry.value g.row_cells }
+
+-- what is kept once what a statement says was added
+abbrev pub with_part : Gathering → Statement → Gathering
+with_part g (Start location) = record g { start = location }
+with_part g (EntryOf table entry) = with_entry_in g table entry
+with_part g (May location) = record g { places = set g.places location true }
+with_part g (Row row) = record g { counts = set g.counts row.location (get_or g.counts row.location 0 + 1); line = Some row }
+with_part g End = g
 
 -- what is kept once a statement without a fault was added, where the row before it is closed unless the statement belongs to it
 abbrev pub with_statement : Gathering → Statement → Gathering
-with_statement g (Start location) = record g { last = 1; start = location }
-with_statement g (Cell entry) = record g { last = 2; cells = set g.cells entry.address entry.value }
-with_statement g (Init entry) = record g { last = 3; init = set g.init entry.address entry.value }
-with_statement g (In entry) = record g { last = 4; inputs = set g.inputs entry.address entry.value }
-with_statement g (Out entry) = record g { last = 5; outputs = set g.outputs entry.address entry.value }
-with_statement g (May location) = record g { last = 6; places = set g.places location true }
-with_statement g (Row row) = record g { last = 7; counts = set g.counts row.location (get_or g.counts row.location 0 + 1); line = Some row }
-with_statement g (At entry) = record g { row_cells = with_entry entry entry.value g.row_cells }
-with_statement g End = record g { last = 8 }
+with_statement g statement = record (with_part g statement) { last = Some (kind_of statement) }
 
 -- ---- the open row
 
@@ -207,7 +167,7 @@ Closes (Some line) old new = (row : Row_of Value) × IsClosed line old.row_cells
 
 -- the row before a statement is closed, unless the statement belongs to it
 abbrev pub ClosesBefore : Statement → (old new : Gathering) → Type 0
-ClosesBefore (At entry) old new = new ≡ old
+ClosesBefore (EntryOf At entry) old new = new ≡ old
 ClosesBefore statement old new = Closes old.line old new
 
 -- the open row, if there is one, is whole, and its cells ascend

@@ -5,6 +5,8 @@ pub mod Pieces
 -- what serves inside
 pub mod Gathered
 pub mod Gathering
+pub mod Sound
+pub mod Before
 pub mod LimitTable
 pub mod LineTaken
 pub mod NextState

@@ -8,8 +8,10 @@ use Rattle.ags_certtext.specs.declared.cert_error.CertKind.TheVariants.{BadLine,
 use Rattle.ags_certtext.specs.declared.cert_error.CertError.{CertError}
 use Rattle.ags_certtext.specs.declared.cert_error.CertError.TheVariants.{At as AtLine, NoMemory}
 use Rattle.ags_certtext.specs.Reading.{Reading, Opening, OtherOpening, Stated, Skipped, Malformed, Ended, IsReading}
-use Rattle.ags_certtext.specs.Statement.{IsStatement}
-use Rattle.ags_certread.specs.Gathering.{Gathering, Takes, gathered_fault}
+use Rattle.ags_certtext.specs.declared.statements.Statement.{Statement}
+use Rattle.ags_certtext.specs.Fault.{fault_after}
+use Rattle.ags_certread.specs.Before.{Stands}
+use Rattle.ags_certread.specs.Gathering.{Gathering}
 
 -- the fault of a first line by its reading
 abbrev pub opening_fault : Reading → Option CertKind
@@ -20,9 +22,15 @@ opening_fault (Stated statement) = None
 opening_fault Skipped = None
 opening_fault Ended = None
 
--- the reading of a further line is taken: its statement, if it makes one, has no fault and is added
+-- The statement is taken, whatever the statements are that what is kept stands for: it has no fault behind them, and what is kept
+-- then stands for it too.
+abbrev pub TakesStatement : Registers → (old : Gathering) → Statement → (new : Gathering) → Type 0
+TakesStatement ports old statement new =
+    (before : List Statement) → Stands before old → (fault_after ports before statement ≡ None) × Stands (statement ∷ before) new
+
+-- the reading of a further line is taken: its statement, if it makes one, is taken
 abbrev pub TakesReading : Registers → (old : Gathering) → Reading → (new : Gathering) → Type 0
-TakesReading ports old (Stated statement) new = IsStatement statement × (gathered_fault ports old statement ≡ None) × Takes old statement new
+TakesReading ports old (Stated statement) new = TakesStatement ports old statement new
 TakesReading ports old Skipped new = new ≡ old
 TakesReading ports old Opening new = ⊥
 TakesReading ports old OtherOpening new = ⊥
@@ -33,25 +41,29 @@ TakesReading ports old Ended new = ⊥
 abbrev pub TakesLine : Registers → (old : Gathering) → List ℕ → (new : Gathering) → Type 0
 TakesLine ports old line new = (reading : Reading) × IsReading line reading × TakesReading ports old reading new
 
--- the fault of a further line's reading
-abbrev pub further_fault : Registers → Gathering → Reading → Option CertKind
-further_fault ports g (Stated statement) = gathered_fault ports g statement
-further_fault ports g Malformed = Some BadLine
-further_fault ports g Skipped = None
-further_fault ports g Opening = None
-further_fault ports g OtherOpening = None
-further_fault ports g Ended = None
+-- the fault of a further line's reading, given the statements before it
+abbrev pub further_fault : Registers → List Statement → Reading → Option CertKind
+further_fault ports before (Stated statement) = fault_after ports before statement
+further_fault ports before Malformed = Some BadLine
+further_fault ports before Skipped = None
+further_fault ports before Opening = None
+further_fault ports before OtherOpening = None
+further_fault ports before Ended = None
+
+-- the reading has this fault, whatever the statements are that what is kept stands for
+abbrev pub HasReadingFault : Registers → Gathering → Reading → CertKind → Type 0
+HasReadingFault ports g reading kind = (before : List Statement) → Stands before g → further_fault ports before reading ≡ Some kind
 
 -- the error tells the fault of a further line, by its reading, where it isn't want of memory
 abbrev pub TellsFault : Registers → (number : ℕ) → Gathering → List ℕ → CertError → Type 0
 TellsFault ports number g text (AtLine line kind) =
-    (line ≡ number) × ((reading : Reading) × IsReading text reading × (further_fault ports g reading ≡ Some kind))
+    (line ≡ number) × ((reading : Reading) × IsReading text reading × HasReadingFault ports g reading kind)
 TellsFault ports number g text NoMemory = Unit {0}
 
 -- the error tells the fault of a statement there
-abbrev pub TellsStatementFault : Option CertKind → (number : ℕ) → CertError → Type 0
-TellsStatementFault fault number (AtLine line kind) = (line ≡ number) × (fault ≡ Some kind)
-TellsStatementFault fault number NoMemory = Unit {0}
+abbrev pub TellsStatementFault : Registers → Gathering → Statement → (number : ℕ) → CertError → Type 0
+TellsStatementFault ports g statement number (AtLine line kind) = (line ≡ number) × HasReadingFault ports g (Stated statement) kind
+TellsStatementFault ports g statement number NoMemory = Unit {0}
 
 -- the lines have readings as further lines, one for each
 abbrev pub HaveReadings : List LineAt → Type 0

@@ -20,8 +20,5 @@ pub(crate) fn certificate_of(alloc: Global, gatherer: Gatherer) -> Result<Cert, 
         init: gatherer.init,
         rows: gatherer.rows,
     };
-    let Some(cert) = Cert::of(alloc, parts)? else {
-        unreachable!()
-    };
-    Ok(cert)
+    Cert::made_of(alloc, parts)
 }

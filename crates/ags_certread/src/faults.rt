@@ -1,19 +1,22 @@
-//! The fault of a statement, by what is gathered of those before it. Of several faults the one of the least number is told.
+//! The fault of a statement, given those before it. Of several faults the one of the least number is told.
 
-ghost use Rattle.std.specs.Prelude.{◌≡◌, ◌<◌, ◌||◌, length};
+ghost use Rattle.std.specs.Prelude.{◌≡◌, ◌<◌, List, length};
+ghost use Rattle.ags_certtext.specs.declared.statements.Statement.{Statement};
+ghost use Rattle.ags_certtext.specs.declared.statements.Statement.TheVariants.{End, May, Row};
+ghost use Rattle.ags_certtext.specs.Fault.{entry_fault, fault_after, statement_fault};
 ghost use Rattle.ags_certtext.specs.Statement.{IsStatement};
-ghost use Rattle.ags_certread.specs.Gathering.{IsSized, IsCounting, gathering_of, row_count, cell_fault, init_fault, input_fault, output_fault, place_fault, row_fault, at_fault, last_line_fault, part_fault, gathered_fault};
+ghost use Rattle.ags_certread.specs.Before.{Gathered};
+ghost use Rattle.ags_certread.specs.Gathering.{IsCounting, IsSized, gathering_of, is_stated_in, row_count};
 
 use crate::checks::{
-    count_at, entry_fault, fault_if, has_cell, has_register, is_empty, is_fixed, is_named,
-    is_outside, is_stated, is_unmet, stated,
+    count_at, fault_if, has_cell, is_empty, is_full, is_named, is_stated, lacks_word, leaves_limit,
+    may_stand, stated,
 };
 use crate::gatherer::Gatherer;
 use crate::order::{is_second_start, stands_in_order};
-use ags_certtext::{CertKind, Entry, RowLine, Statement};
+use ags_certtext::{CertKind, Entry, RowLine, Statement, Table};
 use ags_certtype::{MOST_ROWS, MOST_ROWS_AT_ONE};
 use ags_ports::Ports;
-use ags_row::MOST_CELLS;
 
 impl Gatherer {
     /// How many rows there are, the open one with them.
@@ -27,57 +30,54 @@ impl Gatherer {
         }
     }
 
-    /// The fault of a CELL line.
-    fn cell_fault(&self, entry: &Entry) -> Option<CertKind>
-        ensures { result ≡ cell_fault (gathering_of self.now) entry.now }
+    /// Whether something is stated at an address in a table; of the cells of a row, in the open one.
+    fn is_stated(&self, table: Table, address: u16) -> bool
+        ensures { result ≡ is_stated_in (gathering_of self.now) table address }
     {
-        let twice = is_stated(self.cells.as_slice(), entry.address);
-        entry_fault(is_fixed(entry.address), twice, entry.value, None)
+        match table {
+            Table::Cell => is_stated(self.cells.as_slice(), address),
+            Table::Init => is_stated(self.init.as_slice(), address),
+            Table::In => is_stated(self.inputs.as_slice(), address),
+            Table::Out => is_stated(self.outputs.as_slice(), address),
+            Table::At => has_cell(self.row_cells.as_slice(), address),
+        }
     }
 
-    /// The fault of an INIT line.
-    fn init_fault(&self, entry: &Entry) -> Option<CertKind>
-        ensures { result ≡ init_fault (gathering_of self.now) entry.now }
+    /// The fault of an entry of a table.
+    fn entry_fault(&self, ports: &Ports, table: Table, entry: &Entry) -> Option<CertKind>
+        ensures { (before : List Statement) → Gathered before (gathering_of self.now)
+            → result ≡ entry_fault ports.now before table entry.now }
     {
-        let twice = is_stated(self.init.as_slice(), entry.address);
-        let outside = is_outside(entry.value, stated(self.cells.as_slice(), entry.address));
-        let later = fault_if(outside, CertKind::OutsideGlobal, None);
-        entry_fault(is_fixed(entry.address), twice, entry.value, later)
-    }
-
-    /// The fault of an IN line.
-    fn input_fault(&self, ports: &Ports, entry: &Entry) -> Option<CertKind>
-        ensures { result ≡ input_fault ports.now (gathering_of self.now) entry.now }
-    {
-        let misplaced = !has_register(ports.inputs(), entry.address);
-        let twice = is_stated(self.inputs.as_slice(), entry.address);
-        let later = fault_if(is_unmet(ports.inputs(), entry), CertKind::NoZero, None);
-        entry_fault(misplaced, twice, entry.value, later)
-    }
-
-    /// The fault of an OUT line.
-    fn output_fault(&self, ports: &Ports, entry: &Entry) -> Option<CertKind>
-        ensures { result ≡ output_fault ports.now (gathering_of self.now) entry.now }
-    {
-        let misplaced = !has_register(ports.outputs(), entry.address);
-        let twice = is_stated(self.outputs.as_slice(), entry.address);
-        entry_fault(misplaced, twice, entry.value, None)
+        let misplaced = !may_stand(ports, table, entry.address);
+        let twice = self.is_stated(table, entry.address);
+        let limit = stated(self.cells.as_slice(), entry.address);
+        let outside = leaves_limit(table, entry.value, limit);
+        let unmet = lacks_word(ports, table, entry);
+        let full = is_full(table, self.row_cells.as_slice());
+        let fault = fault_if(full, CertKind::TooManyAt, None);
+        let fault = fault_if(unmet, CertKind::NoZero, fault);
+        let fault = fault_if(outside, CertKind::OutsideGlobal, fault);
+        let fault = fault_if(is_empty(entry.value), CertKind::EmptyRange, fault);
+        let fault = fault_if(twice, CertKind::Twice, fault);
+        fault_if(misplaced, CertKind::BadLine, fault)
     }
 
     /// The fault of a MAY line.
-    fn place_fault(&self, location: u16) -> Option<CertKind>
+    fn place_fault(&self, ports: &Ports, location: u16) -> Option<CertKind>
         requires { location < length self.now.places.items }
-        ensures { result ≡ place_fault (gathering_of self.now) location }
+        ensures { (before : List Statement) → Gathered before (gathering_of self.now)
+            → result ≡ statement_fault ports.now before (May location) }
     {
         let twice = is_named(self.places.as_slice(), location);
         fault_if(twice, CertKind::Twice, None)
     }
 
     /// The fault of a ROW line.
-    fn row_fault(&self, row: &RowLine) -> Option<CertKind>
+    fn row_fault(&self, ports: &Ports, row: &RowLine) -> Option<CertKind>
         requires counting { IsCounting (gathering_of self.now) }
         requires place { row.now.location < length self.now.counts.items }
-        ensures { result ≡ row_fault (gathering_of self.now) row.now }
+        ensures { (before : List Statement) → Gathered before (gathering_of self.now)
+            → result ≡ statement_fault ports.now before (Row row.now) }
     {
         let empty = is_empty(row.a) || is_empty(row.q);
         let count = count_at(self.counts.as_slice(), row.location);
@@ -89,22 +89,11 @@ impl Gatherer {
         )
     }
 
-    /// The fault of an AT line.
-    fn at_fault(&self, entry: &Entry) -> Option<CertKind>
-        ensures { result ≡ at_fault (gathering_of self.now) entry.now }
-    {
-        let twice = has_cell(self.row_cells.as_slice(), entry.address);
-        let outside = is_outside(entry.value, stated(self.cells.as_slice(), entry.address));
-        let full = self.row_cells.len() >= MOST_CELLS;
-        let many = fault_if(full, CertKind::TooManyAt, None);
-        let later = fault_if(outside, CertKind::OutsideGlobal, many);
-        entry_fault(is_fixed(entry.address), twice, entry.value, later)
-    }
-
     /// The fault of the END line.
-    fn last_line_fault(&self) -> Option<CertKind>
+    fn last_line_fault(&self, ports: &Ports) -> Option<CertKind>
         requires { IsCounting (gathering_of self.now) }
-        ensures { result ≡ last_line_fault (gathering_of self.now) }
+        ensures { (before : List Statement) → Gathered before (gathering_of self.now)
+            → result ≡ statement_fault ports.now before End }
     {
         fault_if(self.row_count() == 0, CertKind::NoRows, None)
     }
@@ -114,18 +103,15 @@ impl Gatherer {
         requires sized { IsSized (gathering_of self.now) }
         requires counting { IsCounting (gathering_of self.now) }
         requires statement { IsStatement statement.now }
-        ensures { result ≡ part_fault ports.now (gathering_of self.now) statement.now }
+        ensures { (before : List Statement) → Gathered before (gathering_of self.now)
+            → result ≡ statement_fault ports.now before statement.now }
     {
         match statement {
             Statement::Start(_) => None,
-            Statement::Cell(entry) => self.cell_fault(entry),
-            Statement::Init(entry) => self.init_fault(entry),
-            Statement::In(entry) => self.input_fault(ports, entry),
-            Statement::Out(entry) => self.output_fault(ports, entry),
-            Statement::May(location) => self.place_fault(*location),
-            Statement::Row(row) => self.row_fault(row),
-            Statement::At(entry) => self.at_fault(entry),
-            Statement::End => self.last_line_fault(),
+            Statement::Entry(table, entry) => self.entry_fault(ports, *table, entry),
+            Statement::May(location) => self.place_fault(ports, *location),
+            Statement::Row(row) => self.row_fault(ports, row),
+            Statement::End => self.last_line_fault(ports),
         }
     }
 
@@ -134,7 +120,8 @@ impl Gatherer {
         requires sized { IsSized (gathering_of self.now) }
         requires counting { IsCounting (gathering_of self.now) }
         requires statement { IsStatement statement.now }
-        ensures { result ≡ gathered_fault ports.now (gathering_of self.now) statement.now }
+        ensures { (before : List Statement) → Gathered before (gathering_of self.now)
+            → result ≡ fault_after ports.now before statement.now }
     {
         if is_second_start(self.last, statement) {
             return Some(CertKind::Twice);

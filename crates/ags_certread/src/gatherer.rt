@@ -1,13 +1,15 @@
 //! What is gathered of the statements of a certificate, one after the other.
 
-ghost use Rattle.std.specs.Prelude.{◌≡◌, ◌<◌, false, Ok, None, IfOk, length, get_or, set, replicate};
-ghost use Rattle.ags_certtext.specs.declared.statements.Statement.TheVariants.{Row as RowOf};
+ghost use Rattle.std.specs.Prelude.{◌≡◌, ◌<◌, false, ◌∷◌, List, Ok, None, IfOk, length, get_or, set, replicate};
+ghost use Rattle.ags_certtext.specs.declared.statements.Statement.TheVariants.{Entry as EntryOf, Row as RowOf};
+ghost use Rattle.ags_certtext.specs.declared.statements.Statement.{Statement};
+ghost use Rattle.ags_certtext.specs.Fault.{fault_after};
 ghost use Rattle.ags_certtext.specs.Statement.{IsStatement};
-ghost use Rattle.ags_certread.specs.Gathering.{Closes, ClosesBefore, IsClosable, IsCounting, IsPlaced, IsSized, Takes, gathered_fault, gathering_of, nothing_stated, with_statement};
+ghost use Rattle.ags_certread.specs.Before.{Stands};
+ghost use Rattle.ags_certread.specs.Gathering.{Closes, ClosesBefore, IsClosable, IsCounting, IsPlaced, IsSized, gathering_of, nothing_stated, with_entry_in, with_part, with_statement};
 
 use crate::open_rows::{add_cell, row_of};
-use crate::order::{CELL, END, IN, INIT, MAY, NO_KIND, OUT, ROW, START};
-use ags_certtext::{CertKind, Entry, RowLine, Statement};
+use ags_certtext::{CertKind, Entry, Kind, RowLine, Statement, Table};
 use ags_domain::Value;
 use ags_ports::Ports;
 use ags_row::{At, Row};
@@ -18,8 +20,8 @@ use std::mem;
 /// What is gathered of the statements so far.
 #[derive(Drop)]
 pub(crate) struct Gatherer {
-    /// The number of the last statement's kind.
-    pub(crate) last: u8,
+    /// The last statement's kind; nothing where none was taken.
+    pub(crate) last: Option<Kind>,
     /// The location that a run starts at.
     pub(crate) start: u16,
     /// What is stated of each erasable cell.
@@ -77,7 +79,7 @@ impl Gatherer {
         ensures { IfOk result (λ gatherer. gathering_of gatherer ≡ nothing_stated) }
     {
         Ok(Gatherer {
-            last: NO_KIND,
+            last: None,
             start: ERASABLE,
             cells: nothing(alloc, ERASABLE as usize)?,
             init: nothing(alloc, ERASABLE as usize)?,
@@ -112,13 +114,13 @@ impl Gatherer {
     {
         match statement {
             Statement::Start(_) => self.close(alloc),
-            Statement::Cell(_) => self.close(alloc),
-            Statement::Init(_) => self.close(alloc),
-            Statement::In(_) => self.close(alloc),
-            Statement::Out(_) => self.close(alloc),
+            Statement::Entry(Table::At, _) => Ok(()),
+            Statement::Entry(Table::Cell, _) => self.close(alloc),
+            Statement::Entry(Table::Init, _) => self.close(alloc),
+            Statement::Entry(Table::In, _) => self.close(alloc),
+            Statement::Entry(Table::Out, _) => self.close(alloc),
             Statement::May(_) => self.close(alloc),
             Statement::Row(_) => self.close(alloc),
-            Statement::At(_) => Ok(()),
             Statement::End => self.close(alloc),
         }
     }
@@ -127,13 +129,44 @@ impl Gatherer {
     fn open(&mut self, row: RowLine)
         requires place { row.location < length self.old.counts.items }
         requires room { get_or self.old.counts.items row.location 0 < 512 }
-        ensures { gathering_of self.new ≡ with_statement (gathering_of self.old) (RowOf row) }
+        ensures { gathering_of self.new ≡ with_part (gathering_of self.old) (RowOf row) }
     {
         let place = row.location as usize;
         let count = self.counts[place];
         self.counts[place] = count + 1;
         self.line = Some(row);
-        self.last = ROW;
+    }
+
+    /// Puts an entry without a fault into its table.
+    fn enter(&mut self, table: Table, entry: &Entry) -> Result<(), AllocError>
+        requires sized { IsSized (gathering_of self.old) }
+        requires placed { IsPlaced self.old.counts.items (EntryOf table entry.now) }
+        ensures { IfOk result (λ _. gathering_of self.new ≡ with_entry_in (gathering_of self.old) table entry.now) }
+    {
+        match table {
+            Table::Cell => put(&mut self.cells, entry),
+            Table::Init => put(&mut self.init, entry),
+            Table::In => put(&mut self.inputs, entry),
+            Table::Out => put(&mut self.outputs, entry),
+            Table::At => add_cell(&mut self.row_cells, entry)?,
+        }
+        Ok(())
+    }
+
+    /// Adds what a statement without a fault says.
+    fn add_part(&mut self, statement: &Statement) -> Result<(), AllocError>
+        requires sized { IsSized (gathering_of self.old) }
+        requires placed { IsPlaced self.old.counts.items statement.now }
+        ensures { IfOk result (λ _. gathering_of self.new ≡ with_part (gathering_of self.old) statement.now) }
+    {
+        match statement {
+            Statement::Start(location) => self.start = *location,
+            Statement::Entry(table, entry) => self.enter(*table, entry)?,
+            Statement::May(location) => self.places[*location as usize] = true,
+            Statement::Row(row) => self.open(*row),
+            Statement::End => {}
+        }
+        Ok(())
     }
 
     /// Adds a statement without a fault.
@@ -142,35 +175,8 @@ impl Gatherer {
         requires placed { IsPlaced self.old.counts.items statement.now }
         ensures { IfOk result (λ _. gathering_of self.new ≡ with_statement (gathering_of self.old) statement.now) }
     {
-        match statement {
-            Statement::Start(location) => {
-                self.start = *location;
-                self.last = START;
-            }
-            Statement::Cell(entry) => {
-                put(&mut self.cells, entry);
-                self.last = CELL;
-            }
-            Statement::Init(entry) => {
-                put(&mut self.init, entry);
-                self.last = INIT;
-            }
-            Statement::In(entry) => {
-                put(&mut self.inputs, entry);
-                self.last = IN;
-            }
-            Statement::Out(entry) => {
-                put(&mut self.outputs, entry);
-                self.last = OUT;
-            }
-            Statement::May(location) => {
-                self.places[*location as usize] = true;
-                self.last = MAY;
-            }
-            Statement::Row(row) => self.open(*row),
-            Statement::At(entry) => add_cell(&mut self.row_cells, entry)?,
-            Statement::End => self.last = END,
-        }
+        self.add_part(statement)?;
+        self.last = Some(statement.kind());
         Ok(())
     }
 
@@ -181,18 +187,20 @@ impl Gatherer {
         ports: &Ports,
         statement: &Statement,
     ) -> Result<Option<CertKind>, AllocError>
-        requires sized { IsSized (gathering_of self.old) }
-        requires counting { IsCounting (gathering_of self.old) }
-        requires closable { IsClosable (gathering_of self.old) }
+        requires stands { (before : List Statement) × Stands before (gathering_of self.old) }
         requires statement { IsStatement statement.now }
-        ensures fault { IfOk result (λ fault. fault ≡ gathered_fault ports.now (gathering_of self.old) statement.now) }
-        ensures taken { result ≡ Ok None → Takes (gathering_of self.old) statement.now (gathering_of self.new) }
+        ensures fault { IfOk result (λ fault. (before : List Statement) → Stands before (gathering_of self.old)
+            → fault ≡ fault_after ports.now before statement.now) }
+        ensures taken { result ≡ Ok None → (before : List Statement) → Stands before (gathering_of self.old)
+            → Stands (statement.now ∷ before) (gathering_of self.new) }
     {
-        if let Some(kind) = self.fault(ports, statement) {
-            return Ok(Some(kind));
+        match self.fault(ports, statement) {
+            Some(kind) => Ok(Some(kind)),
+            None => {
+                self.close_before(alloc, statement)?;
+                self.add(statement)?;
+                Ok(None)
+            }
         }
-        self.close_before(alloc, statement)?;
-        self.add(statement)?;
-        Ok(None)
     }
 }

@@ -1,10 +1,12 @@
 //! One line of a certificate after the other.
 
-ghost use Rattle.std.specs.Prelude.{◌≡◌, None, IfOk, IfErr};
+ghost use Rattle.std.specs.Prelude.{◌≡◌, List, IfOk, IfErr};
+ghost use Rattle.ags_certtext.specs.declared.statements.Statement.{Statement};
 ghost use Rattle.ags_certtext.specs.Reading.{Reading, IsFirstReading};
 ghost use Rattle.ags_certtext.specs.Statement.{IsStatement};
-ghost use Rattle.ags_certread.specs.Gathering.{IsClosable, IsCounting, IsSized, Takes, gathered_fault, gathering_of};
-ghost use Rattle.ags_certread.specs.LineTaken.{TakesLine, TellsFault, TellsStatementFault, opening_fault};
+ghost use Rattle.ags_certread.specs.Before.{Stands};
+ghost use Rattle.ags_certread.specs.Gathering.{gathering_of};
+ghost use Rattle.ags_certread.specs.LineTaken.{TakesLine, TakesStatement, TellsFault, TellsStatementFault, opening_fault};
 
 use crate::gatherer::Gatherer;
 use ags_certtext::{
@@ -43,13 +45,10 @@ impl Gatherer {
         line: u32,
         statement: &Statement,
     ) -> Result<(), CertError>
-        requires sized { IsSized (gathering_of self.old) }
-        requires counting { IsCounting (gathering_of self.old) }
-        requires closable { IsClosable (gathering_of self.old) }
+        requires stands { (before : List Statement) × Stands before (gathering_of self.old) }
         requires statement { IsStatement statement.now }
-        ensures taken { IfOk result (λ _. (gathered_fault ports.now (gathering_of self.old) statement.now ≡ None)
-            × Takes (gathering_of self.old) statement.now (gathering_of self.new)) }
-        ensures faulty { IfErr result (TellsStatementFault (gathered_fault ports.now (gathering_of self.old) statement.now) line) }
+        ensures taken { IfOk result (λ _. TakesStatement ports.now (gathering_of self.old) statement.now (gathering_of self.new)) }
+        ensures faulty { IfErr result (TellsStatementFault ports.now (gathering_of self.old) statement.now line) }
     {
         match self.take(alloc, ports, statement)? {
             Some(kind) => Err(CertError::At { line, kind }),
@@ -65,9 +64,7 @@ impl Gatherer {
         line: u32,
         bytes: &[u8],
     ) -> Result<(), CertError>
-        requires sized { IsSized (gathering_of self.old) }
-        requires counting { IsCounting (gathering_of self.old) }
-        requires closable { IsClosable (gathering_of self.old) }
+        requires { (before : List Statement) × Stands before (gathering_of self.old) }
         ensures fine { IfOk result (λ _. TakesLine ports.now (gathering_of self.old) bytes.now (gathering_of self.new)) }
         ensures faulty { IfErr result (TellsFault ports.now line (gathering_of self.old) bytes.now) }
     {

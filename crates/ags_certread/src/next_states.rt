@@ -1,6 +1,6 @@
 //! What comes of one line, and of the end of the text.
 
-ghost use Rattle.std.specs.Prelude.{◌≡◌, ◌<◌, ◌==◌, List, ℕ, IfOk, IfErr};
+ghost use Rattle.std.specs.Prelude.{◌≡◌, ◌<◌, List, ℕ, IfOk, IfErr};
 ghost use Rattle.ags_certtext.specs.Text.{IsCertOf, IsRefused};
 ghost use Rattle.ags_certread.specs.Gathered.{IsOfLines, IsStateOfLines};
 ghost use Rattle.ags_certread.specs.Gathering.{gathering_of};
@@ -9,7 +9,7 @@ ghost use Rattle.ags_certread.specs.NextState.{IsNext, IsWhole};
 use crate::certificates::certificate_of;
 use crate::gatherer::Gatherer;
 use crate::lines_taken::{bad_line, opening_fault};
-use crate::order::END;
+use crate::order::has_ended;
 use crate::states::State;
 use ags_certtext::CertError;
 use ags_certtype::Cert;
@@ -66,13 +66,6 @@ pub(crate) fn next_state(
     } else {
         further_state(alloc, ports, number, gatherer, line)
     }
-}
-
-/// Whether the last kind was the end.
-fn has_ended(last: u8) -> bool
-    ensures { result ≡ (last == 8) }
-{
-    last == END
 }
 
 /// The certificate where all lines were taken, so many, or that it lacks its first line or its last.

@@ -1,67 +1,102 @@
 //! The order of the kinds of statements.
 
-ghost use Rattle.std.specs.Prelude.{◌≡◌, ◌&&◌, ◌==◌, nat_le, not};
-ghost use Rattle.ags_certtext.specs.Fault.{is_second_start, stands_in_order};
+ghost use Rattle.std.specs.Prelude.{◌≡◌};
+ghost use Rattle.ags_certtext.specs.declared.kinds.Kind.TheVariants.{End, Row, Start};
+ghost use Rattle.ags_certtext.specs.Kind.{entry_follows, follows, is_kind, is_last, is_second_start, stands_in_order};
 
-use ags_certtext::Statement;
+use ags_certtext::{Kind, Statement, Table};
 
-/// The number of no kind: no statement stands before.
-pub(crate) const NO_KIND: u8 = 0;
-
-/// The numbers of the kinds, in their order.
-pub(crate) const START: u8 = 1;
-
-pub(crate) const CELL: u8 = 2;
-
-pub(crate) const INIT: u8 = 3;
-
-pub(crate) const IN: u8 = 4;
-
-pub(crate) const OUT: u8 = 5;
-
-pub(crate) const MAY: u8 = 6;
-
-pub(crate) const ROW: u8 = 7;
-
-pub(crate) const END: u8 = 8;
-
-/// Whether a kind may stand behind the last one, which wasn't the end.
-fn follows(last: u8, kind: u8) -> bool
-    ensures { result ≡ (nat_le last kind && not (last == 8)) }
+/// Whether a kind is the end.
+fn is_end(kind: Kind) -> bool
+    ensures { result ≡ is_kind End kind }
 {
-    last <= kind && last != END
+    match kind {
+        Kind::End => true,
+        Kind::Start | Kind::Cell | Kind::Init | Kind::In | Kind::Out | Kind::May | Kind::Row =>
+            false,
+    }
+}
+
+/// Whether the last kind, if there is one, was the end.
+pub(crate) fn has_ended(last: Option<Kind>) -> bool
+    ensures { result ≡ is_last End last }
+{
+    match last {
+        Some(kind) => is_end(kind),
+        None => false,
+    }
+}
+
+/// Whether the last kind, if there is one, was a row.
+fn stands_behind_row(last: Option<Kind>) -> bool
+    ensures { result ≡ is_last Row last }
+{
+    match last {
+        Some(Kind::Row) => true,
+        Some(
+            Kind::Start | Kind::Cell | Kind::Init | Kind::In | Kind::Out | Kind::May | Kind::End,
+        ) => false,
+        None => false,
+    }
+}
+
+/// Whether the last kind, if there is one, was the start.
+fn stands_behind_start(last: Option<Kind>) -> bool
+    ensures { result ≡ is_last Start last }
+{
+    match last {
+        Some(Kind::Start) => true,
+        Some(Kind::Cell | Kind::Init | Kind::In | Kind::Out | Kind::May | Kind::Row | Kind::End) =>
+            false,
+        None => false,
+    }
+}
+
+/// Whether a kind may stand behind the last one.
+fn follows(last: Option<Kind>, kind: Kind) -> bool
+    ensures { result ≡ follows last kind }
+{
+    match last {
+        Some(last) => last.place() <= kind.place() && !is_end(last),
+        None => true,
+    }
+}
+
+/// Whether an entry of a table may stand behind the last kind.
+fn entry_follows(last: Option<Kind>, table: Table) -> bool
+    ensures { result ≡ entry_follows last table }
+{
+    match table {
+        Table::Cell => follows(last, Kind::Cell),
+        Table::Init => follows(last, Kind::Init),
+        Table::In => follows(last, Kind::In),
+        Table::Out => follows(last, Kind::Out),
+        Table::At => stands_behind_row(last),
+    }
 }
 
 /// Whether a statement's kind may stand behind the last one.
-pub(crate) fn stands_in_order(last: u8, statement: &Statement) -> bool
+pub(crate) fn stands_in_order(last: Option<Kind>, statement: &Statement) -> bool
     ensures { result ≡ stands_in_order last statement.now }
 {
     match statement {
-        Statement::Start(_) => last == NO_KIND,
-        Statement::Cell(_) => follows(last, CELL),
-        Statement::Init(_) => follows(last, INIT),
-        Statement::In(_) => follows(last, IN),
-        Statement::Out(_) => follows(last, OUT),
-        Statement::May(_) => follows(last, MAY),
-        Statement::Row(_) => follows(last, ROW),
-        Statement::At(_) => last == ROW,
-        Statement::End => follows(last, END),
+        Statement::Start(_) => last.is_none(),
+        Statement::Entry(table, _) => entry_follows(last, *table),
+        Statement::May(_) => follows(last, Kind::May),
+        Statement::Row(_) => follows(last, Kind::Row),
+        Statement::End => follows(last, Kind::End),
     }
 }
 
 /// Whether a statement is a second START right behind the first.
-pub(crate) fn is_second_start(last: u8, statement: &Statement) -> bool
+pub(crate) fn is_second_start(last: Option<Kind>, statement: &Statement) -> bool
     ensures { result ≡ is_second_start last statement.now }
 {
     match statement {
-        Statement::Start(_) => last == START,
-        Statement::Cell(_) => false,
-        Statement::Init(_) => false,
-        Statement::In(_) => false,
-        Statement::Out(_) => false,
+        Statement::Start(_) => stands_behind_start(last),
+        Statement::Entry(_, _) => false,
         Statement::May(_) => false,
         Statement::Row(_) => false,
-        Statement::At(_) => false,
         Statement::End => false,
     }
 }

@@ -9,9 +9,10 @@ use Rattle.ags_row.specs.Limit.{cell_limit, input_limit, output_limit, is_named}
 use Rattle.ags_row.specs.declared.ats.At.{At}
 use Rattle.ags_row.specs.declared.rows.Row.{Row}
 use Rattle.ags_certtype.specs.Cert.{Stated, IsCert}
-use Rattle.ags_certtext.specs.declared.statements.Entry.{Entry}
 use Rattle.ags_certtext.specs.declared.statements.Statement.{Statement}
-use Rattle.ags_certtext.specs.declared.statements.Statement.TheVariants.{Cell, Init, In, Out, May, End}
+use Rattle.ags_certtext.specs.declared.statements.Statement.TheVariants.{Entry as EntryOf, May, End}
+use Rattle.ags_certtext.specs.declared.statements.Table.{Table}
+use Rattle.ags_certtext.specs.declared.statements.Table.TheVariants.{Cell, Init, In, Out}
 use Rattle.ags_certsend.specs.CertText.{is_full, entry_of, stating, start_entry, cell_statement, init_statement, input_statement, output_statement, place_statement, ascending, at_statement, row_statements, statements_of}
 use Rattle.ags_certsend.proofs.LineLemmas.{IsGoodEntry, IsGood}
 
@@ -54,17 +55,17 @@ good_entry : (address : ℕ) (value : Value) → address < 4096 → IsGoodEntry 
 good_entry address value below = record { below = below; value = value; stated = refl }
 
 -- a limit, of each kind that takes an entry
-good_limit : (kind : Entry → Statement) → ((entry : Entry) → IsGoodEntry entry → IsGood (kind entry)) → (address : ℕ) (limit : Value) (full : Bool) → address < 4096
-    → (statement : Statement) → stating kind (if full then None else Some (entry_of address limit)) ≡ Some statement → IsGood statement
-good_limit kind good address limit true below statement is = absurd cc
-good_limit kind good address limit false below statement is =
-    let same : kind (entry_of address limit) ≡ statement = cc in
-    rw (← same) (good (entry_of address limit) (good_entry address limit below))
+good_limit : (table : Table) (address : ℕ) (limit : Value) (full : Bool) → address < 4096
+    → (statement : Statement) → stating table (if full then None else Some (entry_of address limit)) ≡ Some statement → IsGood statement
+good_limit table address limit true below statement is = absurd cc
+good_limit table address limit false below statement is =
+    let same : EntryOf table (entry_of address limit) ≡ statement = cc in
+    rw (← same) (good_entry address limit below)
 
 good_start : (address : ℕ) (value : Option Value) → address < 4096 → (statement : Statement) → stating Init (start_entry address value) ≡ Some statement → IsGood statement
 good_start address None below statement is = absurd cc
 good_start address (Some value) below statement is =
-    let same : Init (entry_of address value) ≡ statement = cc in
+    let same : EntryOf Init (entry_of address value) ≡ statement = cc in
     rw (← same) (good_entry address value below)
 
 good_place : (location : ℕ) (named : Bool) → location < 4096 → (statement : Statement) → (if named then Some (May location) else None) ≡ Some statement → IsGood statement
@@ -75,7 +76,7 @@ good_place location true below statement is =
 
 cells_good : (cert : Stated) (address : ℕ) → address < 4096 → (statement : Statement) → cell_statement cert address ≡ Some statement → IsGood statement
 unfolding cell_statement
-cells_good cert address below statement is = good_limit Cell (λ entry good. good) address (cell_limit cert.limits address) (is_full (cell_limit cert.limits address)) below statement is
+cells_good cert address below statement is = good_limit Cell address (cell_limit cert.limits address) (is_full (cell_limit cert.limits address)) below statement is
 
 inits_good : (cert : Stated) (address : ℕ) → address < 4096 → (statement : Statement) → init_statement cert address ≡ Some statement → IsGood statement
 unfolding init_statement
@@ -83,11 +84,11 @@ inits_good cert address below statement is = good_start address (get_or cert.ini
 
 inputs_good : (cert : Stated) (address : ℕ) → address < 4096 → (statement : Statement) → input_statement cert address ≡ Some statement → IsGood statement
 unfolding input_statement
-inputs_good cert address below statement is = good_limit In (λ entry good. good) address (input_limit cert.limits address) (is_full (input_limit cert.limits address)) below statement is
+inputs_good cert address below statement is = good_limit In address (input_limit cert.limits address) (is_full (input_limit cert.limits address)) below statement is
 
 outputs_good : (cert : Stated) (address : ℕ) → address < 4096 → (statement : Statement) → output_statement cert address ≡ Some statement → IsGood statement
 unfolding output_statement
-outputs_good cert address below statement is = good_limit Out (λ entry good. good) address (output_limit cert.limits address) (is_full (output_limit cert.limits address)) below statement is
+outputs_good cert address below statement is = good_limit Out address (output_limit cert.limits address) (is_full (output_limit cert.limits address)) below statement is
 
 places_good : (cert : Stated) (address : ℕ) → address < 4096 → (statement : Statement) → place_statement cert address ≡ Some statement → IsGood statement
 unfolding place_statement

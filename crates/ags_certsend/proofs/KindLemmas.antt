@@ -1,5 +1,5 @@
 -- The kinds that stand by address have no fault, where the certificate suits the registers.
-use Rattle.std.proofs.Common.{◌≡◌, ℕ, ◌<◌, ◌≤◌, ◌^◌, Bool, true, false, not, ◌==◌, ◌&&◌, ◌||◌, List, [], ◌∷◌, length, get_or, Option, Some, None, refl, sym, ap, ◌∙◌, inl, inr, arith}
+use Rattle.std.proofs.Common.{◌≡◌, ℕ, ◌<◌, ◌≤◌, ◌^◌, Bool, true, false, ◌==◌, ◌&&◌, ◌||◌, List, [], ◌∷◌, length, get_or, Option, Some, None, refl, sym, ap, ◌∙◌, inl, inr, arith}
 use Rattle.std.specs.Prelude.{nat_le, nat_lt, All, if◌then◌else◌}
 use Rattle.std.specs.Int.RustNames.{int_le}
 use Rattle.std.specs.List.{list_any, filter_map, position_or_len}
@@ -21,12 +21,15 @@ use Rattle.ags_row.specs.Limit.{cell_limit, input_limit, output_limit, is_named}
 use Rattle.ags_safe.specs.Certificate.{Suits}
 use Rattle.ags_certtype.specs.Cert.{Stated, IsCert, certificate_of}
 use Rattle.ags_certtext.specs.Fault.{fault_after, has_register, lacks_zero, is_outside}
-use Rattle.ags_certtext.specs.Statement.{cell_entry, init_entry, in_entry, out_entry, may_place, entries, has_address, value_at, kind_number, last_kind}
+use Rattle.ags_certtext.specs.declared.kinds.Kind.TheVariants as kind
+use Rattle.ags_certtext.specs.Statement.{entry_in, may_place, entries, has_address, value_at}
 use Rattle.ags_certtext.specs.declared.statements.Entry.{Entry}
 use Rattle.ags_certtext.specs.declared.statements.Statement.{Statement}
-use Rattle.ags_certtext.specs.declared.statements.Statement.TheVariants.{Cell, Init, In, Out, May}
+use Rattle.ags_certtext.specs.declared.statements.Statement.TheVariants.{Entry as EntryOf, May}
+use Rattle.ags_certtext.specs.declared.statements.Table.{Table}
+use Rattle.ags_certtext.specs.declared.statements.Table.TheVariants.{Cell, Init, In, Out}
 use Rattle.ags_certsend.specs.CertText.{is_full, entry_of, stating, start_entry, cell_statement, init_statement, input_statement, output_statement, place_statement}
-use Rattle.ags_certsend.proofs.PassLemmas.{stand, lower_last, Chooses, fresh, cells_more, cells_other, not_outside, Keeps}
+use Rattle.ags_certsend.proofs.PassLemmas.{in_order, kind_number, last_number, stand, lower_last, Chooses, fresh, cells_more, cells_other, not_outside, Keeps}
 
 -- ---- full limits
 
@@ -92,54 +95,51 @@ none_lacks ports cert address once = list_any_none (λ (port : Port). port.addre
 
 -- ---- the fault of a statement
 
-pub in_order : (last kind : ℕ) → last ≤ kind → last ≤ 7 → (nat_le last kind && not (last == 8)) ≡ true
-in_order last kind low few = grind (arith, nat_tests)
-
 pub not_fixed : (address : ℕ) → address < 2048 → nat_le 2048 address ≡ false
 not_fixed address below = grind (arith, nat_tests)
 
 module _ (ports : Registers) (before : List Statement) (address : ℕ) (value : Value) where
-  cell_clear : last_kind before ≤ 2 → address < 2048 → has_address (entries cell_entry before) address ≡ false → fault_after ports before (Cell (entry_of address value)) ≡ None
-  cell_clear last below none = rw (in_order (last_kind before) 2 last (omega (arith, last)), not_fixed address below, none) refl
+  cell_clear : last_number before ≤ 2 → address < 2048 → has_address (entries Cell before) address ≡ false → fault_after ports before (EntryOf Cell (entry_of address value)) ≡ None
+  cell_clear last below none = rw (in_order before kind.Cell 2 refl last (omega (arith, last)), not_fixed address below, none) refl
 
-  init_clear : last_kind before ≤ 3 → address < 2048 → has_address (entries init_entry before) address ≡ false
-      → is_outside (Some value) (value_at (entries cell_entry before) address) ≡ false → fault_after ports before (Init (entry_of address value)) ≡ None
-  init_clear last below none within = rw (in_order (last_kind before) 3 last (omega (arith, last)), not_fixed address below, none, within) refl
+  init_clear : last_number before ≤ 3 → address < 2048 → has_address (entries Init before) address ≡ false
+      → is_outside (Some value) (value_at (entries Cell before) address) ≡ false → fault_after ports before (EntryOf Init (entry_of address value)) ≡ None
+  init_clear last below none within = rw (in_order before kind.Init 3 refl last (omega (arith, last)), not_fixed address below, none, within) refl
 
-  in_clear : last_kind before ≤ 4 → has_register ports.inputs address ≡ true → has_address (entries in_entry before) address ≡ false
-      → list_any (λ (port : Port). port.address == address && lacks_zero (Some port) (Some value)) ports.inputs ≡ false → fault_after ports before (In (entry_of address value)) ≡ None
-  in_clear last register none zero_held = rw (in_order (last_kind before) 4 last (omega (arith, last)), register, none, zero_held) refl
+  in_clear : last_number before ≤ 4 → has_register ports.inputs address ≡ true → has_address (entries In before) address ≡ false
+      → list_any (λ (port : Port). port.address == address && lacks_zero (Some port) (Some value)) ports.inputs ≡ false → fault_after ports before (EntryOf In (entry_of address value)) ≡ None
+  in_clear last register none zero_held = rw (in_order before kind.In 4 refl last (omega (arith, last)), register, none, zero_held) refl
 
-  out_clear : last_kind before ≤ 5 → has_register ports.outputs address ≡ true → has_address (entries out_entry before) address ≡ false → fault_after ports before (Out (entry_of address value)) ≡ None
-  out_clear last register none = rw (in_order (last_kind before) 5 last (omega (arith, last)), register, none) refl
+  out_clear : last_number before ≤ 5 → has_register ports.outputs address ≡ true → has_address (entries Out before) address ≡ false → fault_after ports before (EntryOf Out (entry_of address value)) ≡ None
+  out_clear last register none = rw (in_order before kind.Out 5 refl last (omega (arith, last)), register, none) refl
 
-may_clear : (ports : Registers) (before : List Statement) (location : ℕ) → last_kind before ≤ 6 → list_any (λ (other : ℕ). other == location) (filter_map may_place before) ≡ false
+may_clear : (ports : Registers) (before : List Statement) (location : ℕ) → last_number before ≤ 6 → list_any (λ (other : ℕ). other == location) (filter_map may_place before) ≡ false
     → fault_after ports before (May location) ≡ None
-may_clear ports before location last none = rw (in_order (last_kind before) 6 last (omega (arith, last)), none) refl
+may_clear ports before location last none = rw (in_order before kind.May 6 refl last (omega (arith, last)), none) refl
 
 -- ---- what is chosen
 
 same_address : (stated entry : Entry) → ◌≡◌ {A = Option Entry} (Some stated) (Some entry) → stated.address ≡ entry.address
 same_address stated entry is = let same : stated ≡ entry = cc in ap (λ (e : Entry). e.address) same
 
-pub chooses_cell : (statement : Statement) (entry : Entry) → cell_entry statement ≡ Some entry → (kind_number statement ≡ 2) × (stand statement ≡ entry.address)
+pub chooses_cell : (statement : Statement) (entry : Entry) → entry_in Cell statement ≡ Some entry → (kind_number statement ≡ 2) × (stand statement ≡ entry.address)
 unfolding stand
-chooses_cell (Cell stated) entry is = (refl, same_address stated entry is)
+chooses_cell (EntryOf Cell stated) entry is = (refl, same_address stated entry is)
 chooses_cell _ entry is = absurd cc
 
-pub chooses_init : (statement : Statement) (entry : Entry) → init_entry statement ≡ Some entry → (kind_number statement ≡ 3) × (stand statement ≡ entry.address)
+pub chooses_init : (statement : Statement) (entry : Entry) → entry_in Init statement ≡ Some entry → (kind_number statement ≡ 3) × (stand statement ≡ entry.address)
 unfolding stand
-chooses_init (Init stated) entry is = (refl, same_address stated entry is)
+chooses_init (EntryOf Init stated) entry is = (refl, same_address stated entry is)
 chooses_init _ entry is = absurd cc
 
-pub chooses_in : (statement : Statement) (entry : Entry) → in_entry statement ≡ Some entry → (kind_number statement ≡ 4) × (stand statement ≡ entry.address)
+pub chooses_in : (statement : Statement) (entry : Entry) → entry_in In statement ≡ Some entry → (kind_number statement ≡ 4) × (stand statement ≡ entry.address)
 unfolding stand
-chooses_in (In stated) entry is = (refl, same_address stated entry is)
+chooses_in (EntryOf In stated) entry is = (refl, same_address stated entry is)
 chooses_in _ entry is = absurd cc
 
-pub chooses_out : (statement : Statement) (entry : Entry) → out_entry statement ≡ Some entry → (kind_number statement ≡ 5) × (stand statement ≡ entry.address)
+pub chooses_out : (statement : Statement) (entry : Entry) → entry_in Out statement ≡ Some entry → (kind_number statement ≡ 5) × (stand statement ≡ entry.address)
 unfolding stand
-chooses_out (Out stated) entry is = (refl, same_address stated entry is)
+chooses_out (EntryOf Out stated) entry is = (refl, same_address stated entry is)
 chooses_out _ entry is = absurd cc
 
 pub chooses_may : (statement : Statement) (place : ℕ) → may_place statement ≡ Some place → (kind_number statement ≡ 6) × (stand statement ≡ place)
@@ -149,13 +149,13 @@ chooses_may _ place is = absurd cc
 
 -- ---- what is stated at an address
 
-pub limit_cases : (kind : Entry → Statement) (address : ℕ) (limit : Value) (full : Bool) (statement : Statement)
-    → stating kind (if full then None else Some (entry_of address limit)) ≡ Some statement → (full ≡ false) × (kind (entry_of address limit) ≡ statement)
-limit_cases kind address limit true statement is = absurd cc
-limit_cases kind address limit false statement is = (refl, cc)
+pub limit_cases : (table : Table) (address : ℕ) (limit : Value) (full : Bool) (statement : Statement)
+    → stating table (if full then None else Some (entry_of address limit)) ≡ Some statement → (full ≡ false) × (EntryOf table (entry_of address limit) ≡ statement)
+limit_cases table address limit true statement is = absurd cc
+limit_cases table address limit false statement is = (refl, cc)
 
 pub start_cases : (address : ℕ) (value : Option Value) (statement : Statement) → stating Init (start_entry address value) ≡ Some statement
-    → (stated : Value) × (value ≡ Some stated) × (Init (entry_of address stated) ≡ statement)
+    → (stated : Value) × (value ≡ Some stated) × (EntryOf Init (entry_of address stated) ≡ statement)
 start_cases address None statement is = absurd cc
 start_cases address (Some value) statement is = (value, refl, cc)
 
@@ -171,7 +171,7 @@ cell_keeps ports cert = λ before address statement below lower cells is.
     let limit = cell_limit cert.limits address in
     let parts = limit_cases Cell address limit (is_full limit) statement is in
     rw (← parts.1) (record {
-      none = cell_clear ports before address limit (lower_last 2 address before lower) below (fresh cell_entry (λ (entry : Entry). entry.address) 2 address chooses_cell before lower);
+      none = cell_clear ports before address limit (lower_last 2 address before lower) below (fresh (entry_in Cell) (λ (entry : Entry). entry.address) 2 address chooses_cell before lower);
       kind_is = refl;
       place_is = refl;
       cells = cells_more cert address before cells;
@@ -183,11 +183,11 @@ init_keeps ports cert good = λ before address statement below lower cells is.
     let parts = start_cases address (get_or cert.init address None) statement is in
     let within = rw parts.1 at (good.certificate.init address below) in
     rw (← parts.2) (record {
-      none = init_clear ports before address parts.0 (lower_last 3 address before lower) below (fresh init_entry (λ (entry : Entry). entry.address) 3 address chooses_init before lower)
+      none = init_clear ports before address parts.0 (lower_last 3 address before lower) below (fresh (entry_in Init) (λ (entry : Entry). entry.address) 3 address chooses_init before lower)
           (not_outside cert before address parts.0 cells within);
       kind_is = refl;
       place_is = refl;
-      cells = cells_other cert (Init (entry_of address parts.0)) before refl cells;
+      cells = cells_other cert (EntryOf Init (entry_of address parts.0)) before refl cells;
     })
 
 pub input_keeps : (machine : Machine) (cert : Stated) → Suits value_meaning machine (certificate_of cert) → Keeps machine.ports cert 4 4096 (input_statement cert)
@@ -197,10 +197,10 @@ input_keeps machine cert suits = λ before address statement below lower cells i
     let parts = limit_cases In address limit (is_full limit) statement is in
     rw (← parts.1) (record {
       none = in_clear machine.ports before address limit (lower_last 4 address before lower) (registered machine.ports.inputs address limit (suits.inputs address below) parts.0)
-          (fresh in_entry (λ (entry : Entry). entry.address) 4 address chooses_in before lower) (none_lacks machine.ports.inputs cert address suits.once);
+          (fresh (entry_in In) (λ (entry : Entry). entry.address) 4 address chooses_in before lower) (none_lacks machine.ports.inputs cert address suits.once);
       kind_is = refl;
       place_is = refl;
-      cells = cells_other cert (In (entry_of address limit)) before refl cells;
+      cells = cells_other cert (EntryOf In (entry_of address limit)) before refl cells;
     })
 
 pub output_keeps : (machine : Machine) (cert : Stated) → Suits value_meaning machine (certificate_of cert) → Keeps machine.ports cert 5 4096 (output_statement cert)
@@ -210,10 +210,10 @@ output_keeps machine cert suits = λ before address statement below lower cells 
     let parts = limit_cases Out address limit (is_full limit) statement is in
     rw (← parts.1) (record {
       none = out_clear machine.ports before address limit (lower_last 5 address before lower) (registered machine.ports.outputs address limit (suits.outputs address below) parts.0)
-          (fresh out_entry (λ (entry : Entry). entry.address) 5 address chooses_out before lower);
+          (fresh (entry_in Out) (λ (entry : Entry). entry.address) 5 address chooses_out before lower);
       kind_is = refl;
       place_is = refl;
-      cells = cells_other cert (Out (entry_of address limit)) before refl cells;
+      cells = cells_other cert (EntryOf Out (entry_of address limit)) before refl cells;
     })
 
 pub place_keeps : (ports : Registers) (cert : Stated) → Keeps ports cert 6 4096 (place_statement cert)

@@ -1,16 +1,18 @@
 -- The line of each statement of a certificate spells it.
-use Rattle.std.proofs.Common.{◌≡◌, ℕ, ◌+◌, ◌<◌, true, List, [], ◌∷◌, ◌++◌, length, Some, refl, sym, ap, ◌∙◌, append_assoc, append-nil, codes, arith}
+use Rattle.std.proofs.Common.{◌≡◌, ℕ, ◌+◌, ◌<◌, true, List, [], ◌∷◌, ◌++◌, length, Some, refl, sym, ap, subst, ◌∙◌, append_assoc, append-nil, codes, arith}
 use Rattle.ags_text.specs.Field.{Behind, HasFields}
 use Rattle.ags_text.specs.Numeral.{octal4_text}
 use Rattle.ags_text.proofs.NumeralLemmas.{writes}
 use Rattle.ags_domain.specs.ValueText.{value_text}
 use Rattle.ags_domain.specs.declared.values.Value.{Value}
 use Rattle.ags_row.specs.Flag.{some_flag}
-use Rattle.ags_certtext.specs.Spelling.{flag_digits, StatesPlace, StatesEntry, StatesRow, States}
+use Rattle.ags_certtext.specs.Spelling.{flag_digits, StatesPlace, StatesEntry, StatesRow, States, table_name}
 use Rattle.ags_certtext.specs.declared.statements.Entry.{Entry}
 use Rattle.ags_certtext.specs.declared.statements.RowLine.{RowLine}
 use Rattle.ags_certtext.specs.declared.statements.Statement.{Statement}
-use Rattle.ags_certtext.specs.declared.statements.Statement.TheVariants.{Start, Cell, Init, In, Out, May, Row, At, End}
+use Rattle.ags_certtext.specs.declared.statements.Statement.TheVariants.{Start, Entry as EntryOf, May, Row, End}
+use Rattle.ags_certtext.specs.declared.statements.Table.{Table}
+use Rattle.ags_certtext.specs.declared.statements.Table.TheVariants.{Cell, Init, In, Out, At}
 use Rattle.ags_certsend.specs.Spelled.{entry_text, row_text, statement_text}
 use Rattle.ags_certsend.proofs.ShownLemmas.{IsShown, shown-append, shown-weaker, octal_shown, flags_shown}
 use Rattle.ags_certsend.proofs.ValueLemmas.{spaced, spaced-append, IsValueText, value_spelled}
@@ -35,13 +37,9 @@ pub record IsGoodRow (row : RowLine) : Type 0 where
 
 abbrev pub IsGood : Statement → Type 0
 IsGood (Start location) = location < 4096
-IsGood (Cell entry) = IsGoodEntry entry
-IsGood (Init entry) = IsGoodEntry entry
-IsGood (In entry) = IsGoodEntry entry
-IsGood (Out entry) = IsGoodEntry entry
+IsGood (EntryOf table entry) = IsGoodEntry entry
 IsGood (May location) = location < 4096
 IsGood (Row row) = IsGoodRow row
-IsGood (At entry) = IsGoodEntry entry
 IsGood End = Unit {0}
 
 -- ---- fields of a line
@@ -173,19 +171,24 @@ place_is_line keyword location first below =
     shown-weaker (5 + (1 + 4)) 300 _ (omega arith) (shown-append 5 (1 + 4) keyword _ first
     (shown-append 1 4 (codes " ") (octal4_text location) (record { plain = refl; short = omega arith }) (four_shown location below)))
 
+-- the keyword of a table has five letters at most
+name_shown : (table : Table) → IsShown 5 (table_name table)
+name_shown Cell = record { plain = refl; short = omega arith }
+name_shown Init = record { plain = refl; short = omega arith }
+name_shown In = record { plain = refl; short = omega arith }
+name_shown Out = record { plain = refl; short = omega arith }
+name_shown At = record { plain = refl; short = omega arith }
+
 pub statement_is_line : (statement : Statement) → IsGood statement → IsLine (statement_text statement) statement
 unfolding spaced
 statement_is_line (Start location) good = record { states = place_line (codes "START") location good; shown = place_is_line (codes "START") location (record { plain = refl; short = omega arith }) good }
-statement_is_line (Cell entry) good = record { states = entry_line (codes "CELL") entry good; shown = entry_is_line (codes "CELL") entry (record { plain = refl; short = omega arith }) good }
-statement_is_line (Init entry) good = record { states = entry_line (codes "INIT") entry good; shown = entry_is_line (codes "INIT") entry (record { plain = refl; short = omega arith }) good }
-statement_is_line (In entry) good = record { states = entry_line (codes "IN") entry good; shown = entry_is_line (codes "IN") entry (record { plain = refl; short = omega arith }) good }
-statement_is_line (Out entry) good = record { states = entry_line (codes "OUT") entry good; shown = entry_is_line (codes "OUT") entry (record { plain = refl; short = omega arith }) good }
+statement_is_line (EntryOf table entry) good = subst (λ (line : List ℕ). IsLine line (EntryOf table entry)) (sym (append_assoc (table_name table) (codes " ") (entry_text entry)))
+    (record { states = entry_line (table_name table) entry good; shown = entry_is_line (table_name table) entry (name_shown table) good })
 statement_is_line (May location) good = record { states = place_line (codes "MAY") location good; shown = place_is_line (codes "MAY") location (record { plain = refl; short = omega arith }) good }
 statement_is_line (Row row) good = record {
   states = row_line row good;
   shown = shown-weaker (4 + 260) 300 _ (omega arith) (shown-append 4 260 (codes "ROW ") (row_text row) (record { plain = refl; short = omega arith }) (row_shown row good));
 }
-statement_is_line (At entry) good = record { states = entry_line (codes "AT") entry good; shown = entry_is_line (codes "AT") entry (record { plain = refl; short = omega arith }) good }
 statement_is_line End good = record { states = has_spaced (codes "END") []; shown = record { plain = refl; short = omega arith } }
 
 -- the line that opens a certificate

@@ -1,5 +1,7 @@
 -- No statement of a certificate is at fault behind those before it: what is kept along the kinds that stand by address.
-use Rattle.std.proofs.Common.{◌≡◌, ℕ, zero, suc, ◌+◌, ◌<◌, ◌≤◌, ◌⊎◌, Bool, true, false, not, ◌==◌, ◌||◌, List, [], ◌∷◌, ◌++◌, map, Option, Some, None, refl, ap, ◌∙◌, inl, inr, arith}
+use Rattle.std.proofs.Common.{◌≡◌, ℕ, zero, suc, ◌+◌, ◌<◌, ◌≤◌, ◌⊎◌, Bool, true, false, not, ◌==◌, ◌||◌, List, [], ◌∷◌, ◌++◌, map, Option, Some, None, refl, sym, ap, ◌∙◌, inl, inr, arith}
+use Rattle.std.specs.Prelude.{nat_le}
+use Rattle.std.proofs.lemmas.Bool.Decides.{nat_tests}
 use Rattle.std.specs.List.{list_any, filter_map, range_with_len, cons_option}
 use Rattle.std.proofs.lemmas.Bool.{cases_Bool, eqb-true, ne_eqb}
 use Rattle.ags_text.specs.Fault.{first_fault, first_fault-nil, first_fault-faultless}
@@ -11,9 +13,14 @@ use Rattle.ags_row.specs.Limit.{cell_limit}
 use Rattle.ags_certtype.specs.Cert.{Stated}
 use Rattle.ags_certtext.specs.Fault.{fault_after, end_fault, reading_fault, is_outside}
 use Rattle.ags_certtext.specs.Reading.{Reading, Stated as StatedBy, Ended, statement_of}
-use Rattle.ags_certtext.specs.Statement.{cell_entry, entries, value_at, row_line, kind_number, last_kind, all_below, is_within}
+use Rattle.ags_certtext.specs.declared.kinds.Kind.{Kind}
+use Rattle.ags_certtext.specs.declared.kinds.Kind.TheVariants as kind
+use Rattle.ags_certtext.specs.Kind.{follows, is_kind, kind_of, kinds_before, last_kind}
+use Rattle.ags_certtext.specs.Statement.{entry_in, entries, value_at, row_line, all_below, is_within}
 use Rattle.ags_certtext.specs.declared.statements.Statement.{Statement}
-use Rattle.ags_certtext.specs.declared.statements.Statement.TheVariants.{Start, Cell, Init, In, Out, May, Row as RowOf, At as AtOf, End}
+use Rattle.ags_certtext.specs.declared.statements.Statement.TheVariants.{Start, Entry as EntryOf, May, Row as RowOf, End}
+use Rattle.ags_certtext.specs.declared.statements.Table.{Table}
+use Rattle.ags_certtext.specs.declared.statements.Table.TheVariants.{Cell, Init, In, Out, At as InRow}
 use Rattle.ags_certsend.specs.CertText.{entry_of, ascending}
 
 -- ---- statements one behind the other
@@ -54,14 +61,63 @@ readings_faultless ports read before (statement ∷ statements) same none last =
 -- the address of a statement
 unfoldable pub stand : Statement → ℕ
 stand (Start location) = 0
-stand (Cell entry) = entry.address
-stand (Init entry) = entry.address
-stand (In entry) = entry.address
-stand (Out entry) = entry.address
+stand (EntryOf table entry) = entry.address
 stand (May location) = location
 stand (RowOf row) = 0
-stand (AtOf entry) = entry.address
 stand End = 0
+
+-- how many kinds there are up to that of a table, and up to that of a statement
+abbrev pub table_number : Table → ℕ
+table_number Cell = 2
+table_number Init = 3
+table_number In = 4
+table_number Out = 5
+table_number InRow = 7
+
+abbrev pub kind_number : Statement → ℕ
+kind_number (Start location) = 1
+kind_number (EntryOf table entry) = table_number table
+kind_number (May location) = 6
+kind_number (RowOf row) = 7
+kind_number End = 8
+
+-- and up to that of the last statement
+abbrev pub last_number : List Statement → ℕ
+last_number [] = 0
+last_number (statement ∷ before) = kind_number statement
+
+number_is : (statement : Statement) → kinds_before (kind_of statement) + 1 ≡ kind_number statement
+number_is (Start location) = refl
+number_is (EntryOf Cell entry) = refl
+number_is (EntryOf Init entry) = refl
+number_is (EntryOf In entry) = refl
+number_is (EntryOf Out entry) = refl
+number_is (EntryOf InRow entry) = refl
+number_is (May location) = refl
+number_is (RowOf row) = refl
+number_is End = refl
+
+not_end : (statement : Statement) → kind_number statement ≤ 7 → is_kind kind.End (kind_of statement) ≡ false
+not_end End few = absurd (omega (arith, few))
+not_end (EntryOf Cell entry) few = refl
+not_end _ few = refl
+
+-- behind kinds that are no later a kind stands in order
+pub in_order : (before : List Statement) (its : Kind) (number : ℕ) → kinds_before its + 1 ≡ number → last_number before ≤ number → last_number before ≤ 7
+    → follows (last_kind before) its ≡ true
+in_order [] its number is low few = refl
+in_order (statement ∷ before) its number is low few =
+    rw (no_later (kinds_before (kind_of statement)) (kinds_before its) (let own = number_is statement in omega (arith, own, is, low)), not_end statement few) refl
+  where
+    no_later : (one other : ℕ) → one ≤ other → nat_le one other ≡ true
+    no_later one other is = grind (arith, nat_tests)
+
+-- behind a row its number is the last
+pub row_number : (before : List Statement) → last_kind before ≡ Some kind.Row → last_number before ≡ 7
+row_number [] is = absurd cc
+row_number (statement ∷ before) is =
+    let same : kind_of statement ≡ kind.Row = cc in
+    sym (number_is statement) ∙ ap (λ (its : Kind). kinds_before its + 1) same
 
 IsLower : ℕ → ℕ → Statement → Type 0
 IsLower kind address statement = (kind_number statement < kind) ⊎ ((kind_number statement ≡ kind) × (stand statement < address))
@@ -95,7 +151,7 @@ lower_kind kind address [] all = tt
 lower_kind kind address (other ∷ others) all =
     (inl (elim all.0 [ inl less ↦ omega (arith, less) | inr same ↦ let is = same.0 in omega (arith, is) ]), lower_kind kind address others all.1)
 
-pub lower_last : (kind address : ℕ) (before : List Statement) → AreLower kind address before → last_kind before ≤ kind
+pub lower_last : (kind address : ℕ) (before : List Statement) → AreLower kind address before → last_number before ≤ kind
 unfolding AreLower IsLower
 lower_last kind address [] all = omega arith
 lower_last kind address (statement ∷ before) all = elim all.0 [ inl less ↦ omega (arith, less) | inr same ↦ let is = same.0 in omega (arith, is) ]
@@ -147,17 +203,17 @@ fresh chosen key kind address chooses (statement ∷ before) lower =
 
 -- of a cell nothing is stated, or its limit
 pub AreCellsOf : Stated → List Statement → Type 0
-AreCellsOf cert before = (address : ℕ) → (value_at (entries cell_entry before) address ≡ None) ⊎ (value_at (entries cell_entry before) address ≡ Some (cell_limit cert.limits address))
+AreCellsOf cert before = (address : ℕ) → (value_at (entries Cell before) address ≡ None) ⊎ (value_at (entries Cell before) address ≡ Some (cell_limit cert.limits address))
 
 pub cells_none : (cert : Stated) → AreCellsOf cert []
 unfolding AreCellsOf
 cells_none cert = λ address. inl refl
 
-pub cells_other : (cert : Stated) (statement : Statement) (before : List Statement) → cell_entry statement ≡ None → AreCellsOf cert before → AreCellsOf cert (statement ∷ before)
+pub cells_other : (cert : Stated) (statement : Statement) (before : List Statement) → entry_in Cell statement ≡ None → AreCellsOf cert before → AreCellsOf cert (statement ∷ before)
 unfolding AreCellsOf
 cells_other cert statement before none are = λ address. rw none (are address)
 
-pub cells_more : (cert : Stated) (cell : ℕ) (before : List Statement) → AreCellsOf cert before → AreCellsOf cert (Cell (entry_of cell (cell_limit cert.limits cell)) ∷ before)
+pub cells_more : (cert : Stated) (cell : ℕ) (before : List Statement) → AreCellsOf cert before → AreCellsOf cert (EntryOf Cell (entry_of cell (cell_limit cert.limits cell)) ∷ before)
 unfolding AreCellsOf
 cells_more cert cell before are = λ address.
     elim (cases_Bool (cell == address)) [
@@ -179,7 +235,7 @@ unfolding is_within
 within_test inner outer within = all_below_from 262144 (λ word. not (value_held inner word) || value_held outer word) (λ word below. implied (value_held inner word) (value_held outer word) (within word below))
 
 pub not_outside : (cert : Stated) (before : List Statement) (address : ℕ) (value : Value) → AreCellsOf cert before → IsWithin value_meaning value (cell_limit cert.limits address)
-    → is_outside (Some value) (value_at (entries cell_entry before) address) ≡ false
+    → is_outside (Some value) (value_at (entries Cell before) address) ≡ false
 unfolding AreCellsOf
 not_outside cert before address value are within =
     elim (are address) [

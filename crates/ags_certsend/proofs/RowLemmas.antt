@@ -21,27 +21,30 @@ use Rattle.ags_certtype.specs.Cert.{Stated, IsCert, certificate_of, rows_at}
 use Rattle.ags_certtype.specs.Limit.{most_rows, most_rows_at_one}
 use Rattle.ags_certtext.specs.Fault.{fault_after, end_fault, reading_fault, is_outside, rows_at as lines_at}
 use Rattle.ags_certtext.specs.Reading.{Opening, Stated as StatedBy, Ended}
-use Rattle.ags_certtext.specs.Statement.{cell_entry, entries, has_address, value_at, row_entries, row_line, last_kind}
+use Rattle.ags_certtext.specs.declared.kinds.Kind.TheVariants as kind
+use Rattle.ags_certtext.specs.Kind.{last_kind}
+use Rattle.ags_certtext.specs.Statement.{entries, has_address, value_at, row_entries, row_line}
 use Rattle.ags_certtext.specs.declared.statements.RowLine.{RowLine}
 use Rattle.ags_certtext.specs.declared.statements.Statement.{Statement}
-use Rattle.ags_certtext.specs.declared.statements.Statement.TheVariants.{Start, Row as RowOf, At as AtOf, End}
+use Rattle.ags_certtext.specs.declared.statements.Statement.TheVariants.{Start, Entry as EntryOf, Row as RowOf, End}
+use Rattle.ags_certtext.specs.declared.statements.Table.TheVariants.{Cell, At as InRow}
 use Rattle.ags_certsend.specs.CertText.{entry_of, cell_statement, init_statement, input_statement, output_statement, place_statement, ascending, row_line_of, at_statement, row_statements, statements_of}
 use Rattle.ags_certsend.proofs.GoodLemmas.{cell_below}
-use Rattle.ags_certsend.proofs.PassLemmas.{onto, NoFault, no_fault-append, onto-append, readings_faultless, AreLower, lower_none, lower_more, lower_kind, lower_last, apart, AreCellsOf, cells_none, cells_other, not_outside, start_stands, no_lines, ascending_passed}
-use Rattle.ags_certsend.proofs.KindLemmas.{in_order, not_fixed, cell_keeps, init_keeps, input_keeps, output_keeps, place_keeps}
+use Rattle.ags_certsend.proofs.PassLemmas.{in_order, last_number, row_number, onto, NoFault, no_fault-append, onto-append, readings_faultless, AreLower, lower_none, lower_more, lower_kind, lower_last, apart, AreCellsOf, cells_none, cells_other, not_outside, start_stands, no_lines, ascending_passed}
+use Rattle.ags_certsend.proofs.KindLemmas.{not_fixed, cell_keeps, init_keeps, input_keeps, output_keeps, place_keeps}
 
 -- ---- the cells of a row
 
 not_many : (most count : ℕ) → count < most → nat_le most count ≡ false
 not_many most count less = grind (arith, nat_tests)
 
-at_clear : (ports : Registers) (before : List Statement) (address : ℕ) (value : Value) → last_kind before ≡ 7 → address < 2048 → has_address (row_entries before) address ≡ false
-    → is_outside (Some value) (value_at (entries cell_entry before) address) ≡ false → length (row_entries before) < 64 → fault_after ports before (AtOf (entry_of address value)) ≡ None
+at_clear : (ports : Registers) (before : List Statement) (address : ℕ) (value : Value) → last_kind before ≡ Some kind.Row → address < 2048 → has_address (row_entries before) address ≡ false
+    → is_outside (Some value) (value_at (entries Cell before) address) ≡ false → length (row_entries before) < 64 → fault_after ports before (EntryOf InRow (entry_of address value)) ≡ None
 at_clear ports before address value last below none within few = rw (last, not_fixed address below, none, within, not_many 64 (length (row_entries before)) few) refl
 
 -- what stands before a cell of a row, whose address is from that one on
 record IsInRow (cert : Stated) (lines : List RowLine) (before : List Statement) (from : ℕ) : Type 0 where
-  last : last_kind before ≡ 7
+  last : last_kind before ≡ Some kind.Row
   cells : AreCellsOf cert before
   rows : filter_map row_line before ≡ lines
   fresh : (address : ℕ) → from ≤ address → has_address (row_entries before) address ≡ false
@@ -49,7 +52,7 @@ record IsInRow (cert : Stated) (lines : List RowLine) (before : List Statement) 
 -- the cells have no fault, and this is kept
 record ArePassed (ports : Registers) (cert : Stated) (lines : List RowLine) (before statements : List Statement) : Type 0 where
   none : NoFault ports before statements
-  last : last_kind (onto before statements) ≡ 7
+  last : last_kind (onto before statements) ≡ Some kind.Row
   cells : AreCellsOf cert (onto before statements)
   rows : filter_map row_line (onto before statements) ≡ lines
 
@@ -78,15 +81,15 @@ cells_passed ports cert lines from (cell ∷ cells) is within before in_row few 
 
 -- what stands before these rows
 record IsBeforeRows (cert : Stated) (before : List Statement) (rows : List (Row Value)) : Type 0 where
-  last : last_kind before ≤ 7
+  last : last_number before ≤ 7
   cells : AreCellsOf cert before
   count : length (filter_map row_line before) + length rows ≡ length cert.rows
   few : (location : ℕ) → length (lines_at before location) + rows_at rows location ≤ most_rows_at_one
 
-row_clear : (ports : Registers) (before : List Statement) (row : Row Value) → last_kind before ≤ 7 → length (filter_map row_line before) < most_rows
+row_clear : (ports : Registers) (before : List Statement) (row : Row Value) → last_number before ≤ 7 → length (filter_map row_line before) < most_rows
     → length (lines_at before row.location) < most_rows_at_one → fault_after ports before (RowOf (row_line_of row)) ≡ None
 row_clear ports before row last few few_here =
-    rw (in_order (last_kind before) 7 last last, not_many most_rows (length (filter_map row_line before)) few, not_many most_rows_at_one (length (lines_at before row.location)) few_here) refl
+    rw (in_order before kind.Row 7 refl last last, not_many most_rows (length (filter_map row_line before)) few, not_many most_rows_at_one (length (lines_at before row.location)) few_here) refl
 
 -- the row's own line counts where it stands
 here_once : (row : Row Value) (rows : List (Row Value)) → rows_at (row ∷ rows) row.location ≡ 1 + rows_at rows row.location
@@ -126,7 +129,7 @@ row_passed ports cert good row rows within before state =
     } in
     let few = row.few in
     let passed = cells_passed ports cert (filter_map row_line (RowOf (row_line_of row) ∷ before)) 0 row.at row.ascending within (RowOf (row_line_of row) ∷ before) in_row (omega (arith, few)) in
-    let last = passed.last in
+    let last = row_number (onto (RowOf (row_line_of row) ∷ before) (map at_statement row.at)) passed.last in
     record {
       none = (clear, passed.none);
       later = record {
@@ -172,7 +175,7 @@ end_finishes ports cert before good state =
     let some = good.certificate.some_row in
     let count = state.count in
     record {
-      none = (rw (in_order (last_kind before) 8 (let last = state.last in omega (arith, last)) state.last, ne_eqb (length (filter_map row_line before)) 0 (λ none. omega (arith, none, some, count))) refl, tt);
+      none = (rw (in_order before kind.End 8 refl (let last = state.last in omega (arith, last)) state.last, ne_eqb (length (filter_map row_line before)) 0 (λ none. omega (arith, none, some, count))) refl, tt);
       ended = refl;
     }
 

@@ -14,17 +14,19 @@ use Rattle.ags_row.specs.declared.ats.At.{At}
 use Rattle.ags_row.specs.declared.rows.Row.{Row}
 use Rattle.ags_certtype.specs.Cert.{Stated, IsCert}
 use Rattle.ags_certtext.specs.Reading.{Stated as StatedBy, Ended, statement_of}
-use Rattle.ags_certtext.specs.Statement.{cell_entry, init_entry, in_entry, out_entry, may_place, entries, value_at, kind_number}
+use Rattle.ags_certtext.specs.Statement.{entry_in, may_place, entries, value_at}
 use Rattle.ags_certtext.specs.Text.{start_of, IsLimit, leading_cells, rows_of, AreRowsOf, IsWhatIsStated}
 use Rattle.ags_certtext.specs.declared.statements.Entry.{Entry}
 use Rattle.ags_certtext.specs.declared.statements.Statement.{Statement}
-use Rattle.ags_certtext.specs.declared.statements.Statement.TheVariants.{Start, Cell, Init, In, Out, May, Row as RowOf, End}
+use Rattle.ags_certtext.specs.declared.statements.Statement.TheVariants.{Start, Entry as EntryOf, May, Row as RowOf, End}
+use Rattle.ags_certtext.specs.declared.statements.Table.{Table}
+use Rattle.ags_certtext.specs.declared.statements.Table.TheVariants.{Cell, Init, In, Out}
 use Rattle.ags_certsend.specs.Section.{address_count, stated_at}
 use Rattle.ags_certsend.specs.declared.sections.Section.{Section}
 use Rattle.ags_certsend.specs.declared.sections.Section.TheVariants.{Cells, Starts, Inputs, Outputs, Places}
 use Rattle.ags_certsend.specs.CertText.{is_full, entry_of, limited, stating, start_entry, cell_statement, init_statement, input_statement, output_statement, place_statement, ascending, at_statement, row_statements, statements_of}
 use Rattle.ags_certsend.proofs.ValueLemmas.{full_holds}
-use Rattle.ags_certsend.proofs.PassLemmas.{Chooses, apart}
+use Rattle.ags_certsend.proofs.PassLemmas.{Chooses, apart, kind_number, table_number}
 use Rattle.ags_certsend.proofs.KindLemmas.{chooses_cell, chooses_init, chooses_in, chooses_out, chooses_may, limit_cases, start_cases, place_cases}
 
 -- ---- what a choice takes of other kinds: nothing
@@ -149,13 +151,13 @@ value_ascending chosen stated values tells count x below = value_there chosen st
 pub limited_value : Value → Option Value
 limited_value limit = if is_full limit then None else Some limit
 
-told_limit : (kind : Entry → Statement) (chosen : Statement → Option Entry) → ((entry : Entry) → chosen (kind entry) ≡ Some entry) → (address : ℕ) (limit : Value) (full : Bool)
-    → IsTold chosen address (stating kind (if full then None else Some (entry_of address limit))) (if full then None else Some limit)
+told_limit : (table : Table) (chosen : Statement → Option Entry) → ((entry : Entry) → chosen (EntryOf table entry) ≡ Some entry) → (address : ℕ) (limit : Value) (full : Bool)
+    → IsTold chosen address (stating table (if full then None else Some (entry_of address limit))) (if full then None else Some limit)
 unfolding IsTold
-told_limit kind chosen takes address limit true = tt
-told_limit kind chosen takes address limit false = takes (entry_of address limit)
+told_limit table chosen takes address limit true = tt
+told_limit table chosen takes address limit false = takes (entry_of address limit)
 
-told_start : (address : ℕ) (value : Option Value) → IsTold init_entry address (stating Init (start_entry address value)) value
+told_start : (address : ℕ) (value : Option Value) → IsTold (entry_in Init) address (stating Init (start_entry address value)) value
 unfolding IsTold
 told_start address None = tt
 told_start address (Some value) = refl
@@ -287,16 +289,16 @@ kind_of Inputs = 4
 kind_of Outputs = 5
 kind_of Places = 6
 
-limit_makes : (kind : Entry → Statement) (number : ℕ) → ((entry : Entry) → kind_number (kind entry) ≡ number) → (address : ℕ) (limit : Value) (statement : Statement)
-    → stating kind (limited address limit) ≡ Some statement → kind_number statement ≡ number
-limit_makes kind number of address limit statement is = rw (← (limit_cases kind address limit (is_full limit) statement is).1) (of (entry_of address limit))
+limit_makes : (table : Table) (address : ℕ) (limit : Value) (statement : Statement) → stating table (limited address limit) ≡ Some statement
+    → kind_number statement ≡ table_number table
+limit_makes table address limit statement is = rw (← (limit_cases table address limit (is_full limit) statement is).1) refl
 
 makes : (cert : Stated) (section : Section) → Makes (stated_at section cert) (kind_of section)
 unfolding Makes cell_statement init_statement input_statement output_statement place_statement
-makes cert Cells = λ address statement is. limit_makes Cell 2 (λ entry. refl) address (cell_limit cert.limits address) statement is
+makes cert Cells = λ address statement is. limit_makes Cell address (cell_limit cert.limits address) statement is
 makes cert Starts = λ address statement is. rw (← (start_cases address (get_or cert.init address None) statement is).2) refl
-makes cert Inputs = λ address statement is. limit_makes In 4 (λ entry. refl) address (input_limit cert.limits address) statement is
-makes cert Outputs = λ address statement is. limit_makes Out 5 (λ entry. refl) address (output_limit cert.limits address) statement is
+makes cert Inputs = λ address statement is. limit_makes In address (input_limit cert.limits address) statement is
+makes cert Outputs = λ address statement is. limit_makes Out address (output_limit cert.limits address) statement is
 makes cert Places = λ location statement is. rw (← place_cases location (is_named cert.limits location) statement is) refl
 
 -- ---- the parts of a certificate's statements
@@ -368,28 +370,28 @@ module _ (cert : Stated) where
   starts : start_of (statements_of cert) ≡ cert.start
   starts = rw parts refl
 
-  cell_values : (address : ℕ) → address < 2048 → value_at (entries cell_entry (statements_of cert)) address ≡ limited_value (cell_limit cert.limits address)
+  cell_values : (address : ℕ) → address < 2048 → value_at (entries Cell (statements_of cert)) address ≡ limited_value (cell_limit cert.limits address)
   unfolding part Chooses Tells cell_statement limited_value
-  cell_values address below = ap (λ (found : List Entry). value_at found address) (kind_chosen Cells cell_entry (λ (entry : Entry). entry.address) chooses_cell)
-      ∙ value_ascending cell_entry (cell_statement cert) (λ x. limited_value (cell_limit cert.limits x))
-      (λ x. told_limit Cell cell_entry (λ entry. refl) x (cell_limit cert.limits x) (is_full (cell_limit cert.limits x))) 2048 address below
+  cell_values address below = ap (λ (found : List Entry). value_at found address) (kind_chosen Cells (entry_in Cell) (λ (entry : Entry). entry.address) chooses_cell)
+      ∙ value_ascending (entry_in Cell) (cell_statement cert) (λ x. limited_value (cell_limit cert.limits x))
+      (λ x. told_limit Cell (entry_in Cell) (λ entry. refl) x (cell_limit cert.limits x) (is_full (cell_limit cert.limits x))) 2048 address below
 
-  init_values : (address : ℕ) → address < 2048 → value_at (entries init_entry (statements_of cert)) address ≡ get_or cert.init address None
+  init_values : (address : ℕ) → address < 2048 → value_at (entries Init (statements_of cert)) address ≡ get_or cert.init address None
   unfolding part Chooses Tells init_statement
-  init_values address below = ap (λ (found : List Entry). value_at found address) (kind_chosen Starts init_entry (λ (entry : Entry). entry.address) chooses_init)
-      ∙ value_ascending init_entry (init_statement cert) (λ x. get_or cert.init x None) (λ x. told_start x (get_or cert.init x None)) 2048 address below
+  init_values address below = ap (λ (found : List Entry). value_at found address) (kind_chosen Starts (entry_in Init) (λ (entry : Entry). entry.address) chooses_init)
+      ∙ value_ascending (entry_in Init) (init_statement cert) (λ x. get_or cert.init x None) (λ x. told_start x (get_or cert.init x None)) 2048 address below
 
-  input_values : (address : ℕ) → address < 4096 → value_at (entries in_entry (statements_of cert)) address ≡ limited_value (input_limit cert.limits address)
+  input_values : (address : ℕ) → address < 4096 → value_at (entries In (statements_of cert)) address ≡ limited_value (input_limit cert.limits address)
   unfolding part Chooses Tells input_statement limited_value
-  input_values address below = ap (λ (found : List Entry). value_at found address) (kind_chosen Inputs in_entry (λ (entry : Entry). entry.address) chooses_in)
-      ∙ value_ascending in_entry (input_statement cert) (λ x. limited_value (input_limit cert.limits x))
-      (λ x. told_limit In in_entry (λ entry. refl) x (input_limit cert.limits x) (is_full (input_limit cert.limits x))) 4096 address below
+  input_values address below = ap (λ (found : List Entry). value_at found address) (kind_chosen Inputs (entry_in In) (λ (entry : Entry). entry.address) chooses_in)
+      ∙ value_ascending (entry_in In) (input_statement cert) (λ x. limited_value (input_limit cert.limits x))
+      (λ x. told_limit In (entry_in In) (λ entry. refl) x (input_limit cert.limits x) (is_full (input_limit cert.limits x))) 4096 address below
 
-  output_values : (address : ℕ) → address < 4096 → value_at (entries out_entry (statements_of cert)) address ≡ limited_value (output_limit cert.limits address)
+  output_values : (address : ℕ) → address < 4096 → value_at (entries Out (statements_of cert)) address ≡ limited_value (output_limit cert.limits address)
   unfolding part Chooses Tells output_statement limited_value
-  output_values address below = ap (λ (found : List Entry). value_at found address) (kind_chosen Outputs out_entry (λ (entry : Entry). entry.address) chooses_out)
-      ∙ value_ascending out_entry (output_statement cert) (λ x. limited_value (output_limit cert.limits x))
-      (λ x. told_limit Out out_entry (λ entry. refl) x (output_limit cert.limits x) (is_full (output_limit cert.limits x))) 4096 address below
+  output_values address below = ap (λ (found : List Entry). value_at found address) (kind_chosen Outputs (entry_in Out) (λ (entry : Entry). entry.address) chooses_out)
+      ∙ value_ascending (entry_in Out) (output_statement cert) (λ x. limited_value (output_limit cert.limits x))
+      (λ x. told_limit Out (entry_in Out) (λ entry. refl) x (output_limit cert.limits x) (is_full (output_limit cert.limits x))) 4096 address below
 
   place_names : (location : ℕ) → location < 4096 → list_any (λ (place : ℕ). place == location) (filter_map may_place (statements_of cert)) ≡ is_named cert.limits location
   unfolding part Chooses Names place_statement

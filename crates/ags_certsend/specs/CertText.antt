@@ -12,7 +12,9 @@ use Rattle.ags_certtype.specs.Cert.{Stated}
 use Rattle.ags_certtext.specs.declared.statements.Entry.{Entry}
 use Rattle.ags_certtext.specs.declared.statements.RowLine.{RowLine}
 use Rattle.ags_certtext.specs.declared.statements.Statement.{Statement}
-use Rattle.ags_certtext.specs.declared.statements.Statement.TheVariants.{Start, Cell, Init, In, Out, May, Row as RowOf, At as AtOf, End}
+use Rattle.ags_certtext.specs.declared.statements.Statement.TheVariants.{Start, Entry as EntryOf, May, Row as RowOf, End}
+use Rattle.ags_certtext.specs.declared.statements.Table.{Table}
+use Rattle.ags_certtext.specs.declared.statements.Table.TheVariants.{Cell, Init, In, Out, At as InRow}
 use Rattle.ags_certsend.specs.Spelled.{statement_line}
 
 -- the value is the range of all words
@@ -28,10 +30,10 @@ entry_of address value = record { address = address; value = Some value }
 abbrev pub limited : ℕ → Value → Option Entry
 limited address limit = if is_full limit then None else Some (entry_of address limit)
 
--- a statement of one kind with an entry, where there is one
-abbrev pub stating : (Entry → Statement) → Option Entry → Option Statement
-stating kind None = None
-stating kind (Some entry) = Some (kind entry)
+-- the statement of an entry of a table, where there is one
+abbrev pub stating : Table → Option Entry → Option Statement
+stating table None = None
+stating table (Some entry) = Some (EntryOf table entry)
 
 -- what the certificate states at an address, kind by kind: of a cell's limit, of a cell at the start, which is stated where it is full
 -- too, of an input register and of an output register; and whether it names the location
@@ -64,7 +66,7 @@ row_line_of row = record { location = row.location; a = Some row.a; q = Some row
 
 -- a cell of a row
 abbrev pub at_statement : At Value → Statement
-at_statement cell = AtOf (entry_of cell.address cell.value)
+at_statement cell = EntryOf InRow (entry_of cell.address cell.value)
 
 -- a row, and then its cells
 unfoldable pub row_statements : Row Value → List Statement

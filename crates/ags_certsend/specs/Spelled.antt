@@ -3,11 +3,11 @@ use Rattle.std.specs.Prelude.{ℕ, List, ◌++◌, Option, Some, None, codes}
 use Rattle.ags_text.specs.Numeral.{octal4_text}
 use Rattle.ags_domain.specs.ValueText.{value_text}
 use Rattle.ags_domain.specs.declared.values.Value.{Value}
-use Rattle.ags_certtext.specs.Spelling.{flag_digits}
+use Rattle.ags_certtext.specs.Spelling.{flag_digits, table_name}
 use Rattle.ags_certtext.specs.declared.statements.Entry.{Entry}
 use Rattle.ags_certtext.specs.declared.statements.RowLine.{RowLine}
 use Rattle.ags_certtext.specs.declared.statements.Statement.{Statement}
-use Rattle.ags_certtext.specs.declared.statements.Statement.TheVariants.{Start, Cell, Init, In, Out, May, Row, At, End}
+use Rattle.ags_certtext.specs.declared.statements.Statement.TheVariants.{Start, Entry as EntryOf, May, Row, End}
 
 -- a value as it is printed; no certificate in hand states an empty range, which would be one from 1 to 0
 abbrev pub stated_value : Option Value → List ℕ
@@ -26,13 +26,9 @@ row_text row = octal4_text row.location ++ codes " A " ++ stated_value row.a ++ 
 -- the line of a statement, without its line feed
 abbrev pub statement_text : Statement → List ℕ
 statement_text (Start location) = codes "START " ++ octal4_text location
-statement_text (Cell entry) = codes "CELL " ++ entry_text entry
-statement_text (Init entry) = codes "INIT " ++ entry_text entry
-statement_text (In entry) = codes "IN " ++ entry_text entry
-statement_text (Out entry) = codes "OUT " ++ entry_text entry
+statement_text (EntryOf table entry) = table_name table ++ codes " " ++ entry_text entry
 statement_text (May location) = codes "MAY " ++ octal4_text location
 statement_text (Row row) = codes "ROW " ++ row_text row
-statement_text (At entry) = codes "AT " ++ entry_text entry
 statement_text End = codes "END"
 
 -- the line of a statement, with its line feed

@@ -4,7 +4,7 @@ ghost use Rattle.std.specs.Prelude.{◌≡◌, ◌<◌, ◌≤◌};
 ghost use Rattle.ags_certsend.specs.CertText.{is_full, limited, cell_statement, init_statement, input_statement, output_statement, place_statement};
 ghost use Rattle.ags_certsend.specs.Section.{address_count, stated_at};
 
-use ags_certtext::{Entry, Statement};
+use ags_certtext::{Entry, Statement, Table};
 use ags_certtype::Cert;
 use ags_domain::{Domain, Value};
 use ags_word::{ERASABLE, LOCATIONS};
@@ -89,7 +89,7 @@ fn cell_statement(cert: &Cert, address: u16) -> Option<Statement>
     ensures { result ≡ cell_statement cert.now address }
 {
     let entry = limited(address, cert.limits().cell(address))?;
-    Some(Statement::Cell(entry))
+    Some(Statement::Entry(Table::Cell, entry))
 }
 
 /// What a certificate states of a cell at the start.
@@ -99,10 +99,11 @@ fn init_statement(cert: &Cert, address: u16) -> Option<Statement>
     ensures { result ≡ init_statement cert.now address }
 {
     let value = cert.init(address)?;
-    Some(Statement::Init(Entry {
+    let entry = Entry {
         address,
         value: Some(value),
-    }))
+    };
+    Some(Statement::Entry(Table::Init, entry))
 }
 
 /// What a certificate states of an input register's limit.
@@ -112,7 +113,7 @@ fn input_statement(cert: &Cert, address: u16) -> Option<Statement>
     ensures { result ≡ input_statement cert.now address }
 {
     let entry = limited(address, cert.limits().input(address))?;
-    Some(Statement::In(entry))
+    Some(Statement::Entry(Table::In, entry))
 }
 
 /// What a certificate states of an output register's limit.
@@ -122,7 +123,7 @@ fn output_statement(cert: &Cert, address: u16) -> Option<Statement>
     ensures { result ≡ output_statement cert.now address }
 {
     let entry = limited(address, cert.limits().output(address))?;
-    Some(Statement::Out(entry))
+    Some(Statement::Entry(Table::Out, entry))
 }
 
 /// That a certificate names a location, where it does.

@@ -2,7 +2,7 @@
 
 ghost use Rattle.std.specs.Prelude.{Some};
 
-use ags_certtext::{Entry, RowLine, Statement};
+use ags_certtext::{Entry, RowLine, Statement, Table};
 use ags_domain::Value;
 use ags_text::FourDigits;
 use std::fmt;
@@ -62,6 +62,26 @@ impl fmt::Display for StatedValue {
     }
 }
 
+/// A table, which prints as the keyword of its entries.
+#[derive(Clone, Copy)]
+struct SpelledTable(Table);
+
+impl fmt::Display for SpelledTable {
+    ghost use Rattle.ags_certtext.specs.Spelling.{table_name};
+
+    ghost output = { λ table. Some (table_name table.0) };
+
+    fn fmt<W: fmt::Write>(&self, f: &mut fmt::Formatter<W>) -> fmt::Result {
+        f.write_str(match self.0 {
+            Table::Cell => "CELL",
+            Table::Init => "INIT",
+            Table::In => "IN",
+            Table::Out => "OUT",
+            Table::At => "AT",
+        })
+    }
+}
+
 /// An address with a value.
 #[derive(Clone, Copy)]
 struct SpelledEntry(Entry);
@@ -107,27 +127,25 @@ impl fmt::Display for Spelled {
     ghost output = { λ statement. Some (statement_text statement.0) };
 
     fn fmt<W: fmt::Write>(&self, f: &mut fmt::Formatter<W>) -> fmt::Result {
-        let (keyword, entry) = match self.0 {
+        match self.0 {
             Statement::Start(location) => {
                 let place = FourDigits(location);
-                return write!(f, "START {place}");
+                write!(f, "START {place}")
             }
-            Statement::Cell(entry) => ("CELL", entry),
-            Statement::Init(entry) => ("INIT", entry),
-            Statement::In(entry) => ("IN", entry),
-            Statement::Out(entry) => ("OUT", entry),
+            Statement::Entry(table, entry) => {
+                let keyword = SpelledTable(table);
+                let entry = SpelledEntry(entry);
+                write!(f, "{keyword} {entry}")
+            }
             Statement::May(location) => {
                 let place = FourDigits(location);
-                return write!(f, "MAY {place}");
+                write!(f, "MAY {place}")
             }
             Statement::Row(row) => {
                 let row = SpelledRow(row);
-                return write!(f, "ROW {row}");
+                write!(f, "ROW {row}")
             }
-            Statement::At(entry) => ("AT", entry),
-            Statement::End => return f.write_str("END"),
-        };
-        let entry = SpelledEntry(entry);
-        write!(f, "{keyword} {entry}")
+            Statement::End => f.write_str("END"),
+        }
     }
 }

@@ -17,7 +17,7 @@ ghost use Rattle.ags_certsend.specs.Section.{section_text, cell_line, row_lines,
 use crate::laws::sent_certificate_reads_back;
 use crate::sections::Section;
 use crate::spelling::Spelled;
-use ags_certtext::{Entry, RowLine, Statement};
+use ags_certtext::{Entry, RowLine, Statement, Table};
 use ags_certtype::Cert;
 use ags_domain::Value;
 use ags_outside::{SendError, Sink, send};
@@ -78,7 +78,7 @@ fn send_cells<K: Sink>(out: &mut K, cells: &[At<Value>]) -> Result<(), SendError
             address: cell.address,
             value: Some(cell.value),
         };
-        send_statement(out, Statement::At(entry))?;
+        send_statement(out, Statement::Entry(Table::At, entry))?;
     }
     Ok(())
 }

@@ -10,7 +10,8 @@ use Rattle.ags_certtext.specs.declared.keywords.Keyword.TheVariants as keyword
 use Rattle.ags_certtext.specs.declared.statements.Entry.{Entry}
 use Rattle.ags_certtext.specs.declared.statements.RowLine.{RowLine}
 use Rattle.ags_certtext.specs.declared.statements.Statement.{Statement}
-use Rattle.ags_certtext.specs.declared.statements.Statement.TheVariants.{Start, Cell, Init, In, Out, May, Row, At, End}
+use Rattle.ags_certtext.specs.declared.statements.Statement.TheVariants.{Start, Entry as EntryOf, May, Row, End}
+use Rattle.ags_certtext.specs.declared.statements.Table.TheVariants.{Cell, Init, In, Out, At}
 use Rattle.ags_certtext.specs.Spelling.{States}
 use Rattle.ags_certtext.specs.Front.{BeginsWithValue, BeginsWithNamed, IsPlace}
 use Rattle.ags_certtext.specs.Operand.{IsEntry, AreRowFlags, IsRow, keyword_name, AreOperands}
@@ -142,33 +143,29 @@ end_found text =
 
 operands_found : (its : Keyword) (text : List ℕ) → OneFound Statement (AreOperands its text)
 operands_found keyword.Start text = made_found Start (place_found text)
-operands_found keyword.Cell text = made_found Cell (entry_found text)
-operands_found keyword.Init text = made_found Init (entry_found text)
-operands_found keyword.In text = made_found In (entry_found text)
-operands_found keyword.Out text = made_found Out (entry_found text)
+operands_found (keyword.Entry table) text = made_found (λ (entry : Entry). EntryOf table entry) (entry_found text)
 operands_found keyword.May text = made_found May (place_found text)
 operands_found keyword.Row text = made_found Row (row_found text)
-operands_found keyword.At text = made_found At (entry_found text)
 operands_found keyword.End text = end_found text
 
 -- the keyword of a name, told by its first letter and, of IN and INIT, by its length
 abbrev keyword_by : (letter long : ℕ) → Keyword
 keyword_by letter long =
-    cond (eqb letter 83) keyword.Start (cond (eqb letter 67) keyword.Cell (cond (eqb letter 79) keyword.Out (cond (eqb letter 77) keyword.May
-    (cond (eqb letter 82) keyword.Row (cond (eqb letter 65) keyword.At (cond (eqb letter 69) keyword.End (cond (eqb long 2) keyword.In keyword.Init)))))))
+    cond (eqb letter 83) keyword.Start (cond (eqb letter 67) (keyword.Entry Cell) (cond (eqb letter 79) (keyword.Entry Out) (cond (eqb letter 77) keyword.May
+    (cond (eqb letter 82) keyword.Row (cond (eqb letter 65) (keyword.Entry At) (cond (eqb letter 69) keyword.End (cond (eqb long 2) (keyword.Entry In) (keyword.Entry Init))))))))
 
 abbrev keyword_of : List ℕ → Keyword
 keyword_of name = keyword_by (get_or name 0 0) (length name)
 
 keyword_is : (its : Keyword) → keyword_of (keyword_name its) ≡ its
 keyword_is keyword.Start = refl
-keyword_is keyword.Cell = refl
-keyword_is keyword.Init = refl
-keyword_is keyword.In = refl
-keyword_is keyword.Out = refl
+keyword_is (keyword.Entry Cell) = refl
+keyword_is (keyword.Entry Init) = refl
+keyword_is (keyword.Entry In) = refl
+keyword_is (keyword.Entry Out) = refl
 keyword_is keyword.May = refl
 keyword_is keyword.Row = refl
-keyword_is keyword.At = refl
+keyword_is (keyword.Entry At) = refl
 keyword_is keyword.End = refl
 
 keyword_found : (name : List ℕ) → OneFound Keyword (λ its. keyword_name its ≡ name)

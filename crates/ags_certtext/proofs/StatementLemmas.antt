@@ -16,9 +16,10 @@ use Rattle.ags_certtext.specs.declared.lines.FirstLine.TheVariants as first
 use Rattle.ags_certtext.specs.declared.statements.Entry.{Entry}
 use Rattle.ags_certtext.specs.declared.statements.RowLine.{RowLine}
 use Rattle.ags_certtext.specs.declared.statements.Statement.{Statement}
-use Rattle.ags_certtext.specs.declared.statements.Statement.TheVariants.{Start, Cell, Init, In, Out, May, Row, At, End}
+use Rattle.ags_certtext.specs.declared.statements.Statement.TheVariants.{Start, Entry as EntryOf, May, Row, End}
+use Rattle.ags_certtext.specs.declared.statements.Table.TheVariants.{Cell, Init, In, Out, At}
 use Rattle.ags_certtext.specs.Statement.{IsStatement}
-use Rattle.ags_certtext.specs.Spelling.{StatesPlace, StatesEntry, StatesRow, States, Opens, OpensAnother, flag_digits}
+use Rattle.ags_certtext.specs.Spelling.{StatesPlace, StatesEntry, StatesRow, States, table_name, Opens, OpensAnother, flag_digits}
 use Rattle.ags_certtext.specs.Front.{IsPlace}
 use Rattle.ags_certtext.specs.Operand.{IsEntry, IsRow, keyword_name, AreOperands, IsVersionField, IsOther, IsFirstOf}
 use Rattle.ags_certtext.specs.Reading.{Reading, Opening, OtherOpening, Stated, Skipped, Malformed, Ended, IsFirstReading, first_reading}
@@ -37,13 +38,13 @@ row_same row location a q x v place same_a same_q same_x same_v = let at : locat
 
 keyword_field : (its : Keyword) → IsField (keyword_name its)
 keyword_field keyword.Start = record { some = omega arith; marks = refl }
-keyword_field keyword.Cell = record { some = omega arith; marks = refl }
-keyword_field keyword.Init = record { some = omega arith; marks = refl }
-keyword_field keyword.In = record { some = omega arith; marks = refl }
-keyword_field keyword.Out = record { some = omega arith; marks = refl }
+keyword_field (keyword.Entry Cell) = record { some = omega arith; marks = refl }
+keyword_field (keyword.Entry Init) = record { some = omega arith; marks = refl }
+keyword_field (keyword.Entry In) = record { some = omega arith; marks = refl }
+keyword_field (keyword.Entry Out) = record { some = omega arith; marks = refl }
+keyword_field (keyword.Entry At) = record { some = omega arith; marks = refl }
 keyword_field keyword.May = record { some = omega arith; marks = refl }
 keyword_field keyword.Row = record { some = omega arith; marks = refl }
-keyword_field keyword.At = record { some = omega arith; marks = refl }
 keyword_field keyword.End = record { some = omega arith; marks = refl }
 
 place_states : (name line : List ℕ) (location : ℕ) → IsField name → next_field line ≡ name → IsPlace (behind_field line) location → StatesPlace name line location
@@ -102,13 +103,9 @@ row_states line row named is =
 
 pub operands_state : (its : Keyword) (line : List ℕ) (statement : Statement) → keyword_name its ≡ next_field line → AreOperands its (behind_field line) statement → States line statement
 operands_state keyword.Start line statement named is = rw is.2 (place_states (codes "START") line is.0 (keyword_field keyword.Start) (sym named) is.1)
-operands_state keyword.Cell line statement named is = rw is.2 (entry_states (codes "CELL") line is.0 (keyword_field keyword.Cell) (sym named) is.1)
-operands_state keyword.Init line statement named is = rw is.2 (entry_states (codes "INIT") line is.0 (keyword_field keyword.Init) (sym named) is.1)
-operands_state keyword.In line statement named is = rw is.2 (entry_states (codes "IN") line is.0 (keyword_field keyword.In) (sym named) is.1)
-operands_state keyword.Out line statement named is = rw is.2 (entry_states (codes "OUT") line is.0 (keyword_field keyword.Out) (sym named) is.1)
+operands_state (keyword.Entry table) line statement named is = rw is.2 (entry_states (table_name table) line is.0 (keyword_field (keyword.Entry table)) (sym named) is.1)
 operands_state keyword.May line statement named is = rw is.2 (place_states (codes "MAY") line is.0 (keyword_field keyword.May) (sym named) is.1)
 operands_state keyword.Row line statement named is = rw is.2 (row_states line is.0 (sym named) is.1)
-operands_state keyword.At line statement named is = rw is.2 (entry_states (codes "AT") line is.0 (keyword_field keyword.At) (sym named) is.1)
 operands_state keyword.End line statement named is = rw is.1 (cut_stands line (codes "END" ∷ []) (keyword_field keyword.End, tt) (sym named, is.0))
 
 -- ---- and back
@@ -174,13 +171,9 @@ pub record HasOperands (line : List ℕ) (statement : Statement) : Type 0 where
 
 pub state_operands : (line : List ℕ) (statement : Statement) → States line statement → HasOperands line statement
 state_operands line (Start location) is = let stands = place_stands (codes "START") line location (keyword_field keyword.Start) is in record { its = keyword.Start; named = stands.0; are = (location, stands.1, refl) }
-state_operands line (Cell entry) is = let stands = entry_stands (codes "CELL") line entry (keyword_field keyword.Cell) is in record { its = keyword.Cell; named = stands.0; are = (entry, stands.1, refl) }
-state_operands line (Init entry) is = let stands = entry_stands (codes "INIT") line entry (keyword_field keyword.Init) is in record { its = keyword.Init; named = stands.0; are = (entry, stands.1, refl) }
-state_operands line (In entry) is = let stands = entry_stands (codes "IN") line entry (keyword_field keyword.In) is in record { its = keyword.In; named = stands.0; are = (entry, stands.1, refl) }
-state_operands line (Out entry) is = let stands = entry_stands (codes "OUT") line entry (keyword_field keyword.Out) is in record { its = keyword.Out; named = stands.0; are = (entry, stands.1, refl) }
+state_operands line (EntryOf table entry) is = let stands = entry_stands (table_name table) line entry (keyword_field (keyword.Entry table)) is in record { its = keyword.Entry table; named = stands.0; are = (entry, stands.1, refl) }
 state_operands line (May location) is = let stands = place_stands (codes "MAY") line location (keyword_field keyword.May) is in record { its = keyword.May; named = stands.0; are = (location, stands.1, refl) }
 state_operands line (Row row) is = let stands = row_stands line row is in record { its = keyword.Row; named = stands.0; are = (row, stands.1, refl) }
-state_operands line (At entry) is = let stands = entry_stands (codes "AT") line entry (keyword_field keyword.At) is in record { its = keyword.At; named = stands.0; are = (entry, stands.1, refl) }
 state_operands line End is = let cut = standing_cut line (codes "END" ∷ []) (keyword_field keyword.End, tt) is in record { its = keyword.End; named = sym cut.0; are = (cut.1, refl) }
 
 -- ---- a statement's addresses are those of the machine
@@ -193,10 +186,7 @@ place_below place number is =
 
 pub stated_is : (line : List ℕ) (statement : Statement) → States line statement → IsStatement statement
 stated_is line (Start location) is = place_below is.place location is.location_is
-stated_is line (Cell entry) is = place_below is.place entry.address is.address_is
-stated_is line (Init entry) is = place_below is.place entry.address is.address_is
-stated_is line (In entry) is = place_below is.place entry.address is.address_is
-stated_is line (Out entry) is = place_below is.place entry.address is.address_is
+stated_is line (EntryOf table entry) is = place_below is.place entry.address is.address_is
 stated_is line (May location) is = place_below is.place location is.location_is
 stated_is line (Row row) is = record {
   location = place_below is.place row.location is.location_is;
@@ -205,7 +195,6 @@ stated_is line (Row row) is = record {
   some_index = is.some_index;
   some_indicator = is.some_indicator;
 }
-stated_is line (At entry) is = place_below is.place entry.address is.address_is
 stated_is line End is = tt
 
 -- where one thing is found at most, one statement at most is made of what is found
@@ -217,13 +206,13 @@ made_only make only is = rw (only is.0 is.1, is.2) refl
 
 some_first : (its : Keyword) → (keyword_name its ≡ [] → ⊥) × (get_or (keyword_name its) 0 0 ≡ 35 → ⊥)
 some_first keyword.Start = (λ is. cc, λ is. omega (arith, is))
-some_first keyword.Cell = (λ is. cc, λ is. omega (arith, is))
-some_first keyword.Init = (λ is. cc, λ is. omega (arith, is))
-some_first keyword.In = (λ is. cc, λ is. omega (arith, is))
-some_first keyword.Out = (λ is. cc, λ is. omega (arith, is))
+some_first (keyword.Entry Cell) = (λ is. cc, λ is. omega (arith, is))
+some_first (keyword.Entry Init) = (λ is. cc, λ is. omega (arith, is))
+some_first (keyword.Entry In) = (λ is. cc, λ is. omega (arith, is))
+some_first (keyword.Entry Out) = (λ is. cc, λ is. omega (arith, is))
 some_first keyword.May = (λ is. cc, λ is. omega (arith, is))
 some_first keyword.Row = (λ is. cc, λ is. omega (arith, is))
-some_first keyword.At = (λ is. cc, λ is. omega (arith, is))
+some_first (keyword.Entry At) = (λ is. cc, λ is. omega (arith, is))
 some_first keyword.End = (λ is. cc, λ is. omega (arith, is))
 
 -- a line that begins with a number sign has it in its first field

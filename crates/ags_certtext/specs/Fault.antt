@@ -10,8 +10,13 @@ use Rattle.ags_certtext.specs.declared.cert_error.CertKind.{CertKind}
 use Rattle.ags_certtext.specs.declared.cert_error.CertKind.TheVariants.{BadLine, Version, Twice, EmptyRange, OutsideGlobal, NoZero, TooManyRows, TooManyAt, NoRows}
 use Rattle.ags_certtext.specs.declared.statements.RowLine.{RowLine}
 use Rattle.ags_certtext.specs.declared.statements.Statement.{Statement}
-use Rattle.ags_certtext.specs.declared.statements.Statement.TheVariants.{Start, Cell, Init, In, Out, May, Row, At, End}
-use Rattle.ags_certtext.specs.Statement.{cell_entry, init_entry, in_entry, out_entry, may_place, row_line, kind_number, last_kind, entries, has_address, value_at, row_entries, is_within}
+use Rattle.ags_certtext.specs.declared.statements.Statement.TheVariants.{Start, Entry as EntryOf, May, Row, End}
+use Rattle.ags_certtext.specs.declared.statements.Table.{Table}
+use Rattle.ags_certtext.specs.declared.statements.Table.TheVariants.{Cell, Init, In, Out, At}
+use Rattle.ags_certtext.specs.declared.kinds.Kind.TheVariants as kind
+use Rattle.ags_certtext.specs.declared.statements.Entry.{Entry}
+use Rattle.ags_certtext.specs.Kind.{last_kind, is_last, stands_in_order, is_second_start}
+use Rattle.ags_certtext.specs.Statement.{may_place, row_line, entries, has_address, value_at, entries_before, is_within}
 use Rattle.ags_certtext.specs.Reading.{Reading, Opening, OtherOpening, Stated, Skipped, Malformed, Ended, statement_of}
 
 -- a fault where a test holds, and else what is found later: so of several faults the first that is written is told
@@ -46,51 +51,62 @@ lacks_zero port None = false
 abbrev pub rows_at : List Statement → ℕ → List RowLine
 rows_at statements location = filter (λ (row : RowLine). row.location == location) (filter_map row_line statements)
 
+-- an entry of a table may stand at the address: of cells at one that isn't fixed, of registers at one of the machine's
+abbrev pub may_stand : Registers → Table → ℕ → Bool
+may_stand ports Cell address = not (is_fixed address)
+may_stand ports Init address = not (is_fixed address)
+may_stand ports In address = has_register ports.inputs address
+may_stand ports Out address = has_register ports.outputs address
+may_stand ports At address = not (is_fixed address)
+
+-- what is stated of a cell, at the start or in a row, is not within the limit that is stated of it
+abbrev pub leaves_limit : Table → (value limit : Option Value) → Bool
+leaves_limit Cell value limit = false
+leaves_limit Init value limit = is_outside value limit
+leaves_limit In value limit = false
+leaves_limit Out value limit = false
+leaves_limit At value limit = is_outside value limit
+
+-- one of the registers at an entry's address holds its word once, and what the entry states doesn't hold 0
+abbrev pub is_unmet : List Port → Entry → Bool
+is_unmet ports entry = list_any (λ (port : Port). port.address == entry.address && lacks_zero (Some port) entry.value) ports
+
+-- the same of an entry of a table, where that is the one of input registers
+abbrev pub lacks_word : Registers → Table → Entry → Bool
+lacks_word ports Cell entry = false
+lacks_word ports Init entry = false
+lacks_word ports In entry = is_unmet ports.inputs entry
+lacks_word ports Out entry = false
+lacks_word ports At entry = false
+
+-- a table has no room for a further entry where it has so many: a row has at most 64 cells
+abbrev pub is_full_with : (count : ℕ) → Table → Bool
+is_full_with count Cell = false
+is_full_with count Init = false
+is_full_with count In = false
+is_full_with count Out = false
+is_full_with count At = nat_le 64 count
+
+-- the fault of an entry of a table, given the statements before it
+abbrev pub entry_fault : Registers → List Statement → Table → Entry → Option CertKind
+entry_fault ports before table entry =
+    fault_if (not (may_stand ports table entry.address)) BadLine
+    (fault_if (has_address (entries_before table before) entry.address) Twice
+    (fault_if (is_empty entry.value) EmptyRange
+    (fault_if (leaves_limit table entry.value (value_at (entries Cell before) entry.address)) OutsideGlobal
+    (fault_if (lacks_word ports table entry) NoZero
+    (fault_if (is_full_with (length (entries_before table before)) table) TooManyAt None)))))
+
 -- The fault of a statement that stands where its kind may, given the statements before it: of several the least number is told.
 abbrev pub statement_fault : Registers → List Statement → Statement → Option CertKind
 statement_fault ports before (Start location) = None
-statement_fault ports before (Cell entry) =
-    fault_if (is_fixed entry.address) BadLine
-    (fault_if (has_address (entries cell_entry before) entry.address) Twice
-    (fault_if (is_empty entry.value) EmptyRange None))
-statement_fault ports before (Init entry) =
-    fault_if (is_fixed entry.address) BadLine
-    (fault_if (has_address (entries init_entry before) entry.address) Twice
-    (fault_if (is_empty entry.value) EmptyRange
-    (fault_if (is_outside entry.value (value_at (entries cell_entry before) entry.address)) OutsideGlobal None)))
-statement_fault ports before (In entry) =
-    fault_if (not (has_register ports.inputs entry.address)) BadLine
-    (fault_if (has_address (entries in_entry before) entry.address) Twice
-    (fault_if (is_empty entry.value) EmptyRange
-    (fault_if (list_any (λ (port : Port). port.address == entry.address && lacks_zero (Some port) entry.value) ports.inputs) NoZero None)))
-statement_fault ports before (Out entry) =
-    fault_if (not (has_register ports.outputs entry.address)) BadLine
-    (fault_if (has_address (entries out_entry before) entry.address) Twice
-    (fault_if (is_empty entry.value) EmptyRange None))
+statement_fault ports before (EntryOf table entry) = entry_fault ports before table entry
 statement_fault ports before (May location) =
     fault_if (list_any (λ (other : ℕ). other == location) (filter_map may_place before)) Twice None
 statement_fault ports before (Row row) =
     fault_if (is_empty row.a || is_empty row.q) EmptyRange
     (fault_if (nat_le most_rows (length (filter_map row_line before)) || nat_le most_rows_at_one (length (rows_at before row.location))) TooManyRows None)
-statement_fault ports before (At entry) =
-    fault_if (is_fixed entry.address) BadLine
-    (fault_if (has_address (row_entries before) entry.address) Twice
-    (fault_if (is_empty entry.value) EmptyRange
-    (fault_if (is_outside entry.value (value_at (entries cell_entry before) entry.address)) OutsideGlobal
-    (fault_if (nat_le 64 (length (row_entries before))) TooManyAt None))))
 statement_fault ports before End = fault_if (length (filter_map row_line before) == 0) NoRows None
-
--- A statement's kind may stand behind those before it: the kinds come in their order, each of any number of lines but START and END;
--- and a cell of a row stands behind the row.
-abbrev pub stands_in_order : (last : ℕ) → Statement → Bool
-stands_in_order last (Start location) = last == 0
-stands_in_order last (At entry) = last == 7
-stands_in_order last statement = nat_le last (kind_number statement) && not (last == 8)
-
--- a second START right behind the first
-abbrev pub is_second_start : (last : ℕ) → Statement → Bool
-is_second_start last (Start location) = last == 1
-is_second_start last _ = false
 
 -- the fault of a statement, given those before it
 abbrev pub fault_after : Registers → List Statement → Statement → Option CertKind
@@ -101,7 +117,7 @@ fault_after ports before statement =
 
 -- END is missing
 abbrev pub end_fault : List Statement → Option CertKind
-end_fault before = fault_if (not (last_kind before == 8)) BadLine None
+end_fault before = fault_if (not (is_last kind.End (last_kind before))) BadLine None
 
 -- The fault of a line's reading, or of the end of the text, where the lines before it have these readings, nearest first.
 abbrev pub reading_fault : Registers → List Reading → Reading → Option CertKind

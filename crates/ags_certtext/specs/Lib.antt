@@ -3,6 +3,7 @@ pub mod FaultText
 pub mod Spelling
 pub mod Reading
 pub mod Statement
+pub mod Kind
 pub mod Fault
 pub mod Text
 -- what stands below

@@ -10,7 +10,8 @@ use Rattle.ags_certtext.specs.declared.lines.FirstLine.TheVariants as first
 use Rattle.ags_certtext.specs.declared.statements.Entry.{Entry}
 use Rattle.ags_certtext.specs.declared.statements.RowLine.{RowLine}
 use Rattle.ags_certtext.specs.declared.statements.Statement.{Statement}
-use Rattle.ags_certtext.specs.declared.statements.Statement.TheVariants.{Start, Cell, Init, In, Out, May, Row, At, End}
+use Rattle.ags_certtext.specs.declared.statements.Statement.TheVariants.{Start, Entry as EntryOf, May, Row, End}
+use Rattle.ags_certtext.specs.Spelling.{table_name}
 
 -- an address and a value, and nothing behind them
 pub record IsEntry (text : List ℕ) (entry : Entry) : Type 0 where
@@ -37,25 +38,17 @@ pub record IsRow (text : List ℕ) (row : RowLine) : Type 0 where
 -- the first field of a line
 abbrev pub keyword_name : Keyword → List ℕ
 keyword_name keyword.Start = codes "START"
-keyword_name keyword.Cell = codes "CELL"
-keyword_name keyword.Init = codes "INIT"
-keyword_name keyword.In = codes "IN"
-keyword_name keyword.Out = codes "OUT"
+keyword_name (keyword.Entry table) = table_name table
 keyword_name keyword.May = codes "MAY"
 keyword_name keyword.Row = codes "ROW"
-keyword_name keyword.At = codes "AT"
 keyword_name keyword.End = codes "END"
 
 -- what stands behind a keyword makes this statement
 abbrev pub AreOperands : Keyword → (text : List ℕ) → Statement → Type 0
 AreOperands keyword.Start text statement = (location : ℕ) × IsPlace text location × (statement ≡ Start location)
-AreOperands keyword.Cell text statement = (entry : Entry) × IsEntry text entry × (statement ≡ Cell entry)
-AreOperands keyword.Init text statement = (entry : Entry) × IsEntry text entry × (statement ≡ Init entry)
-AreOperands keyword.In text statement = (entry : Entry) × IsEntry text entry × (statement ≡ In entry)
-AreOperands keyword.Out text statement = (entry : Entry) × IsEntry text entry × (statement ≡ Out entry)
+AreOperands (keyword.Entry table) text statement = (entry : Entry) × IsEntry text entry × (statement ≡ EntryOf table entry)
 AreOperands keyword.May text statement = (location : ℕ) × IsPlace text location × (statement ≡ May location)
 AreOperands keyword.Row text statement = (row : RowLine) × IsRow text row × (statement ≡ Row row)
-AreOperands keyword.At text statement = (entry : Entry) × IsEntry text entry × (statement ≡ At entry)
 AreOperands keyword.End text statement = AreBlanks text × (statement ≡ End)
 
 -- the keyword of a first line, the digits of its version, and nothing behind them

@@ -12,7 +12,9 @@ use Rattle.ags_row.specs.Flag.{some_flag}
 use Rattle.ags_certtext.specs.declared.statements.Entry.{Entry}
 use Rattle.ags_certtext.specs.declared.statements.RowLine.{RowLine}
 use Rattle.ags_certtext.specs.declared.statements.Statement.{Statement}
-use Rattle.ags_certtext.specs.declared.statements.Statement.TheVariants.{Start, Cell, Init, In, Out, May, Row, At, End}
+use Rattle.ags_certtext.specs.declared.statements.Statement.TheVariants.{Start, Entry as EntryOf, May, Row, End}
+use Rattle.ags_certtext.specs.declared.statements.Table.{Table}
+use Rattle.ags_certtext.specs.declared.statements.Table.TheVariants.{Cell, Init, In, Out, At}
 
 -- ---- values
 
@@ -87,16 +89,20 @@ pub record StatesRow (line : List ℕ) (row : RowLine) : Type 0 where
   pub fields : HasFields line (codes "ROW" ∷ place ∷ codes "A" ∷ (a ++ (codes "Q" ∷ (q
       ++ (codes "X" ∷ flag_digits 48 row.x ∷ codes "V" ∷ flag_digits 48 row.v ∷ [])))))
 
+-- the keyword of a table's entries
+abbrev pub table_name : Table → List ℕ
+table_name Cell = codes "CELL"
+table_name Init = codes "INIT"
+table_name In = codes "IN"
+table_name Out = codes "OUT"
+table_name At = codes "AT"
+
 -- the line states this
 abbrev pub States : List ℕ → Statement → Type 0
 States line (Start location) = StatesPlace (codes "START") line location
-States line (Cell entry) = StatesEntry (codes "CELL") line entry
-States line (Init entry) = StatesEntry (codes "INIT") line entry
-States line (In entry) = StatesEntry (codes "IN") line entry
-States line (Out entry) = StatesEntry (codes "OUT") line entry
+States line (EntryOf table entry) = StatesEntry (table_name table) line entry
 States line (May location) = StatesPlace (codes "MAY") line location
 States line (Row row) = StatesRow line row
-States line (At entry) = StatesEntry (codes "AT") line entry
 States line End = HasFields line (codes "END" ∷ [])
 
 -- The line is a spelling of the statement: at most 512 bytes that state it.

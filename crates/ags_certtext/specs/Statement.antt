@@ -1,5 +1,5 @@
 -- What the statements of a certificate say together. Where statements stand before another they are told nearest first.
-use Rattle.std.specs.Prelude.{◌≡◌, ℕ, suc, zero, ◌<◌, Bool, true, not, ◌||◌, ◌&&◌, ◌==◌, List, [], ◌∷◌, length, Option, Some, None, if◌then◌else◌}
+use Rattle.std.specs.Prelude.{◌≡◌, ℕ, suc, zero, ◌<◌, Bool, true, false, not, ◌||◌, ◌&&◌, ◌==◌, List, [], ◌∷◌, length, Option, Some, None, if◌then◌else◌}
 use Rattle.std.specs.List.{list_any, filter_map}
 use Rattle.ags_domain.specs.Value.{value_held}
 use Rattle.ags_domain.specs.declared.values.Value.{Value}
@@ -7,7 +7,9 @@ use Rattle.ags_row.specs.Flag.{some_flag}
 use Rattle.ags_certtext.specs.declared.statements.Entry.{Entry}
 use Rattle.ags_certtext.specs.declared.statements.RowLine.{RowLine}
 use Rattle.ags_certtext.specs.declared.statements.Statement.{Statement}
-use Rattle.ags_certtext.specs.declared.statements.Statement.TheVariants.{Start, Cell, Init, In, Out, May, Row, At, End}
+use Rattle.ags_certtext.specs.declared.statements.Statement.TheVariants.{Start, Entry as EntryOf, May, Row, End}
+use Rattle.ags_certtext.specs.declared.statements.Table.{Table}
+use Rattle.ags_certtext.specs.declared.statements.Table.TheVariants.{Cell, Init, In, Out, At}
 
 -- the line of a row names a location, one index at least, and one indicator at least
 pub record IsRowLine (row : RowLine) : Type 0 where
@@ -20,36 +22,26 @@ pub record IsRowLine (row : RowLine) : Type 0 where
 -- the addresses and the locations of a statement are those of the machine, and a row has an index and an indicator
 abbrev pub IsStatement : Statement → Type 0
 IsStatement (Start location) = location < 4096
-IsStatement (Cell entry) = entry.address < 4096
-IsStatement (Init entry) = entry.address < 4096
-IsStatement (In entry) = entry.address < 4096
-IsStatement (Out entry) = entry.address < 4096
+IsStatement (EntryOf table entry) = entry.address < 4096
 IsStatement (May location) = location < 4096
 IsStatement (Row row) = IsRowLine row
-IsStatement (At entry) = entry.address < 4096
 IsStatement End = Unit {0}
 
--- the entry of a statement of one kind, where it is of that kind
-abbrev pub cell_entry : Statement → Option Entry
-cell_entry (Cell entry) = Some entry
-cell_entry _ = None
+-- one table is another
+abbrev pub is_table : (one other : Table) → Bool
+is_table Cell Cell = true
+is_table Init Init = true
+is_table In In = true
+is_table Out Out = true
+is_table At At = true
+is_table _ _ = false
 
-abbrev pub init_entry : Statement → Option Entry
-init_entry (Init entry) = Some entry
-init_entry _ = None
+-- what a statement enters in a table, where it does
+abbrev pub entry_in : Table → Statement → Option Entry
+entry_in table (EntryOf its entry) = if is_table table its then Some entry else None
+entry_in table _ = None
 
-abbrev pub in_entry : Statement → Option Entry
-in_entry (In entry) = Some entry
-in_entry _ = None
-
-abbrev pub out_entry : Statement → Option Entry
-out_entry (Out entry) = Some entry
-out_entry _ = None
-
-abbrev pub at_entry : Statement → Option Entry
-at_entry (At entry) = Some entry
-at_entry _ = None
-
+-- the place that a statement names, and the line of a row
 abbrev pub may_place : Statement → Option ℕ
 may_place (May location) = Some location
 may_place _ = None
@@ -58,26 +50,9 @@ abbrev pub row_line : Statement → Option RowLine
 row_line (Row row) = Some row
 row_line _ = None
 
--- the kinds stand in this order; the lines of a row belong to its kind
-abbrev pub kind_number : Statement → ℕ
-kind_number (Start location) = 1
-kind_number (Cell entry) = 2
-kind_number (Init entry) = 3
-kind_number (In entry) = 4
-kind_number (Out entry) = 5
-kind_number (May location) = 6
-kind_number (Row row) = 7
-kind_number (At entry) = 7
-kind_number End = 8
-
--- the kind of the nearest statement before, and 0 where there is none
-abbrev pub last_kind : List Statement → ℕ
-last_kind [] = 0
-last_kind (statement ∷ before) = kind_number statement
-
--- the entries of one kind
-abbrev pub entries : (Statement → Option Entry) → List Statement → List Entry
-entries chosen statements = filter_map chosen statements
+-- the entries of a table
+abbrev pub entries : Table → List Statement → List Entry
+entries table statements = filter_map (entry_in table) statements
 
 -- one of the entries has the address
 abbrev pub has_address : List Entry → ℕ → Bool
@@ -91,8 +66,13 @@ value_at (entry ∷ others) address = if entry.address == address then entry.val
 -- the entries of the row that the statements before end with
 abbrev pub row_entries : List Statement → List Entry
 row_entries [] = []
-row_entries (At entry ∷ before) = entry ∷ row_entries before
+row_entries (EntryOf At entry ∷ before) = entry ∷ row_entries before
 row_entries (_ ∷ before) = []
+
+-- The entries of a table that stand before, among which no address stands twice: of the cells of a row those of the same row.
+abbrev pub entries_before : Table → List Statement → List Entry
+entries_before At before = row_entries before
+entries_before table before = entries table before
 
 -- each number below another meets a test
 unfoldable pub all_below : ℕ → (ℕ → Bool) → Bool

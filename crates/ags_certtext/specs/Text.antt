@@ -17,8 +17,9 @@ use Rattle.ags_certtext.specs.declared.cert_error.CertError.TheVariants.{At as A
 use Rattle.ags_certtext.specs.declared.statements.Entry.{Entry}
 use Rattle.ags_certtext.specs.declared.statements.RowLine.{RowLine}
 use Rattle.ags_certtext.specs.declared.statements.Statement.{Statement}
-use Rattle.ags_certtext.specs.declared.statements.Statement.TheVariants.{Start, Row as RowOf, At}
-use Rattle.ags_certtext.specs.Statement.{cell_entry, init_entry, in_entry, out_entry, may_place, entries, value_at}
+use Rattle.ags_certtext.specs.declared.statements.Statement.TheVariants.{Start, Entry as EntryOf, Row as RowOf}
+use Rattle.ags_certtext.specs.declared.statements.Table.TheVariants.{Cell, Init, In, Out, At}
+use Rattle.ags_certtext.specs.Statement.{may_place, entries, value_at}
 use Rattle.ags_certtext.specs.Reading.{Reading, AreReadings, statement_of}
 use Rattle.ags_certtext.specs.Fault.{reading_fault}
 
@@ -36,9 +37,9 @@ IsLimit None limit = IsFull value_meaning limit
 -- the limits and the named places are those that are stated, and full and not named where nothing is
 pub record LimitsAreStated (statements : List Statement) (limits : Limiting Value) : Type 0 where
   pub tables : AreLimits limits
-  pub cells : (address : ℕ) → address < 2048 → IsLimit (value_at (entries cell_entry statements) address) (cell_limit limits address)
-  pub inputs : (address : ℕ) → address < 4096 → IsLimit (value_at (entries in_entry statements) address) (input_limit limits address)
-  pub outputs : (address : ℕ) → address < 4096 → IsLimit (value_at (entries out_entry statements) address) (output_limit limits address)
+  pub cells : (address : ℕ) → address < 2048 → IsLimit (value_at (entries Cell statements) address) (cell_limit limits address)
+  pub inputs : (address : ℕ) → address < 4096 → IsLimit (value_at (entries In statements) address) (input_limit limits address)
+  pub outputs : (address : ℕ) → address < 4096 → IsLimit (value_at (entries Out statements) address) (output_limit limits address)
   pub places : (location : ℕ) → location < 4096
       → is_named limits location ≡ list_any (λ (place : ℕ). place == location) (filter_map may_place statements)
   pub every : IsFull value_meaning limits.every
@@ -50,7 +51,7 @@ pub record RowOfLines : Type 0 where
 
 -- the AT lines that stand right at the front of the statements
 abbrev pub leading_cells : List Statement → List Entry
-leading_cells (At entry ∷ statements) = entry ∷ leading_cells statements
+leading_cells (EntryOf At entry ∷ statements) = entry ∷ leading_cells statements
 leading_cells _ = []
 
 -- each row with the AT lines behind it
@@ -80,7 +81,7 @@ pub record IsWhatIsStated (statements : List Statement) (cert : Stated) : Type 0
   pub is_cert : IsCert cert
   pub start : cert.start ≡ start_of statements
   pub limits : LimitsAreStated statements cert.limits
-  pub init : (address : ℕ) → address < 2048 → (certificate_of cert).init address ≡ value_at (entries init_entry statements) address
+  pub init : (address : ℕ) → address < 2048 → (certificate_of cert).init address ≡ value_at (entries Init statements) address
   pub rows : AreRowsOf (rows_of statements) cert.rows
 
 -- The text is a certificate for the registers, without a fault, and this is the certificate.

@@ -4,25 +4,19 @@ ghost use Rattle.std.specs.Prelude.{◌≡◌, IfSome, Some};
 ghost use Rattle.ags_certtext.specs.declared.keywords.Keyword.{Keyword};
 ghost use Rattle.ags_certtext.specs.Operand.{keyword_name};
 
+use crate::statements::Table;
+
 /// The first field of a line.
 #[derive(Clone, Copy)]
 pub(crate) enum Keyword {
     /// START.
     Start,
-    /// CELL.
-    Cell,
-    /// INIT.
-    Init,
-    /// IN.
-    In,
-    /// OUT.
-    Out,
+    /// That of a table: CELL, INIT, IN, OUT or AT.
+    Entry(Table),
     /// MAY.
     May,
     /// ROW.
     Row,
-    /// AT.
-    At,
     /// END.
     End,
 }
@@ -33,12 +27,12 @@ pub(crate) fn keyword_named(text: &[u8]) -> Option<Keyword>
     ensures only { (keyword : Keyword) → keyword_name keyword ≡ text.now → result ≡ Some keyword }
 {
     match text {
-        b"AT" => Some(Keyword::At),
+        b"AT" => Some(Keyword::Entry(Table::At)),
         b"ROW" => Some(Keyword::Row),
-        b"CELL" => Some(Keyword::Cell),
-        b"INIT" => Some(Keyword::Init),
-        b"IN" => Some(Keyword::In),
-        b"OUT" => Some(Keyword::Out),
+        b"CELL" => Some(Keyword::Entry(Table::Cell)),
+        b"INIT" => Some(Keyword::Entry(Table::Init)),
+        b"IN" => Some(Keyword::Entry(Table::In)),
+        b"OUT" => Some(Keyword::Entry(Table::Out)),
         b"MAY" => Some(Keyword::May),
         b"START" => Some(Keyword::Start),
         b"END" => Some(Keyword::End),

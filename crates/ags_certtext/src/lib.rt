@@ -9,6 +9,7 @@ mod ends;
 mod flags;
 mod forms;
 mod keywords;
+mod kinds;
 mod laws;
 mod lines;
 mod numbers;
@@ -18,7 +19,8 @@ mod values;
 mod word_fields;
 
 pub use cert_error::{CertError, CertKind};
+pub use kinds::Kind;
 pub use laws::{first_line_has_one_reading, line_has_one_reading, spelled_statements_are_lawful};
 pub use lines::{FirstLine, FurtherLine, read_first_line, read_line};
 pub use numbers::{read_address, read_size, read_word};
-pub use statements::{Entry, RowLine, Statement};
+pub use statements::{Entry, RowLine, Statement, Table};

@@ -43,13 +43,9 @@ fn read_operands(keyword: Keyword, text: &[u8]) -> Option<Statement>
 {
     match keyword {
         Keyword::Start => Some(Statement::Start(read_place(text)?)),
-        Keyword::Cell => Some(Statement::Cell(read_entry(text)?)),
-        Keyword::Init => Some(Statement::Init(read_entry(text)?)),
-        Keyword::In => Some(Statement::In(read_entry(text)?)),
-        Keyword::Out => Some(Statement::Out(read_entry(text)?)),
+        Keyword::Entry(table) => Some(Statement::Entry(table, read_entry(text)?)),
         Keyword::May => Some(Statement::May(read_place(text)?)),
         Keyword::Row => Some(Statement::Row(read_row(text)?)),
-        Keyword::At => Some(Statement::At(read_entry(text)?)),
         Keyword::End => are_blanks(text).then_some(Statement::End),
     }
 }

@@ -26,25 +26,32 @@ pub struct RowLine {
     pub v: [bool; 2],
 }
 
+/// The tables of a certificate: what their entries say of the cell or the register at an address.
+#[derive(Clone, Copy, PartialEq, Eq)]
+pub enum Table {
+    /// What an erasable cell may hold.
+    Cell,
+    /// What an erasable cell may hold at the start.
+    Init,
+    /// What an input register may hold.
+    In,
+    /// What an output register may hold.
+    Out,
+    /// What a cell may hold in the row above.
+    At,
+}
+
 /// What a line states.
 #[derive(Clone, Copy, PartialEq, Eq)]
 pub enum Statement {
     /// The location that a run starts at.
     Start(u16),
-    /// What an erasable cell may hold.
-    Cell(Entry),
-    /// What an erasable cell may hold at the start.
-    Init(Entry),
-    /// What an input register may hold.
-    In(Entry),
-    /// What an output register may hold.
-    Out(Entry),
+    /// An entry of a table.
+    Entry(Table, Entry),
     /// A location where an overflow is expected.
     May(u16),
     /// A row.
     Row(RowLine),
-    /// What a cell may hold in the row above.
-    At(Entry),
     /// The end of the certificate.
     End,
 }

@@ -103,17 +103,25 @@ impl Cert {
         if !Cert::is_made_of(alloc, &parts)? {
             return Ok(None);
         }
+        Ok(Some(Cert::made_of(alloc, parts)?))
+    }
+
+    /// The certificate of parts that are known to make one. Nothing is checked; the one error is want of memory.
+    pub fn made_of(alloc: Global, parts: CertParts) -> Result<Cert, AllocError>
+        requires { IsCert (stated_by parts) }
+        ensures { IfOk result (λ cert. cert ≡ stated_by parts) }
+    {
         let mut starts = zeros(alloc, ENTRIES)?;
         let mut numbers = zeros(alloc, parts.rows.len())?;
         fill(parts.rows.as_slice(), &mut starts[..], &mut numbers[..]);
-        Ok(Some(Cert {
+        Ok(Cert {
             start: parts.start,
             limits: parts.limits,
             init: parts.init,
             rows: parts.rows,
             starts,
             numbers,
-        }))
+        })
     }
 
     /// The location that a run starts at, below 4096.

@@ -1,7 +1,7 @@
 //! Rows worked out by hand from the rules of a certificate's lines: octal numbers are typed as octal.
 
 use ags_certtext::{
-    Entry, FirstLine, FurtherLine, RowLine, Statement, first_line_has_one_reading,
+    Entry, FirstLine, FurtherLine, RowLine, Statement, Table, first_line_has_one_reading,
     line_has_one_reading, read_first_line, read_line, spelled_statements_are_lawful,
 };
 use ags_domain::{Domain, Range, Value, WordSet};
@@ -92,36 +92,36 @@ fn locations_and_the_end_are_read(rt: HostRuntime) {
 
 #[test]
 fn entries_of_every_word_and_of_ranges_are_read(rt: HostRuntime) {
-    expect_statement(&rt, b"CELL 0017 ANY", Statement::Cell(entry(0o17, any())));
+    expect_statement(&rt, b"CELL 0017 ANY", Statement::Entry(Table::Cell, entry(0o17, any())));
     expect_statement(
         &rt,
         b"INIT 3777 RANGE 4 6",
-        Statement::Init(entry(0o3777, range(4, 6))),
+        Statement::Entry(Table::Init, entry(0o3777, range(4, 6))),
     );
     expect_statement(
         &rt,
         b"IN 2200 RANGE -131072 131071",
-        Statement::In(entry(0o2200, range(-131_072, 131_071))),
+        Statement::Entry(Table::In, entry(0o2200, range(-131_072, 131_071))),
     );
     expect_statement(
         &rt,
         b"OUT 6200 RANGE -0 000031",
-        Statement::Out(entry(0o6200, range(0, 31))),
+        Statement::Entry(Table::Out, entry(0o6200, range(0, 31))),
     );
     expect_statement(
         &rt,
         b"CELL 0017 RANGE -000005 -5",
-        Statement::Cell(entry(0o17, range(-5, -5))),
+        Statement::Entry(Table::Cell, entry(0o17, range(-5, -5))),
     );
-    expect_statement(&rt, b"CELL 4000 ANY", Statement::Cell(entry(0o4000, any())));
+    expect_statement(&rt, b"CELL 4000 ANY", Statement::Entry(Table::Cell, entry(0o4000, any())));
     // empty ranges are read as no value
     expect_statement(
         &rt,
         b"CELL 0017 RANGE 9 5",
-        Statement::Cell(entry(0o17, None)),
+        Statement::Entry(Table::Cell, entry(0o17, None)),
     );
-    expect_statement(&rt, b"AT 0017 RANGE 5 4", Statement::At(entry(0o17, None)));
-    expect_statement(&rt, b"AT 0017 RANGE 0 -1", Statement::At(entry(0o17, None)));
+    expect_statement(&rt, b"AT 0017 RANGE 5 4", Statement::Entry(Table::At, entry(0o17, None)));
+    expect_statement(&rt, b"AT 0017 RANGE 0 -1", Statement::Entry(Table::At, entry(0o17, None)));
 }
 
 #[test]
@@ -129,17 +129,17 @@ fn word_sets_are_read(rt: HostRuntime) {
     expect_statement(
         &rt,
         b"AT 0017 WORDS 404001",
-        Statement::At(entry(0o17, alone(0o404001))),
+        Statement::Entry(Table::At, entry(0o17, alone(0o404001))),
     );
     expect_statement(
         &rt,
         b"AT 0017 WORDS 000001 777777",
-        Statement::At(entry(0o17, pair(1, 0o777777))),
+        Statement::Entry(Table::At, entry(0o17, pair(1, 0o777777))),
     );
     expect_statement(
         &rt,
         b"AT 0017 WORDS 000000 000001 000002 000003 000004 000005 000006 000007 000010 000011 000012 000013 000014 000015 000016 000017",
-        Statement::At(entry(0o17, sixteen())),
+        Statement::Entry(Table::At, entry(0o17, sixteen())),
     );
 }
 

@@ -48,7 +48,7 @@ pub struct Row<D> {
 
 impl<D: Copy> Row<D> {
     ghost use Rattle.std.specs.Prelude.{◌≡◌};
-    ghost use Rattle.ags_row.specs.Row.{IsRowOf};
+    ghost use Rattle.ags_row.specs.Row.{AreRowParts, HasParts, IsRowOf};
 
     /// The row of some parts, and nothing where they make none: where the location is above 4095, no index or no indicator
     /// may stand, or the cells are more than 64, not erasable, or don't ascend.
@@ -61,14 +61,22 @@ impl<D: Copy> Row<D> {
         if parts.at.len() > MOST_CELLS || !ascend(parts.at.as_slice()) {
             return None;
         }
-        Some(Row {
+        Some(Row::made_of(parts))
+    }
+
+    /// The row of parts that are known to make one. Nothing is checked.
+    pub fn made_of(parts: RowParts<D>) -> Row<D>
+        requires { AreRowParts parts }
+        ensures { HasParts result parts }
+    {
+        Row {
             location: parts.location,
             a: parts.a,
             q: parts.q,
             x: parts.x,
             v: parts.v,
             at: Cells::of(parts.at),
-        })
+        }
     }
 
     /// The location, below 4096.

@@ -1,5 +1,6 @@
-use Rattle.std.proofs.lemmas.Grind.{common_steps}
 use Rattle.std.proofs.Common.{rules, arith}
+use Rattle.ags_certtext.specs.Reading.{Skipped}
+use Rattle.ags_certtext.proofs.ReadingLaws.{one_reading}
 use Rattle.ags_certtext.proofs.StatementLemmas.{stated_is}
 use Rattle.ags_certtext.proofs.lines.read_line.Goals as goal
 
@@ -10,7 +11,8 @@ pub returns-then-is_idle-clause-found : goal.returns-then-is_idle-clause-found
 returns-then-is_idle-clause-found c = search rules
 
 pub returns-then-is_idle-clause-only : goal.returns-then-is_idle-clause-only
-returns-then-is_idle-clause-only c = grind (arith, common_steps)
+returns-then-is_idle-clause-only c = λ reading is.
+    one_reading c.args.line.now reading Skipped is (record { most = omega arith; empty = c.is_idle.ensures.yes c.if-is_idle.true })
 
 pub returns-in-Some-clause-found : goal.returns-in-Some-clause-found
 returns-in-Some-clause-found c = search rules

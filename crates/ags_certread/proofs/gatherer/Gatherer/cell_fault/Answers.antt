@@ -1,5 +1,0 @@
-use Rattle.std.proofs.Common.{rules}
-use Rattle.ags_certread.proofs.gatherer.Gatherer.cell_fault.Goals as goal
-
-pub returns : goal.returns
-returns c = search rules
