@@ -114,6 +114,7 @@ impl EndedLines {
     pub(crate) fn take(&mut self, line: &[u8]) -> Result<(), AllocError>
         ensures taken { OnOk result (GoesOn self.old.state self.old line.now self.new) }
         ensures ports { self.new.ports ≡ self.old.ports }
+        ensures spent { IfErr result (λ _. self.new.state ≡ State.Spent) }
     {
         if !self.are_open() {
             return Ok(());

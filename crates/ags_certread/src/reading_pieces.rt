@@ -57,6 +57,7 @@ impl CertReader {
         requires unbroken { HasNoFeed bytes.now }
         ensures took { OnOk result (TookMore took_cert self.old self.new bytes.now) }
         ensures ports { self.new.ports ≡ self.old.ports }
+        ensures spent { IfErr result (λ _. self.new.state ≡ State.Spent) }
     {
         if bytes.len() > MOST_REST - self.rest.len() {
             self.lines.refuse_long_line();
@@ -75,6 +76,7 @@ impl CertReader {
     fn end_rest(&mut self) -> Result<(), AllocError>
         ensures took { OnOk result (TookMore took_cert self.old self.new (10 ∷ [])) }
         ensures ports { self.new.ports ≡ self.old.ports }
+        ensures spent { IfErr result (λ _. self.new.state ≡ State.Spent) }
     {
         self.lines.take(strip_return(self.rest.as_slice()))?;
         self.rest.clear();
@@ -87,6 +89,7 @@ impl CertReader {
         requires unbroken { HasNoFeed bytes.now }
         ensures took { OnOk result (TookMore took_cert self.old self.new (bytes.now ++ 10 ∷ [])) }
         ensures ports { self.new.ports ≡ self.old.ports }
+        ensures spent { IfErr result (λ _. self.new.state ≡ State.Spent) }
     {
         if self.rest.is_empty() {
             return self.lines.take(strip_return(bytes));
@@ -128,6 +131,7 @@ impl Taker for CertReader {
     fn take(&mut self, piece: &[u8]) -> Result<(), AllocError>
         ensures took { OnOk result (TookMore took_cert self.old self.new piece.now) }
         ensures ports { self.new.ports ≡ self.old.ports }
+        ensures spent { IfErr result (λ _. self.new.state ≡ State.Spent) }
     {
         let mut left = piece;
         while self.lines.are_open() {
