@@ -1,9 +1,11 @@
 -- Lines that were taken one after the other, and the reader that took them in pieces.
-use Rattle.std.proofs.Common.{◌≡◌, ℕ, zero, suc, ◌+◌, ◌-◌, ◌^◌, ◌<◌, ◌≤◌, min, eqb, true, false, refl, sym, subst, ◌∙◌, List, [], ◌∷◌, ◌++◌, length, Some, None, append_assoc, length-append, arith}
-use Rattle.std.specs.Prelude.{Result, Ok, Err, IfOk, IfErr}
+use Rattle.std.proofs.Common.{◌≡◌, ℕ, zero, suc, ◌+◌, ◌-◌, ◌^◌, ◌<◌, ◌≤◌, min, eqb, true, false, ◌==◌, refl, sym, subst, ◌∙◌, List, [], ◌∷◌, ◌++◌, length, Some, None, append_assoc, length-append, arith}
+use Rattle.std.specs.Prelude.{Result, Ok, Err, IfOk, IfErr, OnOk}
 use Rattle.std.specs.Str.Lines.{strip_carriage_return}
 use Rattle.std.proofs.lemmas.List.{append-nil}
-use Rattle.ags_text.specs.Line.{LineAt, HasNoFeed, lines_of}
+use Rattle.ags_text.specs.Line.{LineAt, Follow, HasNoFeed, lines_of}
+use Rattle.ags_text.proofs.FollowLemmas.{lines_follow}
+use Rattle.ags_outside.specs.Taken.{TookMore}
 use Rattle.ags_ports.specs.Port.{Registers}
 use Rattle.ags_certtype.specs.Cert.{Stated as Cert_stated}
 use Rattle.ags_certtext.specs.declared.cert_error.CertKind.{CertKind}
@@ -15,16 +17,16 @@ use Rattle.ags_certtext.specs.declared.statements.Statement.{Statement}
 use Rattle.ags_certtext.specs.Kind.{is_last}
 use Rattle.ags_certtext.specs.Reading.{Reading, Opening, OtherOpening, Stated, Skipped, Malformed, Ended, IsFirstReading}
 use Rattle.ags_certtext.specs.Text.{IsCertOf, IsFaultyCert, IsRefused}
-use Rattle.ags_certread.specs.Gathering.{Gathering, IsCertOfGathering, gathering_of, nothing_stated}
+use Rattle.ags_certread.specs.Gathering.{Gathering, IsCertOfGathering, nothing_stated}
 use Rattle.ags_certread.specs.Length.{certificate_limit}
 use Rattle.ags_certread.specs.LineTaken.{TakesLine, TakesReading, TellsFault, behind_first, opening_fault}
 use Rattle.ags_text.specs.Piece.{HasEnded, line_of}
-use Rattle.ags_certread.specs.NextState.{IsNext, IsWhole}
-use Rattle.ags_certread.specs.Pieces.{Standing, TookCert}
 use Rattle.ags_certread.specs.Before.{Stands}
+use Rattle.ags_certread.specs.Kept.{Kept, KeptLines}
+use Rattle.ags_certread.specs.NextState.{GoesOn, HasRead, IsNext, IsWhole, is_open}
+use Rattle.ags_certread.specs.Pieces.{Standing, TookCert, took_cert}
 use Rattle.ags_certread.specs.Sound.{IsSound}
 use Rattle.ags_certread.specs.Gathered.{Gathers, IsOpening, AreTaken, IsOfLines}
-use Rattle.ags_certread.specs.declared.gatherer.Gatherer.{Gatherer}
 use Rattle.ags_certread.specs.declared.states.State.{State}
 use Rattle.ags_certread.specs.declared.states.State.TheVariants as state
 use Rattle.ags_certread.proofs.ExistenceLemmas.{have_readings}
@@ -200,19 +202,69 @@ module _ (ports : Registers) (rest : List ℕ) (number : ℕ) (g : Gathering) (t
       (cut.on more ∙ append_assoc so.ended (line_of so.cut ∷ []) _) so.taken (so.many within)
       (next_number number (length text) (length so.ended) (min (number + 1) (2 ^ 32 - 1)) refl within so.few (so.many within)) first further
 
-  pub feed_next : (st : State) (next : ℕ) → next ≡ min (number + 1) (2 ^ 32 - 1) → IsNext ports number g (strip_carriage_return rest) st → TookCert ports [] next st (text ++ 10 ∷ [])
-  feed_next (state.Open h) next is (first, further) = feed_open (gathering_of h) next is first further
-  feed_next (state.Told l kind) next is (first, further) = feed_told l kind first further
-  feed_next state.Spent next is never = absurd never
+  feed_next : (h : Gathering) (st : State) (next : ℕ) → next ≡ min (number + 1) (2 ^ 32 - 1) → IsNext ports number g (strip_carriage_return rest) h st
+      → TookCert ports [] next h st (text ++ 10 ∷ [])
+  feed_next h state.Open next is (first, further) = feed_open h next is first further
+  feed_next h (state.Told l kind) next is (first, further) = feed_told l kind first further
+  feed_next h state.Spent next is never = absurd never
 
 -- what was taken by a reader that has found no fault
-pub open_of : (ports : Registers) (rest : List ℕ) (number : ℕ) (st : State) (g : Gatherer) (text : List ℕ) → st ≡ state.Open g → TookCert ports rest number st text
-    → Standing ports rest number (gathering_of g) text
-open_of ports rest number st g text is took = subst (λ (s : State). TookCert ports rest number s text) is took
+open_of : (ports : Registers) (rest : List ℕ) (number : ℕ) (g : Gathering) (st : State) (text : List ℕ) → st ≡ state.Open → TookCert ports rest number g st text
+    → Standing ports rest number g text
+open_of ports rest number g st text is took = subst (λ (s : State). TookCert ports rest number g s text) is took
 
-pub took_open : (ports : Registers) (rest : List ℕ) (number : ℕ) (st : State) (g : Gatherer) (text : List ℕ) → st ≡ state.Open g → Standing ports rest number (gathering_of g) text
-    → TookCert ports rest number st text
-took_open ports rest number st g text is stands = subst (λ (s : State). TookCert ports rest number s text) (sym is) stands
+-- behind a fault bytes change nothing
+told_on : (ports : Registers) (rest newer : List ℕ) (number next : ℕ) (g h : Gathering) (l : ℕ) (kind : CertKind) (text bytes : List ℕ)
+    → TookCert ports rest number g (state.Told l kind) text → TookCert ports newer next h (state.Told l kind) (text ++ bytes)
+told_on ports rest newer number next g h l kind text bytes told = λ more short.
+    subst (λ (whole : List ℕ). IsFaultyCert ports whole l kind) (sym (append_assoc text bytes more))
+    (told (bytes ++ more) (subst (λ (whole : List ℕ). length whole ≤ certificate_limit) (append_assoc text bytes more) short))
+
+bytes_dropped : (st : State) (ports : Registers) (rest : List ℕ) (number : ℕ) (g : Gathering) (text bytes : List ℕ) → is_open st ≡ false
+    → TookCert ports rest number g st text → TookCert ports rest number g st (text ++ bytes)
+bytes_dropped state.Open ports rest number g text bytes closed took = absurd cc
+bytes_dropped (state.Told l kind) ports rest number g text bytes closed took = told_on ports rest rest number number g g l kind text bytes took
+bytes_dropped state.Spent ports rest number g text bytes closed took = took
+
+pub dropped : (reader : Kept) (bytes : List ℕ) → is_open reader.state ≡ false → TookMore took_cert reader reader bytes
+dropped reader bytes closed = λ text took. bytes_dropped reader.state reader.ports reader.rest reader.number reader.gathered text bytes closed took
+
+-- bytes without a line feed are kept
+pub bytes_held : (lines : KeptLines) (rest text bytes : List ℕ) → lines.state ≡ state.Open → TookCert lines.ports rest lines.number lines.gathered lines.state text → HasNoFeed bytes
+    → TookCert lines.ports (rest ++ bytes) lines.number lines.gathered lines.state (text ++ bytes)
+bytes_held lines rest text bytes is took none = subst
+    (λ (s : State). TookCert lines.ports (rest ++ bytes) lines.number lines.gathered s (text ++ bytes)) (sym is)
+    (held lines.ports rest lines.number lines.gathered text (open_of lines.ports rest lines.number lines.gathered lines.state text is took) bytes none)
+
+-- bytes without a line feed make the line too long
+pub bytes_refused : (lines new : KeptLines) (rest text bytes : List ℕ) → lines.state ≡ state.Open → TookCert lines.ports rest lines.number lines.gathered lines.state text → HasNoFeed bytes
+    → 513 < length (rest ++ bytes) → new ≡ record lines { state = state.Told (min (lines.number + 1) (2 ^ 32 - 1)) BadLine }
+    → TookCert new.ports rest new.number new.gathered new.state (text ++ bytes)
+bytes_refused lines new rest text bytes is took none over same =
+    subst (λ (after : KeptLines). TookCert after.ports rest after.number after.gathered after.state (text ++ bytes)) (sym same)
+    (held_long lines.ports rest lines.number lines.gathered text (open_of lines.ports rest lines.number lines.gathered lines.state text is took) bytes none over _ refl)
+
+-- the rest has ended
+pub rest_ended : (st : State) (old new : KeptLines) (rest text : List ℕ) → old.state ≡ st → TookCert old.ports rest old.number old.gathered st text
+    → GoesOn st old (strip_carriage_return rest) new → new.ports ≡ old.ports
+    → TookCert new.ports [] new.number new.gathered new.state (text ++ 10 ∷ [])
+rest_ended state.Open old new rest text is took (next, many) same =
+    subst (λ (p : Registers). TookCert p [] new.number new.gathered new.state (text ++ 10 ∷ [])) (sym same)
+    (feed_next old.ports rest old.number old.gathered text took new.gathered new.state new.number many next)
+rest_ended (state.Told l kind) old new rest text is took kept same =
+    subst (λ (lines : KeptLines). TookCert lines.ports [] lines.number lines.gathered lines.state (text ++ 10 ∷ [])) (sym kept)
+    (subst (λ (s : State). TookCert old.ports [] old.number old.gathered s (text ++ 10 ∷ [])) (sym is)
+    (told_on old.ports rest [] old.number old.number old.gathered old.gathered l kind text (10 ∷ []) took))
+rest_ended state.Spent old new rest text is took kept same = absurd took
+
+-- a line that lies whole in a piece has ended
+pub whole_ended : (old new : KeptLines) (text bytes : List ℕ) → old.state ≡ state.Open → TookCert old.ports [] old.number old.gathered old.state text → HasNoFeed bytes
+    → GoesOn old.state old (strip_carriage_return bytes) new → new.ports ≡ old.ports
+    → TookCert new.ports [] new.number new.gathered new.state (text ++ (bytes ++ 10 ∷ []))
+whole_ended old new text bytes is took none goes same =
+    let stands = held old.ports [] old.number old.gathered text (open_of old.ports [] old.number old.gathered old.state text is took) bytes none in
+    subst (λ (whole : List ℕ). TookCert new.ports [] new.number new.gathered new.state whole) (append_assoc text bytes (10 ∷ []))
+    (rest_ended state.Open old new bytes (text ++ bytes) is stands (subst (λ (s : State). GoesOn s old (strip_carriage_return bytes) new) is goes) same)
 
 -- ---- the text has ended
 
@@ -266,32 +318,58 @@ module _ (ports : Registers) (rest : List ℕ) (number : ℕ) (g : Gathering) (t
       fault_next ports text so.ended [] (line_of so.cut) g number (min (number + 1) (2 ^ 32 - 1)) l kind (last_line some) so.taken (so.many within)
       (next_number number (length text) (length so.ended) (min (number + 1) (2 ^ 32 - 1)) refl within so.few (so.many within)) first further
 
+-- what comes of the last line
+last_state : (st : State) (old new : KeptLines) (rest text : List ℕ) → Standing old.ports rest old.number old.gathered text → length text ≤ certificate_limit
+    → eqb (length (strip_carriage_return rest)) 0 ≡ false → IsNext old.ports old.number old.gathered (strip_carriage_return rest) new.gathered st
+    → new.number ≡ min (old.number + 1) (2 ^ 32 - 1) → new.ports ≡ old.ports → HasRead st new text
+last_state state.Open old new rest text so short some (first, further) many same =
+    subst (λ (p : Registers). IsWhole p text new.gathered new.number) (sym same)
+    (last_taken old.ports rest old.number old.gathered text so short some new.gathered new.number many first further)
+last_state (state.Told l kind) old new rest text so short some (first, further) many same =
+    subst (λ (p : Registers). IsFaultyCert p text l kind) (sym same) (last_told old.ports rest old.number old.gathered text so short some l kind first further)
+last_state state.Spent old new rest text so short some never many same = absurd never
+
+-- a fault that is told whatever follows is that of the text
+told_now : (ports : Registers) (text : List ℕ) (l : ℕ) (kind : CertKind)
+    → ((more : List ℕ) → length (text ++ more) ≤ certificate_limit → IsFaultyCert ports (text ++ more) l kind) → length text ≤ certificate_limit → IsFaultyCert ports text l kind
+told_now ports text l kind told short = subst (λ (whole : List ℕ). IsFaultyCert ports whole l kind) (append-nil text) (told [] (omega (arith, length-append text [], short)))
+
 -- ---- the answer
 
-module _ (ports : Registers) (rest : List ℕ) (number : ℕ) (st : State) (h : Gathering) (n : ℕ)
-    (whole : (text : List ℕ) → TookCert ports rest number st text → length text ≤ certificate_limit → IsWhole ports text h n) where
-  pub ok_moved : (r : Result Cert_stated CertError) → IfOk r (λ cert. (text : List ℕ) → IsWhole ports text h n → IsCertOf ports text cert)
-      → IfOk r (λ cert. (text : List ℕ) → TookCert ports rest number st text → length text ≤ certificate_limit → IsCertOf ports text cert)
-  ok_moved (Ok cert) is = λ text took short. is text (whole text took short)
+-- nothing stands behind the last feed
+pub all_read : (st : State) (lines : KeptLines) (rest text : List ℕ) → TookCert lines.ports rest lines.number lines.gathered st text → length text ≤ certificate_limit
+    → eqb (length (strip_carriage_return rest)) 0 ≡ true → HasRead st lines text
+all_read state.Open lines rest text took short none = all_taken lines.ports rest lines.number lines.gathered text took short none
+all_read (state.Told l kind) lines rest text told short none = told_now lines.ports text l kind told short
+all_read state.Spent lines rest text never short none = never
+
+-- a line stands there
+pub last_read : (st : State) (old new : KeptLines) (rest text : List ℕ) → old.state ≡ st → TookCert old.ports rest old.number old.gathered st text → length text ≤ certificate_limit
+    → eqb (length (strip_carriage_return rest)) 0 ≡ false → GoesOn st old (strip_carriage_return rest) new → new.ports ≡ old.ports → HasRead new.state new text
+last_read state.Open old new rest text is took short some (next, many) same =
+    last_state new.state old new rest text took short some next many same
+last_read (state.Told l kind) old new rest text is told short some kept same =
+    subst (λ (lines : KeptLines). HasRead lines.state lines text) (sym kept) (subst (λ (s : State). HasRead s old text) (sym is) (told_now old.ports text l kind told short))
+last_read state.Spent old new rest text is never short some kept same = absurd never
+
+-- what holds of a call that went well goes on to what follows from it
+pub on_ok : {A E : Type 0} {P Q : Type 0} → (r : Result A E) → (P → Q) → OnOk r P → OnOk r Q
+on_ok (Ok value) follows is = follows is
+on_ok (Err error) follows is = tt
+
+pub empty_of : (bytes : List ℕ) → length bytes ≡ 0 → bytes ≡ []
+empty_of [] none = refl
+empty_of (byte ∷ bytes) none = absurd (omega (arith, none))
+
+-- a certificate is that of each text that was read, and an error the first fault of each
+module _ (ports : Registers) (lines : KeptLines) (Took : List ℕ → Type 0) (same : lines.ports ≡ ports)
+    (read : (text : List ℕ) → Took text → length text ≤ certificate_limit → HasRead lines.state lines text) where
+  pub ok_moved : (r : Result Cert_stated CertError) → IfOk r (λ cert. (text : List ℕ) → HasRead lines.state lines text → IsCertOf lines.ports text cert)
+      → IfOk r (λ cert. (text : List ℕ) → Took text → length text ≤ certificate_limit → IsCertOf ports text cert)
+  ok_moved (Ok cert) is = λ text took short. subst (λ (p : Registers). IsCertOf p text cert) same (is text (read text took short))
   ok_moved (Err error) is = tt
 
-  pub err_moved : (r : Result Cert_stated CertError) → IfErr r (λ error. (text : List ℕ) → IsWhole ports text h n → IsRefused ports text error)
-      → IfErr r (λ error. (text : List ℕ) → TookCert ports rest number st text → length text ≤ certificate_limit → IsRefused ports text error)
+  pub err_moved : (r : Result Cert_stated CertError) → IfErr r (λ error. (text : List ℕ) → HasRead lines.state lines text → IsRefused lines.ports text error)
+      → IfErr r (λ error. (text : List ℕ) → Took text → length text ≤ certificate_limit → IsRefused ports text error)
   err_moved (Ok cert) is = tt
-  err_moved (Err error) is = λ text took short. is text (whole text took short)
-
-module _ (ports : Registers) (rest : List ℕ) (number : ℕ) (st : State) (g : Gatherer) (is_open : st ≡ state.Open g) (text : List ℕ)
-    (took : TookCert ports rest number st text) (short : length text ≤ certificate_limit) where
-  stands_now : Standing ports rest number (gathering_of g) text
-  stands_now = open_of ports rest number st g text is_open took
-
-  pub whole_now : eqb (length (strip_carriage_return rest)) 0 ≡ true → IsWhole ports text (gathering_of g) number
-  whole_now none = all_taken ports rest number (gathering_of g) text stands_now short none
-
-  pub whole_next : eqb (length (strip_carriage_return rest)) 0 ≡ false → (h : Gatherer) (next : ℕ) → next ≡ min (number + 1) (2 ^ 32 - 1)
-      → IsNext ports number (gathering_of g) (strip_carriage_return rest) (state.Open h) → IsWhole ports text (gathering_of h) next
-  whole_next some h next is (first, further) = last_taken ports rest number (gathering_of g) text stands_now short some (gathering_of h) next is first further
-
-  pub told_next : eqb (length (strip_carriage_return rest)) 0 ≡ false → (l : ℕ) (kind : CertKind)
-      → IsNext ports number (gathering_of g) (strip_carriage_return rest) (state.Told l kind) → IsFaultyCert ports text l kind
-  told_next some l kind (first, further) = last_told ports rest number (gathering_of g) text stands_now short some l kind first further
+  err_moved (Err error) is = λ text took short. subst (λ (p : Registers). IsRefused p text error) same (is text (read text took short))

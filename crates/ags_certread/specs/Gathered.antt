@@ -3,7 +3,7 @@ use Rattle.std.specs.Prelude.{◌≡◌, List, [], ◌∷◌, None}
 use Rattle.ags_text.specs.Line.{LineAt}
 use Rattle.ags_ports.specs.Port.{Registers}
 use Rattle.ags_certtext.specs.Reading.{Reading, IsFirstReading}
-use Rattle.ags_certread.specs.Gathering.{Gathering, gathering_of, nothing_stated}
+use Rattle.ags_certread.specs.Gathering.{Gathering, nothing_stated}
 use Rattle.ags_certread.specs.LineTaken.{TakesLine, opening_fault}
 use Rattle.ags_certread.specs.declared.states.State.{State}
 use Rattle.ags_certread.specs.declared.states.State.TheVariants.{Open, Told, Spent}
@@ -27,7 +27,7 @@ abbrev pub IsOfLines : Registers → Gathering → Type 0
 IsOfLines ports g = (lines : List LineAt) × Gathers ports nothing_stated lines g
 
 -- so it is where no fault was found
-abbrev pub IsStateOfLines : Registers → State → Type 0
-IsStateOfLines ports (Open gatherer) = IsOfLines ports (gathering_of gatherer)
-IsStateOfLines ports (Told line kind) = Unit {0}
-IsStateOfLines ports Spent = Unit {0}
+abbrev pub IsStateOfLines : Registers → Gathering → State → Type 0
+IsStateOfLines ports g Open = IsOfLines ports g
+IsStateOfLines ports g (Told line kind) = Unit {0}
+IsStateOfLines ports g Spent = Unit {0}

@@ -5,7 +5,7 @@ use Rattle.ags_text.specs.Piece.{HasEnded}
 use Rattle.ags_ports.specs.Port.{Registers}
 use Rattle.ags_certtext.specs.Text.{IsFaultyCert}
 use Rattle.ags_certread.specs.Gathered.{AreTaken}
-use Rattle.ags_certread.specs.Gathering.{Gathering, gathering_of}
+use Rattle.ags_certread.specs.Gathering.{Gathering}
 use Rattle.ags_certread.specs.Kept.{Kept}
 use Rattle.ags_certread.specs.Length.{certificate_limit}
 use Rattle.ags_certread.specs.declared.states.State.{State}
@@ -23,12 +23,12 @@ pub record Standing (ports : Registers) (rest : List ℕ) (number : ℕ) (g : Ga
   pub many : length text ≤ certificate_limit → number ≡ length ended
 
 -- The reader stands as after a text. Once it has found a fault, that is the first one, however the text goes on within the limit.
-abbrev pub TookCert : (ports : Registers) (rest : List ℕ) (number : ℕ) → State → (text : List ℕ) → Type 0
-TookCert ports rest number (Open gatherer) text = Standing ports rest number (gathering_of gatherer) text
-TookCert ports rest number (Told line kind) text =
+abbrev pub TookCert : (ports : Registers) (rest : List ℕ) (number : ℕ) → Gathering → State → (text : List ℕ) → Type 0
+TookCert ports rest number g Open text = Standing ports rest number g text
+TookCert ports rest number g (Told line kind) text =
     (more : List ℕ) → length (text ++ more) ≤ certificate_limit → IsFaultyCert ports (text ++ more) line kind
-TookCert ports rest number Spent text = ⊥
+TookCert ports rest number g Spent text = ⊥
 
 -- so stands this reader
 abbrev pub took_cert : Kept → List ℕ → Type 0
-took_cert reader text = TookCert reader.ports reader.rest reader.number reader.state text
+took_cert reader text = TookCert reader.ports reader.rest reader.number reader.gathered reader.state text

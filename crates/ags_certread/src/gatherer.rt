@@ -15,7 +15,6 @@ use ags_ports::Ports;
 use ags_row::{At, Row};
 use ags_word::{ERASABLE, LOCATIONS};
 use std::alloc::{AllocError, Global};
-use std::mem;
 
 /// What is gathered of the statements so far.
 #[derive(Drop)]
@@ -93,7 +92,7 @@ impl Gatherer {
         })
     }
 
-    /// Closes the open row, if there is one: it is one of the rows from now on.
+    /// Closes the open row, if there is one: it is one of the rows from now on, in just the memory that its cells take.
     fn close(&mut self, alloc: Global) -> Result<(), AllocError>
         requires { IsClosable (gathering_of self.old) }
         ensures { IfOk result (λ _. Closes self.old.line (gathering_of self.old) (gathering_of self.new)) }
@@ -101,8 +100,9 @@ impl Gatherer {
         let Some(line) = self.line else {
             return Ok(());
         };
-        let cells = mem::replace(&mut self.row_cells, Vec::new(alloc));
+        let cells = Vec::from_slice(alloc, self.row_cells.as_slice())?;
         self.rows.push(row_of(line, cells))?;
+        self.row_cells.clear();
         self.line = None;
         Ok(())
     }

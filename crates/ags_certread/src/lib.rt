@@ -8,6 +8,7 @@
 mod cert_readers;
 mod certificates;
 mod checks;
+mod ended_lines;
 mod faults;
 mod gatherer;
 mod laws;

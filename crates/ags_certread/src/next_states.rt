@@ -1,30 +1,31 @@
 //! What comes of one line, and of the end of the text.
 
-ghost use Rattle.std.specs.Prelude.{◌≡◌, ◌<◌, List, ℕ, IfOk, IfErr};
+ghost use Rattle.std.specs.Prelude.{◌≡◌, ◌+◌, ◌-◌, ◌^◌, ◌<◌, min, List, ℕ, IfOk, IfErr, OnOk};
+ghost use Rattle.ags_ports.specs.Port.{Registers};
 ghost use Rattle.ags_certtext.specs.Text.{IsCertOf, IsRefused};
 ghost use Rattle.ags_certread.specs.Gathered.{IsOfLines, IsStateOfLines};
-ghost use Rattle.ags_certread.specs.Gathering.{gathering_of};
-ghost use Rattle.ags_certread.specs.NextState.{IsNext, IsWhole};
+ghost use Rattle.ags_certread.specs.Gathering.{Gathering, gathering_of};
+ghost use Rattle.ags_certread.specs.NextState.{GoesOn, HasRead, IsNext, IsWhole, is_open};
 
 use crate::certificates::certificate_of;
+use crate::ended_lines::EndedLines;
 use crate::gatherer::Gatherer;
 use crate::lines_taken::{bad_line, opening_fault};
 use crate::order::has_ended;
 use crate::states::State;
-use ags_certtext::CertError;
+use ags_certtext::{CertError, CertKind};
 use ags_certtype::Cert;
 use ags_ports::Ports;
 use std::alloc::{AllocError, Global};
 
-/// What comes of the first line.
-fn first_state(ports: &Ports, gatherer: Gatherer, line: &[u8]) -> State
-    requires { IsOfLines ports.now (gathering_of gatherer) }
-    ensures lines { IsStateOfLines ports.now result }
-    ensures next { IsNext ports.now 0 (gathering_of gatherer) line.now result }
+/// What comes of the first line, of which nothing is gathered.
+fn first_state(line: &[u8]) -> State
+    ensures lines { (ports : Registers) (g : Gathering) → IsOfLines ports g → IsStateOfLines ports g result }
+    ensures next { (ports : Registers) (g : Gathering) → IsNext ports 0 g line.now g result }
 {
     match opening_fault(line) {
         Some(kind) => State::Told { line: 1, kind },
-        None => State::Open(gatherer),
+        None => State::Open,
     }
 }
 
@@ -33,43 +34,42 @@ fn further_state(
     alloc: Global,
     ports: &Ports,
     number: u32,
-    gatherer: Gatherer,
+    gatherer: &mut Gatherer,
     line: &[u8],
 ) -> Result<State, AllocError>
-    requires lines { IsOfLines ports.now (gathering_of gatherer) }
+    requires lines { IsOfLines ports.now (gathering_of gatherer.old) }
     requires some { 0 < number }
-    ensures lines { IfOk result (IsStateOfLines ports.now) }
-    ensures next { IfOk result (IsNext ports.now number (gathering_of gatherer) line.now) }
+    ensures lines { IfOk result (IsStateOfLines ports.now (gathering_of gatherer.new)) }
+    ensures next { IfOk result (IsNext ports.now number (gathering_of gatherer.old) line.now (gathering_of gatherer.new)) }
 {
-    let mut gatherer = gatherer;
     match gatherer.take_line(alloc, ports, number.saturating_add(1), line) {
-        Ok(()) => Ok(State::Open(gatherer)),
+        Ok(()) => Ok(State::Open),
         Err(CertError::At { line, kind }) => Ok(State::Told { line, kind }),
         Err(CertError::NoMemory) => Err(AllocError),
     }
 }
 
 /// What comes of the next line, behind so many.
-pub(crate) fn next_state(
+fn next_state(
     alloc: Global,
     ports: &Ports,
     number: u32,
-    gatherer: Gatherer,
+    gatherer: &mut Gatherer,
     line: &[u8],
 ) -> Result<State, AllocError>
-    requires { IsOfLines ports.now (gathering_of gatherer) }
-    ensures lines { IfOk result (IsStateOfLines ports.now) }
-    ensures next { IfOk result (IsNext ports.now number (gathering_of gatherer) line.now) }
+    requires { IsOfLines ports.now (gathering_of gatherer.old) }
+    ensures lines { IfOk result (IsStateOfLines ports.now (gathering_of gatherer.new)) }
+    ensures next { IfOk result (IsNext ports.now number (gathering_of gatherer.old) line.now (gathering_of gatherer.new)) }
 {
     if number == 0 {
-        Ok(first_state(ports, gatherer, line))
+        Ok(first_state(line))
     } else {
         further_state(alloc, ports, number, gatherer, line)
     }
 }
 
 /// The certificate where all lines were taken, so many, or that it lacks its first line or its last.
-pub(crate) fn finish_open(
+fn finish_open(
     alloc: Global,
     ports: &Ports,
     number: u32,
@@ -88,5 +88,82 @@ pub(crate) fn finish_open(
     match certificate_of(alloc, gatherer) {
         Ok(cert) => Ok(cert),
         Err(_) => Err(CertError::NoMemory),
+    }
+}
+
+impl EndedLines {
+    /// Whether no fault was found and no memory was wanting.
+    pub(crate) fn are_open(&self) -> bool
+        ensures { result ≡ is_open self.now.state }
+    {
+        match self.state {
+            State::Open => true,
+            State::Told { .. } => false,
+            State::Spent => false,
+        }
+    }
+
+    /// Takes the next line, without its end.
+    pub(crate) fn take(&mut self, line: &[u8]) -> Result<(), AllocError>
+        ensures taken { OnOk result (GoesOn self.old.state self.old line.now self.new) }
+        ensures ports { self.new.ports ≡ self.old.ports }
+        ensures spent { IfErr result (λ _. self.new.state ≡ State.Spent) }
+    {
+        if !self.are_open() {
+            return Ok(());
+        }
+        match next_state(
+            self.alloc,
+            &self.ports,
+            self.number,
+            &mut self.gatherer,
+            line,
+        ) {
+            Ok(state) => {
+                self.state = state;
+                self.number = self.number.saturating_add(1);
+                Ok(())
+            }
+            Err(error) => {
+                self.state = State::Spent;
+                Err(error)
+            }
+        }
+    }
+
+    /// The line that has begun is too long.
+    pub(crate) fn refuse_long_line(&mut self)
+        ensures { self.new ≡ record self.old { state = State.Told (min (self.old.number + 1) (2 ^ 32 - 1)) CertKind.BadLine } }
+    {
+        self.state = State::Told {
+            line: self.number.saturating_add(1),
+            kind: CertKind::BadLine,
+        };
+    }
+
+    /// Memory was wanting.
+    pub(crate) fn spend(&mut self)
+        ensures { self.new ≡ record self.old { state = State.Spent } }
+    {
+        self.state = State::Spent;
+    }
+
+    /// The certificate of the lines, which are all of a text, or their first fault.
+    pub(crate) fn finish(self) -> Result<Cert, CertError>
+        ensures read { IfOk result (λ cert. (text : List ℕ) → HasRead self.state self text → IsCertOf self.ports text cert) }
+        ensures refused { IfErr result (λ error. (text : List ℕ) → HasRead self.state self text → IsRefused self.ports text error) }
+    {
+        let EndedLines {
+            alloc,
+            ports,
+            number,
+            gatherer,
+            state,
+        } = self;
+        match state {
+            State::Open => finish_open(alloc, &ports, number, gatherer),
+            State::Told { line, kind } => Err(CertError::At { line, kind }),
+            State::Spent => Err(CertError::NoMemory),
+        }
     }
 }

@@ -1,6 +1,6 @@
 //! The reader of certificates that come in pieces.
 
-ghost use Rattle.std.specs.Prelude.{◌≡◌, ◌≤◌, ℕ, List, [], ◌∷◌, IfOk, IfErr, OnOk, length};
+ghost use Rattle.std.specs.Prelude.{◌≡◌, ◌≤◌, ℕ, List, [], ◌∷◌, ◌++◌, IfOk, IfErr, OnOk, length};
 ghost use Rattle.std.proofs.Common.{refl, ◌∙◌};
 ghost use Rattle.ags_outside.specs.Taken.{TookMore};
 ghost use Rattle.ags_text.specs.Line.{HasNoFeed};
@@ -9,16 +9,15 @@ ghost use Rattle.ags_certread.specs.Length.{certificate_limit};
 ghost use Rattle.ags_certread.specs.Pieces.{took_cert};
 
 use crate::cert_readers::CertReader;
+use crate::ended_lines::EndedLines;
 use crate::gatherer::Gatherer;
-use crate::next_states::{finish_open, next_state};
 use crate::states::State;
-use ags_certtext::{CertError, CertKind};
+use ags_certtext::CertError;
 use ags_certtype::Cert;
 use ags_outside::Taker;
 use ags_ports::Ports;
 use ags_text::{MOST_LINE_BYTES, split_at_feed, strip_return};
 use std::alloc::{AllocError, Global};
-use std::mem;
 
 /// The most bytes of a line with the one return that may end it.
 const MOST_REST: usize = MOST_LINE_BYTES + 1;
@@ -41,55 +40,62 @@ impl CertReader {
     {
         let gatherer = Gatherer::new(alloc)?;
         Ok(CertReader {
-            alloc,
-            ports: copy_of(ports),
             rest: Vec::new(alloc),
-            number: 0,
-            state: State::Open(gatherer),
+            lines: EndedLines {
+                alloc,
+                ports: copy_of(ports),
+                number: 0,
+                gatherer,
+                state: State::Open,
+            },
         })
     }
 
-    /// Takes bytes without a line feed.
+    /// Takes bytes without a line feed, and keeps them.
     fn hold(&mut self, bytes: &[u8]) -> Result<(), AllocError>
-        requires { HasNoFeed bytes.now }
+        requires faultless { self.old.state ≡ State.Open }
+        requires unbroken { HasNoFeed bytes.now }
         ensures took { OnOk result (TookMore took_cert self.old self.new bytes.now) }
         ensures ports { self.new.ports ≡ self.old.ports }
+        ensures spent { IfErr result (λ _. self.new.state ≡ State.Spent) }
     {
-        match &self.state {
-            State::Open(_) => {}
-            State::Told { .. } => return Ok(()),
-            State::Spent => return Ok(()),
-        }
         if bytes.len() > MOST_REST - self.rest.len() {
-            self.state = State::Told {
-                line: self.number.saturating_add(1),
-                kind: CertKind::BadLine,
-            };
+            self.lines.refuse_long_line();
             return Ok(());
         }
-        self.rest.extend_from_slice(bytes)?;
+        match self.rest.extend_from_slice(bytes) {
+            Ok(()) => Ok(()),
+            Err(error) => {
+                self.lines.spend();
+                Err(error)
+            }
+        }
+    }
+
+    /// Takes the line feed of the line that is kept.
+    fn end_rest(&mut self) -> Result<(), AllocError>
+        ensures took { OnOk result (TookMore took_cert self.old self.new (10 ∷ [])) }
+        ensures ports { self.new.ports ≡ self.old.ports }
+        ensures spent { IfErr result (λ _. self.new.state ≡ State.Spent) }
+    {
+        self.lines.take(strip_return(self.rest.as_slice()))?;
+        self.rest.clear();
         Ok(())
     }
 
-    /// Takes a line feed.
-    fn end_line(&mut self) -> Result<(), AllocError>
-        ensures took { OnOk result (TookMore took_cert self.old self.new (10 ∷ [])) }
+    /// Takes bytes without a line feed, and the line feed behind them. A line of which nothing is kept is read where it stands.
+    fn end_line(&mut self, bytes: &[u8]) -> Result<(), AllocError>
+        requires faultless { self.old.state ≡ State.Open }
+        requires unbroken { HasNoFeed bytes.now }
+        ensures took { OnOk result (TookMore took_cert self.old self.new (bytes.now ++ 10 ∷ [])) }
         ensures ports { self.new.ports ≡ self.old.ports }
+        ensures spent { IfErr result (λ _. self.new.state ≡ State.Spent) }
     {
-        match mem::replace(&mut self.state, State::Spent) {
-            State::Open(gatherer) => {
-                let line = strip_return(self.rest.as_slice());
-                self.state = next_state(self.alloc, &self.ports, self.number, gatherer, line)?;
-                self.number = self.number.saturating_add(1);
-                self.rest.clear();
-                Ok(())
-            }
-            State::Told { line, kind } => {
-                self.state = State::Told { line, kind };
-                Ok(())
-            }
-            State::Spent => Ok(()),
+        if self.rest.is_empty() {
+            return self.lines.take(strip_return(bytes));
         }
+        self.hold(bytes)?;
+        self.end_rest()
     }
 
     /// The certificate that the bytes taken state for the registers, or its first fault: what `read` answers for these bytes. A reader
@@ -100,30 +106,15 @@ impl CertReader {
         ensures refused { IfErr result (λ error. (text : List ℕ) → took_cert self text → length text ≤ certificate_limit
             → IsRefused self.ports text error) }
     {
-        let CertReader {
-            alloc,
-            ports,
-            rest,
-            number,
-            state,
-        } = self;
-        match state {
-            State::Open(gatherer) => {
-                let line = strip_return(rest.as_slice());
-                if line.is_empty() {
-                    return finish_open(alloc, &ports, number, gatherer);
-                }
-                match next_state(alloc, &ports, number, gatherer, line) {
-                    Ok(State::Open(gatherer)) => {
-                        finish_open(alloc, &ports, number.saturating_add(1), gatherer)
-                    }
-                    Ok(State::Told { line, kind }) => Err(CertError::At { line, kind }),
-                    Ok(State::Spent) => Err(CertError::NoMemory),
-                    Err(_) => Err(CertError::NoMemory),
-                }
-            }
-            State::Told { line, kind } => Err(CertError::At { line, kind }),
-            State::Spent => Err(CertError::NoMemory),
+        let CertReader { rest, lines } = self;
+        let line = strip_return(rest.as_slice());
+        if line.is_empty() {
+            return lines.finish();
+        }
+        let mut lines = lines;
+        match lines.take(line) {
+            Ok(()) => lines.finish(),
+            Err(_) => Err(CertError::NoMemory),
         }
     }
 }
@@ -140,13 +131,18 @@ impl Taker for CertReader {
     fn take(&mut self, piece: &[u8]) -> Result<(), AllocError>
         ensures took { OnOk result (TookMore took_cert self.old self.new piece.now) }
         ensures ports { self.new.ports ≡ self.old.ports }
+        ensures spent { IfErr result (λ _. self.new.state ≡ State.Spent) }
     {
         let mut left = piece;
-        while let Some((front, behind)) = split_at_feed(left) {
-            self.hold(front)?;
-            self.end_line()?;
-            left = behind;
+        while self.lines.are_open() {
+            match split_at_feed(left) {
+                Some((front, behind)) => {
+                    self.end_line(front)?;
+                    left = behind;
+                }
+                None => return self.hold(left),
+            }
         }
-        self.hold(left)
+        Ok(())
     }
 }

@@ -1,13 +1,12 @@
 //! How far a reader of pieces is.
 
-use crate::gatherer::Gatherer;
 use ags_certtext::CertKind;
 
 /// How far a reader of pieces is.
-#[derive(Drop)]
+#[derive(Clone, Copy)]
 pub(crate) enum State {
-    /// No fault was found: what is gathered of the lines that have ended.
-    Open(Gatherer),
+    /// No fault was found.
+    Open,
     /// The first fault, however the text goes on.
     Told {
         /// The faulty line's number.

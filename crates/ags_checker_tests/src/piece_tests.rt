@@ -169,6 +169,99 @@ fn the_first_of_two_faults_is_told(rt: HostRuntime) {
     expect_fault(&rt, alloc, SHORT[4], 3, CertKind::BadLine);
 }
 
+/// The answer for a text that is cut in three, with an empty piece at each cut.
+fn in_three(
+    rt: &impl Abort,
+    alloc: Global,
+    text: &[u8],
+    first: usize,
+    second: usize,
+) -> Result<Cert, CertError> {
+    assert!(rt; first <= second && second <= text.len());
+    let mut reader = reader(rt, alloc);
+    for piece in [
+        &text[..first],
+        b"",
+        &text[first..second],
+        b"",
+        &text[second..],
+    ] {
+        reader.take(piece).expect(rt, "memory");
+    }
+    reader.finish()
+}
+
+/// Short texts, the one a fault in its third line, the other a line that has not ended.
+const FEW_LINES: [&[u8]; 2] = [b"AGSCERT 1\n#a\r\nIN\n", b"AGSCERT 1\nEND\r"];
+
+#[test]
+fn a_line_over_three_pieces_is_read_alike(rt: HostRuntime) {
+    let alloc = rt.alloc();
+    for text in &FEW_LINES {
+        let wanted = whole(&rt, alloc, text);
+        for second in 0..text.len() + 1 {
+            for first in 0..second + 1 {
+                assert!(&rt; is_same(&in_three(&rt, alloc, text, first, second), &wanted));
+            }
+        }
+    }
+}
+
+/// The answer for pieces, one behind the other.
+fn of_pieces(rt: &impl Abort, alloc: Global, pieces: &[&[u8]]) -> Result<Cert, CertError> {
+    let mut reader = reader(rt, alloc);
+    for piece in pieces {
+        reader.take(piece).expect(rt, "memory");
+    }
+    reader.finish()
+}
+
+/// A row and the end, as they stand behind lines that do nothing.
+const ROW_AND_END: &[u8] = b"ROW 4000 A ANY Q ANY X 0 V 0\nEND\n";
+
+#[test]
+fn line_feeds_alone_are_lines(rt: HostRuntime) {
+    let alloc = rt.alloc();
+    let pieces: [&[u8]; 4] = [b"AGSCERT 1", b"\n\n\n", b"\n", ROW_AND_END];
+    assert!(&rt; of_pieces(&rt, alloc, &pieces).is_ok());
+    let faulty: [&[u8]; 4] = [b"AGSCERT 1", b"\n\n\n", b"\n", b"ROW\n"];
+    let line = 5;
+    let kind = CertKind::BadLine;
+    assert!(&rt;
+        is_same(
+            &of_pieces(&rt, alloc, &faulty),
+            &Err(CertError::At { line, kind })
+        )
+    );
+}
+
+/// What may stand behind a fault.
+const BEHIND_A_FAULT: [&[u8]; 6] = [
+    b"",
+    b"\n",
+    b"\n\n\n",
+    b"IN\n",
+    ROW_AND_END,
+    b"a line that hasn't ended",
+];
+
+#[test]
+fn bytes_behind_a_fault_change_nothing(rt: HostRuntime) {
+    let alloc = rt.alloc();
+    let line = 2;
+    let kind = CertKind::BadLine;
+    let wanted = Err(CertError::At { line, kind });
+    let long = [b'#'; 514];
+    for &one in &BEHIND_A_FAULT {
+        for &other in &BEHIND_A_FAULT {
+            let behind_a_line: [&[u8]; 4] = [b"AGSCERT 1\nIN", b"\n", one, other];
+            assert!(&rt; is_same(&of_pieces(&rt, alloc, &behind_a_line), &wanted));
+            let behind_a_rest: [&[u8]; 4] = [b"AGSCERT 1\n", &long, one, other];
+            assert!(&rt; is_same(&of_pieces(&rt, alloc, &behind_a_rest), &wanted));
+        }
+    }
+}
+
 /// A certificate whose second line is a comment of so many bytes, its end not counted.
 fn with_comment(rt: &impl Abort, alloc: Global, length: usize) -> Vec<u8> {
     let mut text = Vec::from_slice(alloc, b"AGSCERT 1\n#").expect(rt, "memory");

@@ -1,18 +1,25 @@
-use Rattle.std.proofs.Common.{◌++◌, ◌∷◌, [], List, ℕ, ap, sym, subst, ◌∙◌}
-use Rattle.std.specs.Str.Lines.{strip_carriage_return}
-use Rattle.ags_certread.specs.Gathering.{gathering_of}
+use Rattle.std.proofs.Common.{◌≡◌, ◌++◌, ◌∷◌, [], List, ℕ, length, arith, sym, subst, ◌∙◌}
+use Rattle.std.specs.Prelude.{vec_len}
 use Rattle.ags_certread.specs.Kept.{Kept}
-use Rattle.ags_certread.specs.NextState.{IsNext}
+use Rattle.ags_certread.specs.NextState.{GoesOn}
 use Rattle.ags_certread.specs.Pieces.{TookCert, took_cert}
-use Rattle.ags_certread.proofs.StandLemmas.{open_of, feed_next}
+use Rattle.ags_certread.specs.declared.states.State.TheVariants as state
+use Rattle.ags_certread.proofs.TableLemmas.{same_of}
+use Rattle.ags_certread.proofs.StandLemmas.{empty_of, on_ok, whole_ended}
 use Rattle.ags_certread.proofs.cert_readers.CertReader.end_line.Goals as goal
 
-pub returns-in_ok-self-inside-in-Open-clause-took : goal.returns-in_ok-self-inside-in-Open-clause-took
-returns-in_ok-self-inside-in-Open-clause-took c = λ before took.
+pub returns-then-is_empty-clause-took : goal.returns-then-is_empty-clause-took
+returns-then-is_empty-clause-took c =
     let r = c.self.inside in
-    let st = c.in_ok-self-inside-in-Open.field-0 in
-    let stands = open_of r.ports r.rest.items r.number r.state c.in-Open.gatherer before (sym c.in-Open.ensures.value) (subst (λ (k : Kept). took_cert k before) (sym c.self.view_is) took) in
-    let line = c.strip_return-line.ensures ∙ ap strip_carriage_return c.as_slice.ensures.value in
-    let next = subst (λ (l : List ℕ). IsNext r.ports r.number (gathering_of c.in-Open.gatherer) l st) line c.in_ok-self-inside-in-Open.ensures.next in
-    subst (λ (rest : List ℕ). TookCert r.ports rest c.saturating_add-self-inside.result st (before ++ 10 ∷ [])) (sym c.clear.ensures.items)
-    (feed_next r.ports r.rest.items r.number (gathering_of c.in-Open.gatherer) before stands st c.saturating_add-self-inside.result c.saturating_add-self-inside.ensures next)
+    let new = c.take.new.self in
+    let bytes = c.args.bytes.now in
+    let faultless = subst (λ (k : Kept). k.state ≡ state.Open) (sym c.self.view_is) c.requires.faultless in
+    let zero = same_of (vec_len r.rest) 0 (sym c.is_empty.ensures ∙ c.if-is_empty.true) in
+    let none : length r.rest.items ≡ 0 = omega (arith, zero) in
+    let empty = empty_of r.rest.items none in
+    on_ok c.take.result (λ goes before took.
+    subst (λ (rest : List ℕ). TookCert new.ports rest new.number new.gathered new.state (before ++ (bytes ++ 10 ∷ []))) (sym empty)
+    (whole_ended r.lines new before bytes faultless
+    (subst (λ (rest : List ℕ). TookCert r.lines.ports rest r.lines.number r.lines.gathered r.lines.state before) empty
+    (subst (λ (k : Kept). took_cert k before) (sym c.self.view_is) took)) c.requires.unbroken
+    (subst (λ (l : List ℕ). GoesOn r.lines.state r.lines l new) c.strip_return.ensures goes) c.take.ensures.ports)) c.take.ensures.taken
