@@ -1,10 +1,9 @@
 -- Lines that were taken one after the other, and the reader that took them in pieces.
-use Rattle.std.proofs.Common.{◌≡◌, ℕ, zero, suc, ◌+◌, ◌-◌, ◌^◌, ◌<◌, ◌≤◌, min, eqb, true, false, ◌==◌, refl, sym, subst, ◌∙◌, List, [], ◌∷◌, ◌++◌, length, Some, None, append_assoc, length-append, arith}
+use Rattle.std.proofs.Common.{◌≡◌, ℕ, zero, suc, ◌+◌, ◌-◌, ◌^◌, ◌<◌, ◌≤◌, min, eqb, true, false, refl, sym, subst, ◌∙◌, List, [], ◌∷◌, ◌++◌, length, Some, None, append_assoc, length-append, arith}
 use Rattle.std.specs.Prelude.{Result, Ok, Err, IfOk, IfErr, OnOk}
 use Rattle.std.specs.Str.Lines.{strip_carriage_return}
 use Rattle.std.proofs.lemmas.List.{append-nil}
-use Rattle.ags_text.specs.Line.{LineAt, Follow, HasNoFeed, lines_of}
-use Rattle.ags_text.proofs.FollowLemmas.{lines_follow}
+use Rattle.ags_text.specs.Line.{LineAt, HasNoFeed, lines_of}
 use Rattle.ags_outside.specs.Taken.{TookMore}
 use Rattle.ags_ports.specs.Port.{Registers}
 use Rattle.ags_certtype.specs.Cert.{Stated as Cert_stated}
