@@ -3,6 +3,7 @@ use Rattle.std.proofs.Common.{◌≡◌, ℕ, ◌≤◌, Bool, false, List, leng
 use Rattle.std.specs.Prelude.{IfOk, IfErr}
 use Rattle.std.specs.Result.{result_map_both}
 use Rattle.ags_outside.specs.Count.{HasCause, rose_since}
+use Rattle.ags_asm.specs.Pieces.{KeptSource, took_source}
 use Rattle.ags_cert.specs.Kept.{Kept}
 use Rattle.ags_cert.specs.Length.{certificate_limit}
 use Rattle.ags_cert.specs.Pieces.{took_cert}
@@ -50,6 +51,14 @@ source_loads told machine name bytes (Err (Absent absent)) agrees short read sam
 source_loads told machine name bytes (Err (TooLong long limit)) agrees short read same unread = absurd unread
 source_loads told machine name bytes (Err ReadFault) agrees short read same unread = absurd unread
 source_loads told machine name bytes (Err NoMemory) agrees short read same unread = tt
+
+-- what was built of the file that was taken, for a machine's table of codes, is what the file holds
+pub built_loads : (told : Told) (machine : Machine) (name bytes : List ℕ) (kept : KeptSource) (result : Result SourceFile (Unloaded Refusal)) → Agrees (told name) (Some bytes)
+    → length bytes ≤ source_limit → took_source kept bytes → kept.codes ≡ machine.codes
+    → IfOk result (λ source. IsSourceRead kept.codes source.bytes.items source.made) → IfOk result (λ source. source.bytes.items ≡ kept.bytes) → IfErr result (IsSourceUnread kept.bytes)
+    → LoadsFile program told (Source machine) name (result_map_both assembly_of (end_of program line_of status_of) result)
+built_loads told machine name bytes kept result agrees short took same read bytes_are unread =
+    source_loads told machine name bytes result agrees short (rw same at read) (rw took at bytes_are) (rw took at unread)
 
 -- what was read of a machine file's bytes is what it holds
 pub machine_loads : (told : Told) (name bytes : List ℕ) (result : Result Machine (Unloaded Refusal)) → Agrees (told name) (Some bytes) → length bytes ≤ machine_limit

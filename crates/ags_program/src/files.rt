@@ -1,4 +1,5 @@
-//! The files that commands read: a certificate as its pieces come, each other one fetched whole and then read.
+//! The files that commands read: a certificate as its pieces come, a source by what keeps its pieces, and each other one fetched
+//! whole and then read.
 
 ghost use Rattle.std.specs.Prelude.{◌≡◌, ◌≤◌, ℕ, List, [], IfOk, IfErr, Ok, false, length};
 ghost use Rattle.std.specs.Result.{result_map_both};
@@ -19,10 +20,9 @@ ghost use Rattle.ags_program.specs.Program.{program};
 ghost use Rattle.ags_program.specs.Views.{IsCertificateUnread, IsListingUnread, IsMachineUnread, IsScriptUnread, IsSourceRead, IsSourceUnread, assembly_of, line_of, status_of};
 
 use crate::refusal::Refusal;
-use ags_asm::{AssembleError, Assembled, SOURCE_LIMIT, assemble};
+use ags_asm::{AssembleError, Assembled, Building, SOURCE_LIMIT};
 use ags_cert::{CERT_LIMIT, Cert, CertError, CertReader};
 use ags_image::Image;
-use ags_isa::Codes;
 use ags_listing::{LISTING_LIMIT, ListError};
 use ags_machfile::{MACHINE_LIMIT, MachError};
 use ags_outside::Shelf;
@@ -70,27 +70,24 @@ pub(crate) fn load_machine<'a, S: Shelf>(
     read_machine(alloc, &bytes)
 }
 
-/// Reads a source's bytes, by a table of codes.
-fn read_source<'a>(
-    alloc: Global,
-    codes: &Codes,
-    bytes: Vec<u8>,
-) -> Result<SourceFile, Unloaded<'a, Refusal>>
-    requires { length bytes.items ≤ source_limit }
-    ensures ready { IfOk result (λ source. IsSourceRead codes.now source.bytes.items source.made) }
-    ensures bytes { IfOk result (λ source. source.bytes.items ≡ bytes.items) }
-    ensures unread { IfErr result (IsSourceUnread bytes.items) }
+/// What a source whose pieces came is read as.
+fn finish_source<'a>(building: Building) -> Result<SourceFile, Unloaded<'a, Refusal>>
+    requires { length building.bytes ≤ source_limit }
+    ensures ready { IfOk result (λ source. IsSourceRead building.codes source.bytes.items source.made) }
+    ensures bytes { IfOk result (λ source. source.bytes.items ≡ building.bytes) }
+    ensures unread { IfErr result (IsSourceUnread building.bytes) }
     ensures no_fault { is_read_fault result ≡ false }
     ensures no_absence { is_absence result ≡ false }
 {
-    match assemble(alloc, &bytes, codes) {
+    let (bytes, answer) = building.finish();
+    match answer {
         Ok(made) => Ok(SourceFile { bytes, made }),
         Err(AssembleError::Source(error)) => Err(Unloaded::Refused(Refusal::Source(error))),
         Err(AssembleError::NoMemory) => Err(Unloaded::NoMemory),
     }
 }
 
-/// Loads the source of a name, for a machine.
+/// Loads the source of a name, for a machine. Its bytes are kept once, by what it is built from.
 pub(crate) fn load_source<'a, S: Shelf>(
     alloc: Global,
     machine: &Machine,
@@ -103,8 +100,9 @@ pub(crate) fn load_source<'a, S: Shelf>(
     ensures faults { HasCause (S.faults shelf.old) (S.faults shelf.new) (is_read_fault result) }
     ensures absences { HasCause (S.absences shelf.old) (S.absences shelf.new) (is_absence result) }
 {
-    let bytes = fetch_file(alloc, shelf, name, SOURCE_LIMIT as u64)?;
-    read_source(alloc, &machine.codes, bytes)
+    let mut building = Building::new(alloc, &machine.codes);
+    fetch_file_into(shelf, name, SOURCE_LIMIT as u64, &mut building)?;
+    finish_source(building)
 }
 
 /// Reads a listing's bytes.
