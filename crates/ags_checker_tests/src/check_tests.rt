@@ -1,7 +1,7 @@
 //! Verdicts of programs that were worked out outside the crate.
 
 use crate::common::word;
-use crate::counting::verdict_of;
+use crate::counted_tests::verdict_of;
 use ags_certtype::{Cert, CertParts};
 use ags_check::{Refusal, Verdict};
 use ags_domain::{Domain, Operands, Range, Value};

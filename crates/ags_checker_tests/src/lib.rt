@@ -17,7 +17,7 @@ mod check_tests;
 #[cfg(test)]
 mod common;
 #[cfg(test)]
-mod counting;
+mod counted_tests;
 #[cfg(test)]
 mod domain_tests;
 #[cfg(test)]

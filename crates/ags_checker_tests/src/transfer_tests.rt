@@ -1,7 +1,7 @@
 //! Cases that were worked out outside the crate: one machine, one image and one row for most of them.
 
 use crate::common::{expect_same, word};
-use crate::counting::posts_of;
+use crate::counted_tests::posts_of;
 use ags_domain::{Domain, Operands, Range, Value, WordSet};
 use ags_image::Image;
 use ags_ports::Machine;

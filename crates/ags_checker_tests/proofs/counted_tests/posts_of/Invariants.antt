@@ -1,4 +1,4 @@
-use Rattle.ags_checker_tests.proofs.counting.posts_of.Given as goal
+use Rattle.ags_checker_tests.proofs.counted_tests.posts_of.Given as goal
 
 -- the ledger is the blank's
 abbrev pub ghosts-posts_from : goal.ghosts-posts_from

@@ -1,4 +1,4 @@
-use Rattle.ags_checker_tests.proofs.counting.verdict_of.Given as goal
+use Rattle.ags_checker_tests.proofs.counted_tests.verdict_of.Given as goal
 
 -- the ledger is the blank's
 abbrev pub ghosts-verdict_from : goal.ghosts-verdict_from

@@ -1,0 +1,296 @@
+//! The calls that count steps, each with a counter of its own; and how many cases are judged until one is refused. The counter takes
+//! no bytes, so that none of its numbers can be read: a judge counts the cases that it is asked, each of which is one step.
+
+ghost use Rattle.std.specs.Prelude.{◌≡◌, ◌<◌};
+
+use crate::common::{expect_same, range, word};
+use ags_certtype::{Cert, CertParts};
+use ags_check::{Accepting, Refusal, RowFault, Verdict, check, refusal_of};
+use ags_domain::{Domain, Operands, Value};
+use ags_image::Image;
+use ags_ports::Machine;
+use ags_row::{Limits, Row, RowParts};
+use ags_steps::Steps;
+use ags_transfer::{PostPair, Stop, posts};
+use ags_walk::{Judge, OneCase, walk_rows};
+use ags_word::Word;
+use std::alloc::Global;
+use std::cell::Cell;
+use std::marker::{Brand, Model};
+use std::process::Abort;
+use std::sync::ledger::{Blank, Ledger};
+
+/// The verdict of a certificate, with a counter on the ledger of a blank.
+fn verdict_from<L: Ledger>(machine: &Machine, image: &Image, cert: &Cert, blank: Blank) -> Verdict
+    requires name { blank.name ≡ L.name }
+    requires parts { blank.parts ≡ L.parts }
+    requires some { 0 < L.parts }
+{
+    let mut steps = Steps::<L>::new(blank);
+    check(machine, image, cert, &mut steps)
+}
+
+/// The verdict of a certificate.
+pub(crate) fn verdict_of(machine: &Machine, image: &Image, cert: &Cert) -> Verdict {
+    verdict_from::<Brand>(machine, image, cert, Blank::new(1))
+}
+
+/// The posts of a case, with a counter on the ledger of a blank.
+fn posts_from<D: Domain, L: Ledger>(
+    machine: &Machine,
+    image: &Image,
+    limits: &Limits<D>,
+    base: &Row<D>,
+    word: Word,
+    x: u8,
+    v: bool,
+    blank: Blank,
+) -> Result<PostPair<D>, Stop<D>>
+    requires index { x < 8 }
+    requires name { blank.name ≡ L.name }
+    requires parts { blank.parts ≡ L.parts }
+    requires some { 0 < L.parts }
+{
+    let mut steps = Steps::<L>::new(blank);
+    posts(machine, image, limits, base, word, x, v, &mut steps)
+}
+
+/// The posts of a case.
+pub(crate) fn posts_of<D: Domain>(
+    machine: &Machine,
+    image: &Image,
+    limits: &Limits<D>,
+    base: &Row<D>,
+    word: Word,
+    x: u8,
+    v: bool,
+) -> Result<PostPair<D>, Stop<D>>
+    requires { x < 8 }
+{
+    posts_from::<D, Brand>(machine, image, limits, base, word, x, v, Blank::new(1))
+}
+
+/// The judge of the check, which counts the cases that it is asked.
+#[derive(Drop)]
+struct Counting<'a> {
+    accepting: Accepting<'a>,
+    asked: Cell<u32>,
+}
+
+impl<'a> Model for Counting<'a> {
+    ghost use Rattle.std.specs.Prelude.{⊤};
+
+    ghost Value = { ⊤ };
+
+    ghost view = { λ counting. tt };
+}
+
+impl<'a, L: Ledger> Judge<Value, L> for Counting<'a> {
+    ghost use Rattle.std.specs.Prelude.{⊤, Err};
+    ghost use Rattle.ags_verdict.specs.declared.verdicts.RowFault.TheVariants.{CodeUnknown};
+
+    type Fault = RowFault;
+
+    ghost judges = { λ counting number row c outcome. ⊤ };
+
+    ghost unknown = { Err CodeUnknown };
+
+    fn code_unknown(&self) -> Result<u64, RowFault> {
+        Err(RowFault::CodeUnknown)
+    }
+
+    fn case(
+        &self,
+        number: u32,
+        row: &Row<Value>,
+        case: OneCase,
+        steps: &mut Steps<L>,
+    ) -> Result<u64, RowFault> {
+        self.asked.set(self.asked.get().wrapping_add(1));
+        self.accepting.case(number, row, case, steps)
+    }
+}
+
+/// What comes of the rows of a certificate: their cases, or the refusal; and how many cases were judged.
+#[derive(Drop)]
+struct Judged {
+    outcome: Result<u64, Refusal>,
+    cases: u32,
+}
+
+/// The same, with a counter on the ledger of a blank.
+fn judged_from<L: Ledger>(
+    rt: &impl Abort,
+    machine: &Machine,
+    image: &Image,
+    cert: &Cert,
+    blank: Blank,
+) -> Judged
+    requires name { blank.name ≡ L.name }
+    requires parts { blank.parts ≡ L.parts }
+    requires some { 0 < L.parts }
+{
+    let mut steps = Steps::<L>::new(blank);
+    let counting = Counting {
+        accepting: Accepting::new(machine, image, cert),
+        asked: Cell::new(0),
+    };
+    let rows = cert.rows();
+    assert!(rt; rows.len() <= 20_000);
+    let outcome = match walk_rows(&counting, image, cert.limits(), rows, &mut steps) {
+        Ok(cases) => Ok(cases),
+        Err(told) => Err(refusal_of(told.row, told.fault)),
+    };
+    Judged {
+        outcome,
+        cases: counting.asked.get(),
+    }
+}
+
+/// Asserts what comes of the rows of a certificate for an image on the standard machine.
+fn expect_judged(
+    rt: &impl Abort,
+    image: &Image,
+    cert: &Cert,
+    outcome: &Result<u64, Refusal>,
+    cases: u32,
+) {
+    let machine = Machine::standard();
+    let judged = judged_from::<Brand>(rt, &machine, image, cert, Blank::new(1));
+    assert!(rt; judged.outcome == *outcome);
+    expect_same(rt, &judged.cases, &cases);
+}
+
+/// An image of some words, which stand from 4000 octal on.
+fn image_of(rt: &impl Abort, alloc: Global, words: &[u32]) -> Image {
+    let mut image = Image::new(alloc).expect(rt, "memory for an image");
+    let mut place: u16 = 0o4000;
+    for number in words {
+        assert!(rt; place < 4095);
+        image.set(place, word(rt, *number));
+        place += 1;
+    }
+    image
+}
+
+/// A row where A and Q may hold any word, with index 0 and both indicators: two cases a word.
+fn row(rt: &impl Abort, alloc: Global, location: u16) -> Row<Value> {
+    Row::of(RowParts {
+        location,
+        a: Value::full(),
+        q: Value::full(),
+        x: [true, false, false, false, false, false, false, false],
+        v: [true, true],
+        at: Vec::new(alloc),
+    })
+    .expect(rt, "the parts of a row")
+}
+
+/// A certificate with rows at 4000 octal and at one other location; the cell 20 octal and the output register 6001 hold 0 to 5.
+fn two_rows(rt: &impl Abort, alloc: Global, second: u16) -> Cert {
+    let mut limits: Limits<Value> = Limits::new(alloc).expect(rt, "memory for limits");
+    limits.set_cell(0o20, range(rt, 0, 5));
+    limits.set_cell(0o22, range(rt, 0, 15));
+    limits.set_output(0o6001, range(rt, 0, 5));
+    let mut rows = Vec::new(alloc);
+    assert!(rt; rows.push(row(rt, alloc, 0o4000)).is_ok());
+    assert!(rt; rows.push(row(rt, alloc, second)).is_ok());
+    let parts = CertParts {
+        start: 0o4000,
+        limits,
+        init: vec![in alloc; None; 2048].expect(rt, "memory for the start"),
+        rows,
+    };
+    let made = Cert::of(alloc, parts).expect(rt, "memory for a certificate");
+    made.expect(rt, "the parts of a certificate")
+}
+
+/// Asserts what is refused in the second of two rows, where the first goes to it, and how many cases were judged: both of the first row,
+/// and of the second those up to the one that fails.
+fn expect_refused(
+    rt: &impl Abort,
+    alloc: Global,
+    second: u16,
+    number: u32,
+    refusal: Refusal,
+    cases: u32,
+) {
+    assert!(rt; second < 4096);
+    let words = [0o400000 + u32::from(second), number];
+    let image = image_of(rt, alloc, &words);
+    let cert = two_rows(rt, alloc, second);
+    expect_judged(rt, &image, &cert, &Err(refusal), cases);
+}
+
+#[test]
+fn cases_are_judged_up_to_the_one_that_stops(rt: HostRuntime) {
+    let alloc = rt.alloc();
+    let at = 0o4001;
+    let (row, number) = (2, 0o000001);
+    let no_order = Refusal::NoOrder {
+        row,
+        word: word(&rt, number),
+    };
+    expect_refused(&rt, alloc, at, number, no_order, 3);
+    let number = 0o642005;
+    let bad_port = Refusal::BadPort {
+        row,
+        word: word(&rt, number),
+    };
+    expect_refused(&rt, alloc, at, number, bad_port, 3);
+    let number = 0o104000;
+    let fixed_write = Refusal::FixedWrite {
+        row,
+        word: word(&rt, number),
+        address: 0o4000,
+    };
+    expect_refused(&rt, alloc, at, number, fixed_write, 3);
+    let number = 0o100020;
+    let cell_range = Refusal::CellRange {
+        row,
+        word: word(&rt, number),
+        address: 0o20,
+        value: Value::full(),
+    };
+    expect_refused(&rt, alloc, at, number, cell_range, 3);
+    let number = 0o666001;
+    let output_range = Refusal::OutputRange {
+        row,
+        word: word(&rt, number),
+        address: 0o6001,
+        value: Value::full(),
+    };
+    expect_refused(&rt, alloc, at, number, output_range, 3);
+}
+
+#[test]
+fn cases_are_judged_up_to_the_one_that_is_refused(rt: HostRuntime) {
+    let alloc = rt.alloc();
+    let number = 0o600000;
+    let overflow = Refusal::MayOverflow {
+        row: 2,
+        word: word(&rt, number),
+        operands: Operands {
+            a: word(&rt, 0o400000),
+            q: word(&rt, 0),
+            m: word(&rt, 0),
+        },
+    };
+    expect_refused(&rt, alloc, 0o4001, number, overflow, 3);
+    let number = 0o404002;
+    let not_covered = Refusal::NotCovered {
+        row: 2,
+        word: word(&rt, number),
+        x: 0,
+        v: false,
+        next: 0o4002,
+    };
+    expect_refused(&rt, alloc, 0o4001, number, not_covered, 3);
+    // A row without a code has no case, and words of a cell are judged in ascending order.
+    expect_refused(&rt, alloc, 0o21, 0, Refusal::CodeUnknown { row: 2 }, 2);
+    let no_order = Refusal::NoOrder {
+        row: 2,
+        word: word(&rt, 0),
+    };
+    expect_refused(&rt, alloc, 0o22, 0, no_order, 3);
+}
