@@ -228,6 +228,14 @@ bytes_dropped state.Spent ports rest number g text bytes closed took = took
 pub dropped : (reader : Kept) (bytes : List ℕ) → is_open reader.state ≡ false → TookMore took_cert reader reader bytes
 dropped reader bytes closed = λ text took. bytes_dropped reader.state reader.ports reader.rest reader.number reader.gathered text bytes closed took
 
+-- a line that was read where no fault was found goes on
+pub went_on : (ports : Registers) (number : ℕ) (g : Gathering) (st : State) (new : KeptLines) (line : List ℕ) → is_open st ≡ true
+    → IsNext ports number g line new.gathered new.state → new.number ≡ min (number + 1) (2 ^ 32 - 1)
+    → GoesOn st (record { ports = ports; number = number; gathered = g; state = st }) line new
+went_on ports number g state.Open new line opened next many = (next, many)
+went_on ports number g (state.Told l kind) new line opened next many = absurd cc
+went_on ports number g state.Spent new line opened next many = absurd cc
+
 -- bytes without a line feed are kept
 pub bytes_held : (lines : KeptLines) (rest text bytes : List ℕ) → lines.state ≡ state.Open → TookCert lines.ports rest lines.number lines.gathered lines.state text → HasNoFeed bytes
     → TookCert lines.ports (rest ++ bytes) lines.number lines.gathered lines.state (text ++ bytes)
