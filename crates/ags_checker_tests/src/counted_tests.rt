@@ -4,11 +4,12 @@
 ghost use Rattle.std.specs.Prelude.{◌≡◌, ◌<◌};
 
 use crate::common::{expect_same, range, word};
+use ags_certread::{CERT_LIMIT, read};
 use ags_certtype::{Cert, CertParts};
 use ags_check::{Accepting, Refusal, RowFault, Verdict, check, refusal_of};
 use ags_domain::{Domain, Operands, Value};
 use ags_image::Image;
-use ags_ports::Machine;
+use ags_ports::{Machine, Ports};
 use ags_row::{Limits, Row, RowParts};
 use ags_steps::Steps;
 use ags_transfer::{PostPair, Stop, posts};
@@ -293,4 +294,80 @@ fn cases_are_judged_up_to_the_one_that_is_refused(rt: HostRuntime) {
         word: word(&rt, 0),
     };
     expect_refused(&rt, alloc, 0o22, 0, no_order, 3);
+}
+
+/// The deck's words, from 4000 octal on.
+const DECK: [u32; 33] = [
+    0o642001, 0o540003, 0o220020, 0o724022, 0o100020, 0o666001, 0o642002, 0o540003, 0o220021,
+    0o724022, 0o100021, 0o666002, 0o642200, 0o244040, 0o464021, 0o224040, 0o666200, 0o704000,
+    0o120022, 0o244036, 0o464027, 0o204036, 0o400022, 0o224036, 0o224036, 0o464034, 0o244036,
+    0o400022, 0o204037, 0o400022, 0o001750, 0o776030, 0o000001,
+];
+
+/// The deck's certificate.
+const DECK_CERT: &[u8] = b"AGSCERT 1\n\
+START 4000\n\
+CELL 0020 RANGE -1000 1000\n\
+CELL 0021 RANGE -1000 1000\n\
+IN 2001 RANGE -1000 1000\n\
+IN 2002 RANGE -1000 1000\n\
+IN 2200 RANGE 0 31\n\
+OUT 6001 RANGE -1000 1000\n\
+OUT 6002 RANGE -1000 1000\n\
+OUT 6200 RANGE 0 31\n\
+ROW 4000 A ANY Q ANY X 0 V 0\n\
+ROW 4001 A RANGE -1000 1000 Q ANY X 0 V 0\n\
+ROW 4002 A RANGE -125 125 Q ANY X 0 V 0\n\
+ROW 4003 A RANGE -1125 1125 Q ANY X 0 V 0\n\
+ROW 4004 A RANGE -1000 1000 Q ANY X 0 V 0\n\
+ROW 4005 A RANGE -1000 1000 Q ANY X 0 V 0\n\
+ROW 4006 A ANY Q ANY X 0 V 0\n\
+ROW 4007 A RANGE -1000 1000 Q ANY X 0 V 0\n\
+ROW 4010 A RANGE -125 125 Q ANY X 0 V 0\n\
+ROW 4011 A RANGE -1125 1125 Q ANY X 0 V 0\n\
+ROW 4012 A RANGE -1000 1000 Q ANY X 0 V 0\n\
+ROW 4013 A RANGE -1000 1000 Q ANY X 0 V 0\n\
+ROW 4014 A ANY Q ANY X 0 V 0\n\
+ROW 4015 A RANGE 0 31 Q ANY X 0 V 0\n\
+ROW 4016 A RANGE -1 30 Q ANY X 0 V 0\n\
+ROW 4017 A RANGE 0 30 Q ANY X 0 V 0\n\
+ROW 4020 A RANGE 1 31 Q ANY X 0 V 0\n\
+ROW 4021 A ANY Q ANY X 0 V 0\n\
+ROW 4022 A RANGE -1125 1125 Q WORDS 404004 404012 X 0 V 0\n\
+ROW 4023 A RANGE -1125 1125 Q ANY X 0 V 0\n\
+AT 0022 WORDS 404004 404012\n\
+ROW 4024 A RANGE -2125 125 Q ANY X 0 V 0\n\
+AT 0022 WORDS 404004 404012\n\
+ROW 4025 A RANGE 0 125 Q ANY X 0 V 0\n\
+AT 0022 WORDS 404004 404012\n\
+ROW 4026 A WORDS 001750 Q ANY X 0 V 0\n\
+AT 0022 WORDS 404004 404012\n\
+ROW 4027 A RANGE -2125 -1 Q ANY X 0 V 0\n\
+AT 0022 WORDS 404004 404012\n\
+ROW 4030 A RANGE -1125 999 Q ANY X 0 V 0\n\
+AT 0022 WORDS 404004 404012\n\
+ROW 4031 A RANGE -125 1999 Q ANY X 0 V 0\n\
+AT 0022 WORDS 404004 404012\n\
+ROW 4032 A RANGE 0 1999 Q ANY X 0 V 0\n\
+AT 0022 WORDS 404004 404012\n\
+ROW 4033 A RANGE -1000 999 Q ANY X 0 V 0\n\
+AT 0022 WORDS 404004 404012\n\
+ROW 4034 A RANGE -125 -1 Q ANY X 0 V 0\n\
+AT 0022 WORDS 404004 404012\n\
+ROW 4035 A WORDS 776030 Q ANY X 0 V 0\n\
+AT 0022 WORDS 404004 404012\n\
+ROW 0022 A RANGE -1000 1000 Q ANY X 0 V 0\n\
+AT 0022 WORDS 404004 404012\n\
+END\n";
+
+#[test]
+fn each_case_of_the_deck_is_judged_once(rt: HostRuntime) {
+    let alloc = rt.alloc();
+    assert!(rt; DECK_CERT.len() <= CERT_LIMIT);
+    let read = read(alloc, DECK_CERT, &Ports::standard());
+    let Ok(cert) = read else {
+        panic!(rt; "no certificate");
+    };
+    let image = image_of(&rt, alloc, &DECK);
+    expect_judged(&rt, &image, &cert, &Ok(32), 32);
 }

@@ -3,7 +3,7 @@
 use crate::common::expect_same;
 use ags_card::{
     Atom, Body, CardFault, Name, Term, cards_keep_to_their_form,
-    each_line_is_a_card_or_has_a_fault, lines_spell_what_is_read, read_card,
+    each_line_is_a_card_or_has_a_fault, is_comment_card, lines_spell_what_is_read, read_card,
     symbols_are_capitals_and_digits,
 };
 use ags_isa::Order;
@@ -247,6 +247,25 @@ const FAULTS: [(&[u8], CardFault); 42] = [
 fn least_faults_are_told(rt: HostRuntime) {
     for &(line, fault) in &FAULTS {
         expect_fault(&rt, line, Some(fault));
+    }
+}
+
+/// Lines, and whether each is a comment without a fault.
+const COMMENTS: [(&[u8], bool); 8] = [
+    (b"", true),
+    (b" \t ", true),
+    (b"*", true),
+    (b"* CLA 0", true),
+    (b" * CLA 0", false),
+    (b" CLA 0", false),
+    (b"*\x7f", false),
+    (&[b'*'; 121], false),
+];
+
+#[test]
+fn comments_are_told(rt: HostRuntime) {
+    for &(line, comment) in &COMMENTS {
+        assert!(&rt; is_comment_card(line) == comment);
     }
 }
 

@@ -25,4 +25,6 @@ mod order_tests;
 #[cfg(test)]
 mod panel_tests;
 #[cfg(test)]
+mod piece_tests;
+#[cfg(test)]
 mod source_tests;
