@@ -92,7 +92,11 @@ fn locations_and_the_end_are_read(rt: HostRuntime) {
 
 #[test]
 fn entries_of_every_word_and_of_ranges_are_read(rt: HostRuntime) {
-    expect_statement(&rt, b"CELL 0017 ANY", Statement::Entry(Table::Cell, entry(0o17, any())));
+    expect_statement(
+        &rt,
+        b"CELL 0017 ANY",
+        Statement::Entry(Table::Cell, entry(0o17, any())),
+    );
     expect_statement(
         &rt,
         b"INIT 3777 RANGE 4 6",
@@ -113,15 +117,27 @@ fn entries_of_every_word_and_of_ranges_are_read(rt: HostRuntime) {
         b"CELL 0017 RANGE -000005 -5",
         Statement::Entry(Table::Cell, entry(0o17, range(-5, -5))),
     );
-    expect_statement(&rt, b"CELL 4000 ANY", Statement::Entry(Table::Cell, entry(0o4000, any())));
+    expect_statement(
+        &rt,
+        b"CELL 4000 ANY",
+        Statement::Entry(Table::Cell, entry(0o4000, any())),
+    );
     // empty ranges are read as no value
     expect_statement(
         &rt,
         b"CELL 0017 RANGE 9 5",
         Statement::Entry(Table::Cell, entry(0o17, None)),
     );
-    expect_statement(&rt, b"AT 0017 RANGE 5 4", Statement::Entry(Table::At, entry(0o17, None)));
-    expect_statement(&rt, b"AT 0017 RANGE 0 -1", Statement::Entry(Table::At, entry(0o17, None)));
+    expect_statement(
+        &rt,
+        b"AT 0017 RANGE 5 4",
+        Statement::Entry(Table::At, entry(0o17, None)),
+    );
+    expect_statement(
+        &rt,
+        b"AT 0017 RANGE 0 -1",
+        Statement::Entry(Table::At, entry(0o17, None)),
+    );
 }
 
 #[test]

@@ -245,18 +245,20 @@ const BEHIND_A_FAULT: [&[u8]; 6] = [
     b"a line that hasn't ended",
 ];
 
+/// The front of a line that is too long already.
+const TOO_LONG: &[u8] = &[b'#'; 514];
+
 #[test]
 fn bytes_behind_a_fault_change_nothing(rt: HostRuntime) {
     let alloc = rt.alloc();
     let line = 2;
     let kind = CertKind::BadLine;
     let wanted = Err(CertError::At { line, kind });
-    let long = [b'#'; 514];
     for &one in &BEHIND_A_FAULT {
         for &other in &BEHIND_A_FAULT {
             let behind_a_line: [&[u8]; 4] = [b"AGSCERT 1\nIN", b"\n", one, other];
             assert!(&rt; is_same(&of_pieces(&rt, alloc, &behind_a_line), &wanted));
-            let behind_a_rest: [&[u8]; 4] = [b"AGSCERT 1\n", &long, one, other];
+            let behind_a_rest: [&[u8]; 4] = [b"AGSCERT 1\n", TOO_LONG, one, other];
             assert!(&rt; is_same(&of_pieces(&rt, alloc, &behind_a_rest), &wanted));
         }
     }
