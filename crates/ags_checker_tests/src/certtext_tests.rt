@@ -81,6 +81,11 @@ fn expect_statement(rt: &impl Abort, line: &[u8], wanted: Statement) {
     expect_line(rt, line, FurtherLine::Stated(wanted));
 }
 
+/// Expects the entry of a line.
+fn expect_entry(rt: &impl Abort, line: &[u8], table: Table, address: u16, value: Option<Value>) {
+    expect_statement(rt, line, Statement::Entry(table, entry(address, value)));
+}
+
 #[test]
 fn locations_and_the_end_are_read(rt: HostRuntime) {
     expect_statement(&rt, b"START 4000", Statement::Start(0o4000));
@@ -92,70 +97,67 @@ fn locations_and_the_end_are_read(rt: HostRuntime) {
 
 #[test]
 fn entries_of_every_word_and_of_ranges_are_read(rt: HostRuntime) {
-    expect_statement(
-        &rt,
-        b"CELL 0017 ANY",
-        Statement::Entry(Table::Cell, entry(0o17, any())),
-    );
-    expect_statement(
+    expect_entry(&rt, b"CELL 0017 ANY", Table::Cell, 0o17, any());
+    expect_entry(
         &rt,
         b"INIT 3777 RANGE 4 6",
-        Statement::Entry(Table::Init, entry(0o3777, range(4, 6))),
+        Table::Init,
+        0o3777,
+        range(4, 6),
     );
-    expect_statement(
+    expect_entry(
         &rt,
         b"IN 2200 RANGE -131072 131071",
-        Statement::Entry(Table::In, entry(0o2200, range(-131_072, 131_071))),
+        Table::In,
+        0o2200,
+        range(-131_072, 131_071),
     );
-    expect_statement(
+    expect_entry(
         &rt,
         b"OUT 6200 RANGE -0 000031",
-        Statement::Entry(Table::Out, entry(0o6200, range(0, 31))),
+        Table::Out,
+        0o6200,
+        range(0, 31),
     );
-    expect_statement(
+    expect_entry(
         &rt,
         b"CELL 0017 RANGE -000005 -5",
-        Statement::Entry(Table::Cell, entry(0o17, range(-5, -5))),
+        Table::Cell,
+        0o17,
+        range(-5, -5),
     );
-    expect_statement(
-        &rt,
-        b"CELL 4000 ANY",
-        Statement::Entry(Table::Cell, entry(0o4000, any())),
-    );
-    // empty ranges are read as no value
-    expect_statement(
-        &rt,
-        b"CELL 0017 RANGE 9 5",
-        Statement::Entry(Table::Cell, entry(0o17, None)),
-    );
-    expect_statement(
-        &rt,
-        b"AT 0017 RANGE 5 4",
-        Statement::Entry(Table::At, entry(0o17, None)),
-    );
-    expect_statement(
-        &rt,
-        b"AT 0017 RANGE 0 -1",
-        Statement::Entry(Table::At, entry(0o17, None)),
-    );
+    expect_entry(&rt, b"CELL 4000 ANY", Table::Cell, 0o4000, any());
+}
+
+#[test]
+fn empty_ranges_are_read_as_no_value(rt: HostRuntime) {
+    expect_entry(&rt, b"CELL 0017 RANGE 9 5", Table::Cell, 0o17, None);
+    expect_entry(&rt, b"AT 0017 RANGE 5 4", Table::At, 0o17, None);
+    expect_entry(&rt, b"AT 0017 RANGE 0 -1", Table::At, 0o17, None);
 }
 
 #[test]
 fn word_sets_are_read(rt: HostRuntime) {
-    expect_statement(
+    expect_entry(
         &rt,
         b"AT 0017 WORDS 404001",
-        Statement::Entry(Table::At, entry(0o17, alone(0o404001))),
+        Table::At,
+        0o17,
+        alone(0o404001),
     );
-    expect_statement(
+    expect_entry(
         &rt,
         b"AT 0017 WORDS 000001 777777",
-        Statement::Entry(Table::At, entry(0o17, pair(1, 0o777777))),
+        Table::At,
+        0o17,
+        pair(1, 0o777777),
     );
-    expect_statement(
+    expect_entry(
         &rt,
         b"AT 0017 WORDS 000000 000001 000002 000003 000004 000005 000006 000007 000010 000011 000012 000013 000014 000015 000016 000017",
-        Statement::Entry(Table::At, entry(0o17, sixteen())),
+        Table::At,
+        0o17,
+        sixteen(),
     );
 }
 
