@@ -1,0 +1,33 @@
+//! The shelf and the sink in memory whose listed calls fail.
+
+use ags_outside::{MemoryShelf, MemorySink, Pull, PutDone, Shelf, Sink};
+
+// Calls are counted from 1, one that failed with them; a number behind, or listed twice, changes nothing.
+#[test]
+fn a_shelf_fails_at_its_listed_calls(rt: HostRuntime) {
+    let mut shelf = MemoryShelf::new(rt.alloc());
+    assert!(&rt; shelf.add("A", b"first").is_ok());
+    assert!(&rt; shelf.add("A", b"1234567").is_ok());
+    for call in [0, 2, 3, 3] {
+        assert!(&rt; shelf.fail_at(call).is_ok());
+    }
+    let mut room = [0u8; 4];
+    assert!(&rt; shelf.pull("A", 0, &mut room) == Pull::Got(4));
+    assert!(&rt; room == *b"1234");
+    assert!(&rt; shelf.pull("A", 4, &mut room) == Pull::Failed);
+    assert!(&rt; shelf.pull("B", 0, &mut room) == Pull::Failed);
+    assert!(&rt; shelf.fail_at(2).is_ok());
+    assert!(&rt; shelf.pull("A", 4, &mut room) == Pull::Got(3));
+    assert!(&rt; shelf.pull("A", 7, &mut room) == Pull::End);
+    assert!(&rt; shelf.pull("B", 0, &mut room) == Pull::Absent);
+}
+
+#[test]
+fn a_sink_fails_at_its_listed_calls(rt: HostRuntime) {
+    let mut sink = MemorySink::new(rt.alloc(), 3);
+    assert!(&rt; sink.fail_at(2).is_ok());
+    assert!(&rt; sink.put(b"1234") == PutDone::Took(3));
+    assert!(&rt; sink.put(b"4") == PutDone::Failed);
+    assert!(&rt; sink.put(b"4") == PutDone::Took(1));
+    assert!(&rt; sink.bytes() == b"1234".as_slice());
+}
