@@ -14,10 +14,7 @@ const BYTES: u32 = 65_536;
 const EMPTY_LISTING: usize = 1_376_256;
 
 /// The source, the certificate and the listing that stand beside the file.
-const BESIDE: [(&str, &[u8]); 2] = [
-    ("S", b" ORG /4000\n DLY /4000\n"),
-    ("E", b""),
-];
+const BESIDE: [(&str, &[u8]); 2] = [("S", b" ORG /4000\n DLY /4000\n"), ("E", b"")];
 
 /// A file of one byte.
 fn file_of(rt: &impl Abort, alloc: Global, byte: u8) -> Vec<u8> {

@@ -39,7 +39,13 @@ fn add_file(rt: &impl Abort, shelf: &mut MemoryShelf, absent: &str, name: &str, 
 /// A source S with its listing L; and the deck D with its certificate C and its script P. One of them may be absent.
 pub(crate) fn files_without(rt: &impl Abort, alloc: Global, absent: &str) -> MemoryShelf {
     let mut shelf = MemoryShelf::new(alloc);
-    add_file(rt, &mut shelf, absent, "S", "* FIRST\n ORG /4000\nA OCT 7\n");
+    add_file(
+        rt,
+        &mut shelf,
+        absent,
+        "S",
+        "* FIRST\n ORG /4000\nA OCT 7\n",
+    );
     add_file(rt, &mut shelf, absent, "L", FIRST_LISTING);
     add_file(rt, &mut shelf, absent, "D", DECK);
     add_file(rt, &mut shelf, absent, "C", DECK_CERTIFICATE);

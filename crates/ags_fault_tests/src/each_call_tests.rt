@@ -29,12 +29,24 @@ fn fail_each_put(rt: &(impl AllocGlobal + Abort), line: &str, text: &str) {
     let mut put = 1u64;
     let mut front = String::new(rt.alloc());
     for shown in text.lines() {
-        expect_end(rt, line, Failing { pull, put, most }, Status::WriteFault, front.as_str());
+        expect_end(
+            rt,
+            line,
+            Failing { pull, put, most },
+            Status::WriteFault,
+            front.as_str(),
+        );
         add(rt, &mut front, shown);
         add(rt, &mut front, "\n");
         put = put.saturating_add(1);
     }
-    expect_end(rt, line, Failing { pull, put, most }, Status::Done, front.as_str());
+    expect_end(
+        rt,
+        line,
+        Failing { pull, put, most },
+        Status::Done,
+        front.as_str(),
+    );
 }
 
 /// Runs it into a sink that takes one byte a put, of which each fails alone: the bytes before it are put.
@@ -43,11 +55,23 @@ fn fail_each_byte(rt: &(impl AllocGlobal + Abort), line: &str, text: &str) {
     let mut put = 1u64;
     let mut front = String::new(rt.alloc());
     for shown in text.chars() {
-        expect_end(rt, line, Failing { pull, put, most }, Status::WriteFault, front.as_str());
+        expect_end(
+            rt,
+            line,
+            Failing { pull, put, most },
+            Status::WriteFault,
+            front.as_str(),
+        );
         assert!(rt; front.push(shown).is_ok());
         put = put.saturating_add(1);
     }
-    expect_end(rt, line, Failing { pull, put, most }, Status::Done, front.as_str());
+    expect_end(
+        rt,
+        line,
+        Failing { pull, put, most },
+        Status::Done,
+        front.as_str(),
+    );
 }
 
 /// Runs a command line that makes so many pulls and prints this text, with each call failing alone.
@@ -81,14 +105,18 @@ fn a_cross_reference_is_cut_off_at_each_call(rt: HostRuntime) {
 // The certified deck has 4 pulls and 41 puts: the 40 lines of its listing, and the verdict.
 #[test]
 fn a_certified_deck_is_cut_off_at_each_call(rt: HostRuntime) {
-    let text = joined(&rt, rt.alloc(), DECK_LISTING, "CERTIFIED ROWS 31 CASES 32\n");
+    let text = joined(
+        &rt,
+        rt.alloc(),
+        DECK_LISTING,
+        "CERTIFIED ROWS 31 CASES 32\n",
+    );
     assert!(&rt; text.as_str().lines().count() == 41);
     fail_each_call(&rt, "certify D C", 4, text.as_str());
 }
 
 /// What the deck's script shows.
-const SHOWN: &str =
-    "CELL 0020 001750\nA 777777 Q 404012 X 0 V 0 P 4000 W\nDEDA |047?????? |\n";
+const SHOWN: &str = "CELL 0020 001750\nA 777777 Q 404012 X 0 V 0 P 4000 W\nDEDA |047?????? |\n";
 
 #[test]
 fn a_played_deck_is_cut_off_at_each_call(rt: HostRuntime) {

@@ -43,9 +43,23 @@ fn files_at_the_edge_of_a_piece(rt: HostRuntime) -> Result<(), Fail> {
     let mut shelf = FileShelf::new(&rt, alloc);
     expect_fetched(&rt, alloc, &mut shelf, "none", 0, Ok(0));
     expect_fetched(&rt, alloc, &mut shelf, "piece", 4096, Ok(4096));
-    expect_fetched(&rt, alloc, &mut shelf, "piece", 4095, Err(FetchError::TooLong));
+    expect_fetched(
+        &rt,
+        alloc,
+        &mut shelf,
+        "piece",
+        4095,
+        Err(FetchError::TooLong),
+    );
     expect_fetched(&rt, alloc, &mut shelf, "more", 4097, Ok(4097));
-    expect_fetched(&rt, alloc, &mut shelf, "more", 4096, Err(FetchError::TooLong));
+    expect_fetched(
+        &rt,
+        alloc,
+        &mut shelf,
+        "more",
+        4096,
+        Err(FetchError::TooLong),
+    );
     Ok(())
 }
 
@@ -54,10 +68,31 @@ fn devices_and_folders(rt: HostRuntime) {
     let alloc = rt.alloc();
     let mut shelf = FileShelf::new(&rt, alloc);
     expect_fetched(&rt, alloc, &mut shelf, "/dev/null", 0, Ok(0));
-    expect_fetched(&rt, alloc, &mut shelf, "/dev/zero", 65_536, Err(FetchError::TooLong));
+    expect_fetched(
+        &rt,
+        alloc,
+        &mut shelf,
+        "/dev/zero",
+        65_536,
+        Err(FetchError::TooLong),
+    );
     expect_fetched(&rt, alloc, &mut shelf, ".", 9, Err(FetchError::ReadFault));
-    expect_fetched(&rt, alloc, &mut shelf, "/dev/null/file", 9, Err(FetchError::ReadFault));
-    expect_fetched(&rt, alloc, &mut shelf, "no file of this name", 9, Err(FetchError::Absent));
+    expect_fetched(
+        &rt,
+        alloc,
+        &mut shelf,
+        "/dev/null/file",
+        9,
+        Err(FetchError::ReadFault),
+    );
+    expect_fetched(
+        &rt,
+        alloc,
+        &mut shelf,
+        "no file of this name",
+        9,
+        Err(FetchError::Absent),
+    );
 }
 
 // Where whoever runs the test may read every file, nothing is tested.

@@ -28,7 +28,13 @@ fn expect_over<S: Shelf>(
 }
 
 /// The same over the source S that waits, and one file F.
-fn expect_file(rt: &(impl AllocGlobal + Abort), file: &[u8], line: &str, status: Status, text: &str) {
+fn expect_file(
+    rt: &(impl AllocGlobal + Abort),
+    file: &[u8],
+    line: &str,
+    status: Status,
+    text: &str,
+) {
     let mut shelf = MemoryShelf::new(rt.alloc());
     assert!(rt; shelf.add("S", WAITING.as_bytes()).is_ok());
     assert!(rt; shelf.add("F", file).is_ok());
@@ -52,13 +58,31 @@ fn files_have_limits(rt: HostRuntime) {
     let mut file = many(&rt, alloc, b'\n', 65_536);
     expect_file(&rt, file.as_slice(), "xref S F", Status::Done, "");
     assert!(&rt; file.push(b'\n').is_ok());
-    expect_file(&rt, file.as_slice(), "xref S F", Status::LongFile, "LONG F 65536\n");
+    expect_file(
+        &rt,
+        file.as_slice(),
+        "xref S F",
+        Status::LongFile,
+        "LONG F 65536\n",
+    );
     let mut file = many(&rt, alloc, b'\n', 4_194_304);
     expect_file(&rt, file.as_slice(), "xref F", Status::Done, "");
     expect_file(&rt, file.as_slice(), "run S F", Status::Done, "");
     assert!(&rt; file.push(b'\n').is_ok());
-    expect_file(&rt, file.as_slice(), "xref F", Status::LongFile, "LONG F 4194304\n");
-    expect_file(&rt, file.as_slice(), "run S F", Status::LongFile, "LONG F 4194304\n");
+    expect_file(
+        &rt,
+        file.as_slice(),
+        "xref F",
+        Status::LongFile,
+        "LONG F 4194304\n",
+    );
+    expect_file(
+        &rt,
+        file.as_slice(),
+        "run S F",
+        Status::LongFile,
+        "LONG F 4194304\n",
+    );
 }
 
 /// A shelf with the source S, and whose every other file is zeros without an end.
@@ -87,11 +111,41 @@ fn a_file_without_an_end_is_too_long(rt: HostRuntime) {
     let mut held = MemoryShelf::new(rt.alloc());
     assert!(&rt; held.add("S", WAITING.as_bytes()).is_ok());
     let mut shelf = EndlessShelf { held };
-    expect_over(&rt, &mut shelf, "assemble F", Status::LongFile, "LONG F 4194304\n");
-    expect_over(&rt, &mut shelf, "run S F", Status::LongFile, "LONG F 4194304\n");
-    expect_over(&rt, &mut shelf, "xref S F", Status::LongFile, "LONG F 65536\n");
-    expect_over(&rt, &mut shelf, "certify S F", Status::LongFile, "LONG F 67108864\n");
-    expect_over(&rt, &mut shelf, "compare S F", Status::LongFile, "LONG F 134217728\n");
+    expect_over(
+        &rt,
+        &mut shelf,
+        "assemble F",
+        Status::LongFile,
+        "LONG F 4194304\n",
+    );
+    expect_over(
+        &rt,
+        &mut shelf,
+        "run S F",
+        Status::LongFile,
+        "LONG F 4194304\n",
+    );
+    expect_over(
+        &rt,
+        &mut shelf,
+        "xref S F",
+        Status::LongFile,
+        "LONG F 65536\n",
+    );
+    expect_over(
+        &rt,
+        &mut shelf,
+        "certify S F",
+        Status::LongFile,
+        "LONG F 67108864\n",
+    );
+    expect_over(
+        &rt,
+        &mut shelf,
+        "compare S F",
+        Status::LongFile,
+        "LONG F 134217728\n",
+    );
 }
 
 // A script's line has 512 bytes at most, its line feed not counted.
@@ -107,9 +161,21 @@ fn lines_of_scripts_have_a_limit(rt: HostRuntime) {
 // A cycle counts as 20,000 steps, whatever the phase.
 #[test]
 fn steps_have_a_limit(rt: HostRuntime) {
-    expect_file(&rt, b"CYCLE 4999\nSTEP 20000\n", "run S F", Status::Done, "");
+    expect_file(
+        &rt,
+        b"CYCLE 4999\nSTEP 20000\n",
+        "run S F",
+        Status::Done,
+        "",
+    );
     let text = "SCRIPT LINE 3 ERROR 3 TooManySteps\n";
-    expect_file(&rt, b"CYCLE 4999\nSTEP 20000\nSTEP 1\n", "run S F", Status::BadText, text);
+    expect_file(
+        &rt,
+        b"CYCLE 4999\nSTEP 20000\nSTEP 1\n",
+        "run S F",
+        Status::BadText,
+        text,
+    );
     let text = "SCRIPT LINE 1 ERROR 3 TooManySteps\n";
     expect_file(&rt, b"STEP 100000001\n", "run S F", Status::BadText, text);
 }
@@ -133,7 +199,10 @@ fn sets_of_words_have_a_limit(rt: HostRuntime) {
 fn registers(rt: &impl Abort, alloc: Global, count: u8) -> String {
     let mut file = joined(rt, alloc, "input = [", "");
     for number in 0..count {
-        let entry = format!(in alloc; "{{ address = {number} }}, ").expect(rt, "memory for an entry");
+        let entry = format!(in alloc; "{{ address = {number} }}, ").expect(
+            rt,
+            "memory for an entry",
+        );
         add(rt, &mut file, entry.as_str());
     }
     add(rt, &mut file, "]\n");
@@ -152,7 +221,10 @@ fn registers_have_a_limit(rt: HostRuntime) {
 
 /// Adds the rows of one location, so many.
 fn add_rows(rt: &impl Abort, alloc: Global, text: &mut String, location: u16, count: u16) {
-    let row = format!(in alloc; "ROW {location:04o} A ANY Q ANY X 0 V 0\n").expect(rt, "memory for a row");
+    let row = format!(in alloc; "ROW {location:04o} A ANY Q ANY X 0 V 0\n").expect(
+        rt,
+        "memory for a row",
+    );
     for _ in 0..count {
         add(rt, text, row.as_str());
     }
