@@ -14,7 +14,7 @@ use ags_image::Image;
 use ags_ports::Machine;
 use ags_row::Row;
 use ags_steps::Steps;
-use ags_transfer::posts;
+use ags_transfer::{PostPair, put_posts};
 use ags_walk::{Judge, OneCase};
 use ags_word::Word;
 use std::marker::Model;
@@ -71,7 +71,11 @@ fn judge_case<L: Ledger>(
     ensures step { steps.new ≡ steps.old + 1 }
 {
     let cert = accepting.cert;
-    match posts(
+    let mut pair = PostPair {
+        first: None,
+        second: None,
+    };
+    match put_posts(
         accepting.machine,
         accepting.image,
         cert.limits(),
@@ -80,8 +84,9 @@ fn judge_case<L: Ledger>(
         x,
         v,
         steps,
+        &mut pair,
     ) {
-        Ok(pair) => match first_uncovered_after(cert, row, &pair, &accepting.last) {
+        Ok(()) => match first_uncovered_after(cert, row, &pair, &accepting.last) {
             Some(next) => Err(RowFault::NotCovered { word, x, v, next }),
             None => Ok(1),
         },

@@ -99,8 +99,15 @@ impl<'a, D: Domain> Case<'a, D> {
     pub(crate) fn moves_on(&self) -> Post<D>
         ensures { IsPostOf D.meaning self.now (moves_on self.now) result }
     {
+        self.goes_to(self.next())
+    }
+
+    /// The post of an order that goes to an address.
+    pub(crate) fn goes_to(&self, e: u16) -> Post<D>
+        ensures { IsPostOf D.meaning self.now (record (moves_on self.now) { next = e }) result }
+    {
         Post {
-            next: self.next(),
+            next: e,
             a: self.row.a(),
             q: self.row.q(),
             x: self.index,
@@ -111,34 +118,20 @@ impl<'a, D: Domain> Case<'a, D> {
         }
     }
 
-    /// The post of an order that goes to an address.
-    pub(crate) fn goes_to(&self, e: u16) -> Post<D>
-        ensures { IsPostOf D.meaning self.now (record (moves_on self.now) { next = e }) result }
+    /// Lets a post that moves on take the cell to A.
+    pub(crate) fn loads(&self, e: u16, post: &mut Post<D>)
+        requires cell { e < 4096 }
+        requires moves_on { IsPostOf D.meaning self.now (moves_on self.now) post.old }
+        ensures { IsPostOf D.meaning self.now (loads D.meaning self.now e) post.new }
     {
-        Post {
-            next: e,
-            ..self.moves_on()
-        }
+        post.a = self.cell(e);
     }
 
-    /// The post of an order that takes the cell to A.
-    pub(crate) fn loads(&self, e: u16) -> Post<D>
-        requires { e < 4096 }
-        ensures { IsPostOf D.meaning self.now (loads D.meaning self.now e) result }
+    /// Lets a post that moves on leave any Q.
+    pub(crate) fn frees_q(&self, post: &mut Post<D>)
+        requires { IsPostOf D.meaning self.now (moves_on self.now) post.old }
+        ensures { IsPostOf D.meaning self.now (frees_q D.meaning self.now) post.new }
     {
-        Post {
-            a: self.cell(e),
-            ..self.moves_on()
-        }
-    }
-
-    /// The post of an order that leaves any Q.
-    pub(crate) fn frees_q(&self) -> Post<D>
-        ensures { IsPostOf D.meaning self.now (frees_q D.meaning self.now) result }
-    {
-        Post {
-            q: D::full(),
-            ..self.moves_on()
-        }
+        post.q = D::full();
     }
 }

@@ -4,11 +4,12 @@ ghost use Rattle.std.specs.Prelude.{◌≡◌, ◌<◌, ◌||◌};
 ghost use Rattle.ags_posts.specs.Told.{Told, IsTold};
 ghost use Rattle.ags_posts.specs.Line.{Line, IsPostOf};
 ghost use Rattle.ags_posts.specs.Posts.{IsSingle, Decides, IsStored, IsCleared};
+ghost use Rattle.ags_transfer.specs.Outcome.{outcome_of};
 ghost use Rattle.ags_transfer.specs.Decision.{single_pair, IsDecided};
 
 use crate::cases::Case;
 use ags_domain::{Domain, Operands};
-use ags_posts::{PostPair, Stop};
+use ags_posts::Stop;
 use ags_row::{At, Post};
 use ags_word::Word;
 
@@ -29,36 +30,25 @@ impl<D: Copy> NewA<D> {
     }
 }
 
-/// One post alone.
-pub(crate) fn single<D>(post: Post<D>) -> PostPair<D>
-    ensures { result ≡ single_pair post }
-{
-    PostPair {
-        first: Some(post),
-        second: None,
-    }
-}
-
 impl<'a, D: Domain> Case<'a, D> {
-    /// A post with a store of some words to an erasable cell, where they are within the cell's limit.
-    pub(crate) fn stored(&self, e: u16, value: D, post: Post<D>) -> Result<PostPair<D>, Stop<D>>
+    /// Lets a post store some words to an erasable cell, where they are within the cell's limit.
+    pub(crate) fn stored(&self, e: u16, value: D, post: &mut Post<D>) -> Result<(), Stop<D>>
         requires { e < 2048 }
-        ensures { (line : Line D) (told : Told D) → IsTold D.meaning told value → IsPostOf D.meaning self.now line post
-            → IsStored D.meaning self.now e told line result }
+        ensures { (line : Line D) (told : Told D) → IsTold D.meaning told value → IsPostOf D.meaning self.now line post.old
+            → IsStored D.meaning self.now e told line (outcome_of result (single_pair post.new)) }
     {
         if !value.within(&self.limits.cell(e)) {
             return Err(Stop::CellRange { address: e, value });
         }
-        Ok(single(Post {
-            stored: Some(At { address: e, value }),
-            ..post
-        }))
+        post.stored = Some(At { address: e, value });
+        Ok(())
     }
 
-    /// A post with a store of 0 to an erasable cell, where that is within the cell's limit.
-    pub(crate) fn cleared(&self, e: u16, post: Post<D>) -> Result<PostPair<D>, Stop<D>>
+    /// Lets a post store 0 to an erasable cell, where that is within the cell's limit.
+    pub(crate) fn cleared(&self, e: u16, post: &mut Post<D>) -> Result<(), Stop<D>>
         requires { e < 2048 }
-        ensures { (line : Line D) → IsPostOf D.meaning self.now line post → IsCleared D.meaning self.now e line result }
+        ensures { (line : Line D) → IsPostOf D.meaning self.now line post.old
+            → IsCleared D.meaning self.now e line (outcome_of result (single_pair post.new)) }
     {
         self.stored(e, D::of_word(Word::ZERO), post)
     }
@@ -82,38 +72,38 @@ impl<'a, D: Domain> Case<'a, D> {
         }
     }
 
-    /// The one post with what the domain answered for A.
+    /// Lets the one post have what the domain answered for A.
     pub(crate) fn computed(
         &self,
         answer: Result<D, Operands>,
-        mut post: Post<D>,
-    ) -> Result<PostPair<D>, Stop<D>>
-        ensures { (line : Line D) → IsPostOf D.meaning self.now line post
-            → Decides D.meaning self.now line (IsSingle D.meaning self.now) answer result }
+        post: &mut Post<D>,
+    ) -> Result<(), Stop<D>>
+        ensures { (line : Line D) → IsPostOf D.meaning self.now line post.old
+            → Decides D.meaning self.now line (IsSingle D.meaning self.now) answer (outcome_of result (single_pair post.new)) }
     {
         match self.decided(answer) {
             Ok(new) => {
-                new.put_into(&mut post);
-                Ok(single(post))
+                new.put_into(post);
+                Ok(())
             }
             Err(stop) => Err(stop),
         }
     }
 
-    /// The one post with what the domain answered for A, and with a cleared cell.
+    /// Lets the one post have what the domain answered for A, and clear a cell.
     pub(crate) fn computed_and_cleared(
         &self,
         e: u16,
         answer: Result<D, Operands>,
-        mut post: Post<D>,
-    ) -> Result<PostPair<D>, Stop<D>>
+        post: &mut Post<D>,
+    ) -> Result<(), Stop<D>>
         requires { e < 2048 }
-        ensures { (line : Line D) → IsPostOf D.meaning self.now line post
-            → Decides D.meaning self.now line (IsCleared D.meaning self.now e) answer result }
+        ensures { (line : Line D) → IsPostOf D.meaning self.now line post.old
+            → Decides D.meaning self.now line (IsCleared D.meaning self.now e) answer (outcome_of result (single_pair post.new)) }
     {
         match self.decided(answer) {
             Ok(new) => {
-                new.put_into(&mut post);
+                new.put_into(post);
                 self.cleared(e, post)
             }
             Err(stop) => Err(stop),

@@ -1,6 +1,7 @@
 //! The posts of a case: its word is read, and the order that it names is judged.
 
-ghost use Rattle.std.specs.Prelude.{◌≡◌, ◌<◌, ◌+◌, IfOk, Ok};
+ghost use Rattle.std.specs.Prelude.{◌≡◌, ◌≢◌, ◌<◌, ◌+◌, None, IfOk, Ok};
+ghost use Rattle.ags_isa.specs.declared.orders.Order.TheVariants.{Tmi};
 ghost use Rattle.ags_ports.specs.declared.events.Event.TheVariants.{Step};
 ghost use Rattle.ags_ports.specs.declared.events.Done.{Done};
 ghost use Rattle.ags_ports.specs.State.{State, IsState};
@@ -9,7 +10,10 @@ ghost use Rattle.ags_posts.specs.Case.{case_of};
 ghost use Rattle.ags_posts.specs.InRow.{IsInCase};
 ghost use Rattle.ags_posts.specs.OneStep.{Follows};
 ghost use Rattle.ags_posts.specs.Going.{GoWithin};
+ghost use Rattle.ags_posts.specs.Line.{IsPostOf, moves_on};
 ghost use Rattle.ags_posts.specs.Posts.{IsPosts, IsPostsOfCase};
+ghost use Rattle.ags_transfer.specs.Outcome.{outcome_of};
+ghost use Rattle.ags_transfer.specs.Decision.{single_pair};
 ghost use Rattle.ags_posts.specs.declared.answers.PostPair.{PostPair};
 
 use crate::cases::Case;
@@ -20,7 +24,7 @@ use ags_ports::laws::machine_is_made_of_tables;
 use ags_ports::{Machine, effective_address};
 use ags_posts::laws::{one_step_follows_the_posts, posts_go_to_locations};
 use ags_posts::{PostPair, Stop};
-use ags_row::{Limits, Row};
+use ags_row::{Limits, Post, Row};
 use ags_steps::Steps;
 use ags_word::Word;
 use std::sync::ledger::Ledger;
@@ -48,11 +52,40 @@ pub fn posts<D: Domain, L: Ledger>(
     ensures below { IfOk result GoWithin }
     ensures step { steps.new ≡ steps.old + 1 }
 {
-    steps.tick();
     machine_is_made_of_tables(machine);
     one_step_follows_the_posts::<D>();
+    let mut pair = PostPair {
+        first: None,
+        second: None,
+    };
+    match put_posts(machine, image, limits, base, word, x, v, steps, &mut pair) {
+        Ok(()) => Ok(pair),
+        Err(stop) => Err(stop),
+    }
+}
+
+/// The same posts, put into a pair at hand that has no second one, so that none is moved. Where the checker stops, nothing is said of
+/// the pair.
+pub fn put_posts<D: Domain, L: Ledger>(
+    machine: &Machine,
+    image: &Image,
+    limits: &Limits<D>,
+    base: &Row<D>,
+    word: Word,
+    x: u8,
+    v: bool,
+    steps: &mut Steps<L>,
+    pair: &mut PostPair<D>,
+) -> Result<(), Stop<D>>
+    requires index { x < 8 }
+    requires no_second { pair.old.second ≡ None }
+    ensures posts { IsPostsOfCase D.meaning (case_of machine.now image.now limits.now base.now word x v) (outcome_of result pair.new) }
+    ensures below { IfOk (outcome_of result pair.new) GoWithin }
+    ensures step { steps.new ≡ steps.old + 1 }
+{
+    steps.tick();
     posts_go_to_locations::<D>();
-    posts_of_case(&Case {
+    let case = Case {
         machine,
         image,
         limits,
@@ -60,58 +93,98 @@ pub fn posts<D: Domain, L: Ledger>(
         word,
         index: x,
         indicator: v,
-    })
-}
-
-/// The posts of a case, or its stop.
-fn posts_of_case<'a, D: Domain>(case: &Case<'a, D>) -> Result<PostPair<D>, Stop<D>>
-    requires { case.now.index < 8 }
-    ensures { IsPostsOfCase D.meaning case.now result }
-{
-    match decode(&case.machine.codes, case.word) {
-        Some(decoded) => {
-            let e = effective_address(decoded, case.index);
-            case.order(decoded.order, e, decoded.address)
-        }
-        None => Err(Stop::NoOrder),
-    }
+    };
+    case.put_posts(pair)
 }
 
 impl<'a, D: Domain> Case<'a, D> {
-    /// The posts of an order at an address y, where it acts on an address e.
-    fn order(&self, order: Order, e: u16, y: u16) -> Result<PostPair<D>, Stop<D>>
+    /// Puts the posts of the case into a pair, unless it stops.
+    fn put_posts(&self, pair: &mut PostPair<D>) -> Result<(), Stop<D>>
+        requires index { self.now.index < 8 }
+        requires no_second { pair.old.second ≡ None }
+        ensures { IsPostsOfCase D.meaning self.now (outcome_of result pair.new) }
+    {
+        match decode(&self.machine.codes, self.word) {
+            Some(decoded) => {
+                let e = effective_address(decoded, self.index);
+                self.put_order(decoded.order, e, decoded.address, pair)
+            }
+            None => Err(Stop::NoOrder),
+        }
+    }
+
+    /// The same of an order at an address y, where it acts on an address e.
+    fn put_order(&self, order: Order, e: u16, y: u16, pair: &mut PostPair<D>) -> Result<(), Stop<D>>
         requires acts_on { e < 4096 }
         requires address { y < 4096 }
-        ensures { IsPosts D.meaning self.now order e y result }
+        requires no_second { pair.old.second ≡ None }
+        ensures { IsPosts D.meaning self.now order e y (outcome_of result pair.new) }
     {
         match order {
-            Order::Abs => self.abs(),
-            Order::Add => self.add(e),
-            Order::Adz => self.adz(e),
-            Order::Als => self.als(y),
-            Order::Axt => self.axt(y),
-            Order::Cla => self.cla(e),
-            Order::Clz => self.clz(e),
-            Order::Com => self.com(),
-            Order::Dly => self.dly(y),
-            Order::Dvp => self.dvp(e),
-            Order::Inp => self.inp(y),
-            Order::Ldq => self.ldq(e),
-            Order::Lls => self.lls(y),
-            Order::Lrs => self.lrs(y),
-            Order::Mpr => self.mpr(e),
-            Order::Mpy => self.mpy(e),
-            Order::Mpz => self.mpz(e),
-            Order::Out => self.out(y),
-            Order::Sto => self.sto(e),
-            Order::Stq => self.stq(e),
-            Order::Sub => self.sub(e),
-            Order::Suz => self.suz(e),
-            Order::Tix => self.tix(y),
-            Order::Tmi => self.tmi(e),
-            Order::Tov => self.tov(e),
-            Order::Tra => self.tra(e),
-            Order::Tsq => self.tsq(e),
+            Order::Tmi => {
+                *pair = self.tmi(e);
+                Ok(())
+            }
+            _ => self.put_one(order, e, y, pair),
+        }
+    }
+
+    /// The same of an order other than TMI, which alone may leave two posts.
+    fn put_one(&self, order: Order, e: u16, y: u16, pair: &mut PostPair<D>) -> Result<(), Stop<D>>
+        requires acts_on { e < 4096 }
+        requires address { y < 4096 }
+        requires one { order ≢ Tmi }
+        requires no_second { pair.old.second ≡ None }
+        ensures { IsPosts D.meaning self.now order e y (outcome_of result pair.new) }
+    {
+        let mut post = self.moves_on();
+        match self.change(order, e, y, &mut post) {
+            Ok(()) => {
+                pair.first = Some(post);
+                Ok(())
+            }
+            Err(stop) => Err(stop),
+        }
+    }
+
+    /// Lets a post that moves on be what such an order leaves. It stands apart, so that the room that each of the 26 orders needs isn't
+    /// cleared for every case.
+    #[inline(never)]
+    fn change(&self, order: Order, e: u16, y: u16, post: &mut Post<D>) -> Result<(), Stop<D>>
+        requires acts_on { e < 4096 }
+        requires address { y < 4096 }
+        requires one { order ≢ Tmi }
+        requires moves_on { IsPostOf D.meaning self.now (moves_on self.now) post.old }
+        ensures { IsPosts D.meaning self.now order e y (outcome_of result (single_pair post.new)) }
+    {
+        match order {
+            Order::Abs => self.abs(post),
+            Order::Add => self.add(e, post),
+            Order::Adz => self.adz(e, post),
+            Order::Als => self.als(y, post),
+            Order::Axt => self.axt(y, post),
+            Order::Cla => self.cla(e, post),
+            Order::Clz => self.clz(e, post),
+            Order::Com => self.com(post),
+            Order::Dly => self.dly(y, post),
+            Order::Dvp => self.dvp(e, post),
+            Order::Inp => self.inp(y, post),
+            Order::Ldq => self.ldq(e, post),
+            Order::Lls => self.lls(y, post),
+            Order::Lrs => self.lrs(y, post),
+            Order::Mpr => self.mpr(e, post),
+            Order::Mpy => self.mpy(e, post),
+            Order::Mpz => self.mpz(e, post),
+            Order::Out => self.out(y, post),
+            Order::Sto => self.sto(e, post),
+            Order::Stq => self.stq(e, post),
+            Order::Sub => self.sub(e, post),
+            Order::Suz => self.suz(e, post),
+            Order::Tix => self.tix(y, post),
+            Order::Tmi => unreachable!(),
+            Order::Tov => self.tov(e, post),
+            Order::Tra => self.tra(e, post),
+            Order::Tsq => self.tsq(e, post),
         }
     }
 }

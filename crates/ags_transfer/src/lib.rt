@@ -16,4 +16,4 @@ mod transfers;
 
 pub use ags_posts::{PostPair, Stop};
 pub use codes::code;
-pub use judging::posts;
+pub use judging::{posts, put_posts};

@@ -2,63 +2,70 @@
 
 ghost use Rattle.std.specs.Prelude.{◌<◌, ℕ};
 ghost use Rattle.ags_isa.specs.declared.orders.Order.TheVariants.{Cla, Clz, Ldq, Sto, Stq};
+ghost use Rattle.ags_posts.specs.Line.{IsPostOf, moves_on};
 ghost use Rattle.ags_posts.specs.Posts.{IsPosts};
+ghost use Rattle.ags_transfer.specs.Outcome.{outcome_of};
+ghost use Rattle.ags_transfer.specs.Decision.{single_pair};
 
 use crate::cases::Case;
-use crate::deciding::single;
 use ags_domain::Domain;
-use ags_posts::{PostPair, Stop};
+use ags_posts::Stop;
 use ags_row::Post;
 use ags_word::ERASABLE;
 
 impl<'a, D: Domain> Case<'a, D> {
     /// CLA: A becomes the cell.
-    pub(crate) fn cla(&self, e: u16) -> Result<PostPair<D>, Stop<D>>
-        requires { e < 4096 }
-        ensures { (y : ℕ) → IsPosts D.meaning self.now Cla e y result }
+    pub(crate) fn cla(&self, e: u16, post: &mut Post<D>) -> Result<(), Stop<D>>
+        requires address { e < 4096 }
+        requires moves_on { IsPostOf D.meaning self.now (moves_on self.now) post.old }
+        ensures { (y : ℕ) → IsPosts D.meaning self.now Cla e y (outcome_of result (single_pair post.new)) }
     {
-        Ok(single(self.loads(e)))
+        self.loads(e, post);
+        Ok(())
     }
 
     /// LDQ: Q becomes the cell.
-    pub(crate) fn ldq(&self, e: u16) -> Result<PostPair<D>, Stop<D>>
-        requires { e < 4096 }
-        ensures { (y : ℕ) → IsPosts D.meaning self.now Ldq e y result }
+    pub(crate) fn ldq(&self, e: u16, post: &mut Post<D>) -> Result<(), Stop<D>>
+        requires address { e < 4096 }
+        requires moves_on { IsPostOf D.meaning self.now (moves_on self.now) post.old }
+        ensures { (y : ℕ) → IsPosts D.meaning self.now Ldq e y (outcome_of result (single_pair post.new)) }
     {
-        Ok(single(Post {
-            q: self.cell(e),
-            ..self.moves_on()
-        }))
+        post.q = self.cell(e);
+        Ok(())
     }
 
     /// STO: the cell becomes A.
-    pub(crate) fn sto(&self, e: u16) -> Result<PostPair<D>, Stop<D>>
-        ensures { (y : ℕ) → IsPosts D.meaning self.now Sto e y result }
+    pub(crate) fn sto(&self, e: u16, post: &mut Post<D>) -> Result<(), Stop<D>>
+        requires moves_on { IsPostOf D.meaning self.now (moves_on self.now) post.old }
+        ensures { (y : ℕ) → IsPosts D.meaning self.now Sto e y (outcome_of result (single_pair post.new)) }
     {
         if e >= ERASABLE {
             return Err(Stop::FixedWrite { address: e });
         }
-        self.stored(e, self.a(), self.moves_on())
+        self.stored(e, self.a(), post)
     }
 
     /// STQ: the cell becomes Q.
-    pub(crate) fn stq(&self, e: u16) -> Result<PostPair<D>, Stop<D>>
-        ensures { (y : ℕ) → IsPosts D.meaning self.now Stq e y result }
+    pub(crate) fn stq(&self, e: u16, post: &mut Post<D>) -> Result<(), Stop<D>>
+        requires moves_on { IsPostOf D.meaning self.now (moves_on self.now) post.old }
+        ensures { (y : ℕ) → IsPosts D.meaning self.now Stq e y (outcome_of result (single_pair post.new)) }
     {
         if e >= ERASABLE {
             return Err(Stop::FixedWrite { address: e });
         }
-        self.stored(e, self.q(), self.moves_on())
+        self.stored(e, self.q(), post)
     }
 
     /// CLZ: as CLA, and then the cell is cleared.
-    pub(crate) fn clz(&self, e: u16) -> Result<PostPair<D>, Stop<D>>
-        requires { e < 4096 }
-        ensures { (y : ℕ) → IsPosts D.meaning self.now Clz e y result }
+    pub(crate) fn clz(&self, e: u16, post: &mut Post<D>) -> Result<(), Stop<D>>
+        requires address { e < 4096 }
+        requires moves_on { IsPostOf D.meaning self.now (moves_on self.now) post.old }
+        ensures { (y : ℕ) → IsPosts D.meaning self.now Clz e y (outcome_of result (single_pair post.new)) }
     {
         if e >= ERASABLE {
             return Err(Stop::FixedWrite { address: e });
         }
-        self.cleared(e, self.loads(e))
+        self.loads(e, post);
+        self.cleared(e, post)
     }
 }

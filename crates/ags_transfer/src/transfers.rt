@@ -1,13 +1,14 @@
 //! The orders that say where the machine goes on, and those that set and count the index register.
 
-ghost use Rattle.std.specs.Prelude.{◌≡◌, ◌<◌, ℕ};
+ghost use Rattle.std.specs.Prelude.{◌≡◌, ℕ, Ok};
 ghost use Rattle.ags_domain.specs.Domain.{IsPart, is_negative, is_not_negative};
 ghost use Rattle.ags_isa.specs.declared.orders.Order.TheVariants.{Axt, Dly, Tix, Tmi, Tov, Tra, Tsq};
-ghost use Rattle.ags_posts.specs.Line.{Line, IsPostOf};
+ghost use Rattle.ags_posts.specs.Line.{Line, IsPostOf, moves_on};
 ghost use Rattle.ags_posts.specs.Posts.{IsPosts, IsPostOfPart, pair_of};
+ghost use Rattle.ags_transfer.specs.Outcome.{outcome_of};
+ghost use Rattle.ags_transfer.specs.Decision.{single_pair};
 
 use crate::cases::Case;
-use crate::deciding::single;
 use ags_domain::Domain;
 use ags_isa::{Order, encode};
 use ags_posts::{PostPair, Stop};
@@ -41,10 +42,12 @@ fn with_part<D: Domain>(part: Option<D>, post: Post<D>) -> Option<Post<D>>
 
 impl<'a, D: Domain> Case<'a, D> {
     /// TRA: goes to an address.
-    pub(crate) fn tra(&self, e: u16) -> Result<PostPair<D>, Stop<D>>
-        ensures { (y : ℕ) → IsPosts D.meaning self.now Tra e y result }
+    pub(crate) fn tra(&self, e: u16, post: &mut Post<D>) -> Result<(), Stop<D>>
+        requires moves_on { IsPostOf D.meaning self.now (moves_on self.now) post.old }
+        ensures { (y : ℕ) → IsPosts D.meaning self.now Tra e y (outcome_of result (single_pair post.new)) }
     {
-        Ok(single(self.goes_to(e)))
+        post.next = e;
+        Ok(())
     }
 
     /// The part of A whose words are negative.
@@ -61,74 +64,67 @@ impl<'a, D: Domain> Case<'a, D> {
         self.a().rest()
     }
 
-    /// TMI: goes there where A is negative.
-    pub(crate) fn tmi(&self, e: u16) -> Result<PostPair<D>, Stop<D>>
-        ensures { (y : ℕ) → IsPosts D.meaning self.now Tmi e y result }
+    /// TMI: goes there where A is negative. It alone may leave two posts, and stands apart for their room.
+    #[inline(never)]
+    pub(crate) fn tmi(&self, e: u16) -> PostPair<D>
+        ensures { (y : ℕ) → IsPosts D.meaning self.now Tmi e y (Ok result) }
     {
         let taken = with_part(self.negative_part(), self.goes_to(e));
         let rest = with_part(self.rest_part(), self.moves_on());
-        Ok(pair_of(taken, rest))
+        pair_of(taken, rest)
     }
 
     /// TOV: where the indicator is set, clears it and goes there.
-    pub(crate) fn tov(&self, e: u16) -> Result<PostPair<D>, Stop<D>>
-        ensures { (y : ℕ) → IsPosts D.meaning self.now Tov e y result }
+    pub(crate) fn tov(&self, e: u16, post: &mut Post<D>) -> Result<(), Stop<D>>
+        requires moves_on { IsPostOf D.meaning self.now (moves_on self.now) post.old }
+        ensures { (y : ℕ) → IsPosts D.meaning self.now Tov e y (outcome_of result (single_pair post.new)) }
     {
-        let stays = self.moves_on();
         if self.indicator {
-            Ok(single(Post {
-                next: e,
-                v0: true,
-                v1: false,
-                ..stays
-            }))
-        } else {
-            Ok(single(stays))
+            post.next = e;
+            post.v0 = true;
+            post.v1 = false;
         }
+        Ok(())
     }
 
     /// TIX: where the index isn't 0, lowers it by one and goes there.
-    pub(crate) fn tix(&self, y: u16) -> Result<PostPair<D>, Stop<D>>
-        ensures { (e : ℕ) → IsPosts D.meaning self.now Tix e y result }
+    pub(crate) fn tix(&self, y: u16, post: &mut Post<D>) -> Result<(), Stop<D>>
+        requires moves_on { IsPostOf D.meaning self.now (moves_on self.now) post.old }
+        ensures { (e : ℕ) → IsPosts D.meaning self.now Tix e y (outcome_of result (single_pair post.new)) }
     {
-        let stays = self.moves_on();
-        if self.index == 0 {
-            Ok(single(stays))
-        } else {
-            Ok(single(Post {
-                next: y,
-                x: self.index - 1,
-                ..stays
-            }))
+        if self.index != 0 {
+            post.next = y;
+            post.x = self.index - 1;
         }
+        Ok(())
     }
 
     /// AXT: the index becomes an address modulo 8.
-    pub(crate) fn axt(&self, y: u16) -> Result<PostPair<D>, Stop<D>>
-        ensures { (e : ℕ) → IsPosts D.meaning self.now Axt e y result }
+    pub(crate) fn axt(&self, y: u16, post: &mut Post<D>) -> Result<(), Stop<D>>
+        requires moves_on { IsPostOf D.meaning self.now (moves_on self.now) post.old }
+        ensures { (e : ℕ) → IsPosts D.meaning self.now Axt e y (outcome_of result (single_pair post.new)) }
     {
-        Ok(single(Post {
-            x: (y % 8) as u8,
-            ..self.moves_on()
-        }))
+        post.x = (y % 8) as u8;
+        Ok(())
     }
 
     /// TSQ: Q becomes the order that goes back to the next location, and it goes to an address.
-    pub(crate) fn tsq(&self, e: u16) -> Result<PostPair<D>, Stop<D>>
-        ensures { (y : ℕ) → IsPosts D.meaning self.now Tsq e y result }
+    pub(crate) fn tsq(&self, e: u16, post: &mut Post<D>) -> Result<(), Stop<D>>
+        requires moves_on { IsPostOf D.meaning self.now (moves_on self.now) post.old }
+        ensures { (y : ℕ) → IsPosts D.meaning self.now Tsq e y (outcome_of result (single_pair post.new)) }
     {
         let back = encode(&self.machine.codes, Order::Tra, false, self.next());
-        Ok(single(Post {
-            next: e,
-            q: D::of_word(back),
-            ..self.moves_on()
-        }))
+        post.next = e;
+        post.q = D::of_word(back);
+        Ok(())
     }
 
     /// DLY: the location becomes an address, and the machine waits there.
-    pub(crate) fn dly(&self, y: u16) -> Result<PostPair<D>, Stop<D>>
-        ensures { (e : ℕ) → IsPosts D.meaning self.now Dly e y result }
+    pub(crate) fn dly(&self, y: u16, post: &mut Post<D>) -> Result<(), Stop<D>>
+        requires moves_on { IsPostOf D.meaning self.now (moves_on self.now) post.old }
+        ensures { (e : ℕ) → IsPosts D.meaning self.now Dly e y (outcome_of result (single_pair post.new)) }
     {
-        Ok(single(self.goes_to(y)))
+        post.next = y;
+        Ok(())
     }
 }

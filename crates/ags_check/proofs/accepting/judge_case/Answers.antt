@@ -1,5 +1,5 @@
 use Rattle.std.proofs.Common.{refl, subst}
-use Rattle.std.specs.Prelude.{Ok, IfSome}
+use Rattle.std.specs.Prelude.{Ok, Err, IfSome}
 use Rattle.ags_domain.specs.Value.{value_meaning}
 use Rattle.ags_domain.specs.declared.values.Value.{Value}
 use Rattle.ags_row.specs.Limit.{Limiting}
@@ -13,15 +13,15 @@ use Rattle.ags_check.proofs.accepting.judge_case.Goals as goal
 
 pub returns-in-Some-clause-judged : goal.returns-in-Some-clause-judged
 returns-in-Some-clause-judged g c = (
-  Ok c.in-Ok.pair,
-  subst (λ (t : Judging). IsPostsOfCase value_meaning (case_of t.machine t.image t.cert.limits c.args.row.now c.args.word c.args.x c.args.v) (Ok c.in-Ok.pair))
+  Ok c.put_posts.new.pair,
+  subst (λ (t : Judging). IsPostsOfCase value_meaning (case_of t.machine t.image t.cert.limits c.args.row.now c.args.word c.args.x c.args.v) (Ok c.put_posts.new.pair))
       c.accepting.view_is
       (subst (λ (l : Limiting Value). IsPostsOfCase value_meaning
-      (case_of c.accepting.inside.machine.now c.accepting.inside.image.now l c.args.row.now c.args.word c.args.x c.args.v) (Ok c.in-Ok.pair))
+      (case_of c.accepting.inside.machine.now c.accepting.inside.image.now l c.args.row.now c.args.word c.args.x c.args.v) (Ok c.put_posts.new.pair))
       c.limits.ensures.limits c.in-Ok.ensures.posts),
   (
     c.in-Some.next,
-    subst (λ (t : Judging). IsFirstUncovered value_meaning (certificate_of t.cert) c.args.row.now c.in-Ok.pair c.in-Some.next) c.accepting.view_is
+    subst (λ (t : Judging). IsFirstUncovered value_meaning (certificate_of t.cert) c.args.row.now c.put_posts.new.pair c.in-Some.next) c.accepting.view_is
         c.in-Some.ensures.uncovered,
     refl,
   ),
@@ -30,16 +30,27 @@ returns-in-Some-clause-judged g c = (
 pub returns-in-None-clause-judged : goal.returns-in-None-clause-judged
 returns-in-None-clause-judged g c = (
   (
-    c.in-Ok.pair,
-    subst (λ (t : Judging). IsPostsOfCase value_meaning (case_of t.machine t.image t.cert.limits c.args.row.now c.args.word c.args.x c.args.v) (Ok c.in-Ok.pair))
+    c.put_posts.new.pair,
+    subst (λ (t : Judging). IsPostsOfCase value_meaning (case_of t.machine t.image t.cert.limits c.args.row.now c.args.word c.args.x c.args.v) (Ok c.put_posts.new.pair))
         c.accepting.view_is
         (subst (λ (l : Limiting Value). IsPostsOfCase value_meaning
-        (case_of c.accepting.inside.machine.now c.accepting.inside.image.now l c.args.row.now c.args.word c.args.x c.args.v) (Ok c.in-Ok.pair))
+        (case_of c.accepting.inside.machine.now c.accepting.inside.image.now l c.args.row.now c.args.word c.args.x c.args.v) (Ok c.put_posts.new.pair))
         c.limits.ensures.limits c.in-Ok.ensures.posts),
-    subst (λ (t : Judging). IfSome c.in-Ok.pair.first (IsCovered value_meaning (certificate_of t.cert) c.args.row.now)) c.accepting.view_is
+    subst (λ (t : Judging). IfSome c.put_posts.new.pair.first (IsCovered value_meaning (certificate_of t.cert) c.args.row.now)) c.accepting.view_is
         (c.in-None.ensures.first refl),
-    subst (λ (t : Judging). IfSome c.in-Ok.pair.second (IsCovered value_meaning (certificate_of t.cert) c.args.row.now)) c.accepting.view_is
+    subst (λ (t : Judging). IfSome c.put_posts.new.pair.second (IsCovered value_meaning (certificate_of t.cert) c.args.row.now)) c.accepting.view_is
         (c.in-None.ensures.second refl),
   ),
+  refl,
+)
+
+pub returns-in-Err-clause-judged : goal.returns-in-Err-clause-judged
+returns-in-Err-clause-judged g c = (
+  Err c.in-Err.stop,
+  subst (λ (t : Judging). IsPostsOfCase value_meaning (case_of t.machine t.image t.cert.limits c.args.row.now c.args.word c.args.x c.args.v) (Err c.in-Err.stop))
+      c.accepting.view_is
+      (subst (λ (l : Limiting Value). IsPostsOfCase value_meaning
+      (case_of c.accepting.inside.machine.now c.accepting.inside.image.now l c.args.row.now c.args.word c.args.x c.args.v) (Err c.in-Err.stop))
+      c.limits.ensures.limits c.in-Err.ensures.posts),
   refl,
 )

@@ -3,11 +3,7 @@ use Rattle.ags_posts.specs.Case.{case_of}
 use Rattle.ags_posts.specs.Posts.{Outcome, IsPostsOfCase}
 use Rattle.ags_transfer.proofs.judging.posts.Goals as goal
 
-pub returns-clause-one_step : goal.returns-clause-one_step
-returns-clause-one_step g c = let case = case_of c.args.machine.now c.args.image.now c.args.limits.now c.args.base.now c.args.word c.args.x c.args.v in
+pub returns-in-Ok-clause-one_step : goal.returns-in-Ok-clause-one_step
+returns-in-Ok-clause-one_step g c = let case = case_of c.args.machine.now c.args.image.now c.args.limits.now c.args.base.now c.args.word c.args.x c.args.v in
     λ s report after pair is state in_case step. c.one_step_follows_the_posts.ensures case s report after pair c.machine_is_made_of_tables.ensures
-    state in_case (subst (λ (outcome : Outcome _). IsPostsOfCase g.D.Domain.meaning case outcome) is c.posts_of_case.ensures) step
-
-pub returns-clause-below : goal.returns-clause-below
-returns-clause-below g c = let case = case_of c.args.machine.now c.args.image.now c.args.limits.now c.args.base.now c.args.word c.args.x c.args.v in
-    c.posts_go_to_locations.ensures case c.posts_of_case.result c.requires c.posts_of_case.ensures
+    state in_case (subst (λ (outcome : Outcome _). IsPostsOfCase g.D.Domain.meaning case outcome) is c.in-Ok.ensures.posts) step

@@ -6,4 +6,4 @@ use Rattle.ags_transfer.proofs.cases.Case.sto.Goals as goal
 
 pub returns : goal.returns
 returns g c = λ y. store_goes_on c.args.e _ _ (omega (arith, c.if-e-ge-ERASABLE.false))
-    (c.stored.ensures (moves_on c.args.self.now) (These c.args.self.now.row.a) c.a.ensures c.moves_on.ensures)
+    (c.stored.ensures (moves_on c.args.self.now) (These c.args.self.now.row.a) c.a.ensures c.requires.moves_on)

@@ -6,4 +6,4 @@ use Rattle.ags_transfer.proofs.cases.Case.stq.Goals as goal
 
 pub returns : goal.returns
 returns g c = λ y. store_goes_on c.args.e _ _ (omega (arith, c.if-e-ge-ERASABLE.false))
-    (c.stored.ensures (moves_on c.args.self.now) (These c.args.self.now.row.q) c.q.ensures c.moves_on.ensures)
+    (c.stored.ensures (moves_on c.args.self.now) (These c.args.self.now.row.q) c.q.ensures c.requires.moves_on)

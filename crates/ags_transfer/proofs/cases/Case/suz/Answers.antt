@@ -10,6 +10,6 @@ returns g c = λ y. store_goes_on c.args.e _ _ (omega (arith, c.if-e-ge-ERASABLE
   (
     c.sub.result,
     rw (← c.a.ensures) c.sub.ensures,
-    c.computed_and_cleared.ensures (moves_on c.args.self.now) c.moves_on.ensures,
+    c.computed_and_cleared.ensures (moves_on c.args.self.now) c.requires.moves_on,
   ),
 )

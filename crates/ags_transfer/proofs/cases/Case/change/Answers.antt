@@ -1,4 +1,4 @@
-use Rattle.ags_transfer.proofs.cases.Case.order.Goals as goal
+use Rattle.ags_transfer.proofs.cases.Case.change.Goals as goal
 
 pub returns-in-Abs : goal.returns-in-Abs
 returns-in-Abs g c = rw c.in-Abs.is (c.abs.ensures c.args.e c.args.y)
@@ -68,9 +68,6 @@ returns-in-Suz g c = rw c.in-Suz.is (c.suz.ensures c.args.y)
 
 pub returns-in-Tix : goal.returns-in-Tix
 returns-in-Tix g c = rw c.in-Tix.is (c.tix.ensures c.args.e)
-
-pub returns-in-Tmi : goal.returns-in-Tmi
-returns-in-Tmi g c = rw c.in-Tmi.is (c.tmi.ensures c.args.y)
 
 pub returns-in-Tov : goal.returns-in-Tov
 returns-in-Tov g c = rw c.in-Tov.is (c.tov.ensures c.args.y)
