@@ -1,21 +1,17 @@
-use Rattle.std.proofs.Common.{rules, arith}
-use Rattle.ags_certtext.specs.Reading.{Skipped}
-use Rattle.ags_certtext.proofs.ReadingLaws.{one_reading}
+use Rattle.std.proofs.Common.{ℕ, List}
+use Rattle.ags_frame.specs.declared.lines.Line.{Line}
+use Rattle.ags_frame.specs.declared.lines.Line.TheVariants as further
+use Rattle.ags_frame.specs.Reading.{line_reading}
+use Rattle.ags_certtext.specs.Reading.{IsReading, IfStated}
+use Rattle.ags_certtext.specs.Statement.{IsStatement}
+use Rattle.ags_certtext.specs.declared.statements.Statement.{Statement}
 use Rattle.ags_certtext.proofs.StatementLemmas.{stated_is}
 use Rattle.ags_certtext.proofs.lines.read_line.Goals as goal
 
-pub returns-in-Some-clause-stated : goal.returns-in-Some-clause-stated
-returns-in-Some-clause-stated c = stated_is c.args.line.now c.in-Some.statement c.in-Some.ensures.found
+lawful : (line : List ℕ) (its : Line Statement) → IsReading line (line_reading its) → IfStated its IsStatement
+lawful line (further.Stated statement) is = stated_is line statement is.states
+lawful line further.Skipped is = tt
+lawful line further.Malformed is = tt
 
-pub returns-then-is_idle-clause-found : goal.returns-then-is_idle-clause-found
-returns-then-is_idle-clause-found c = search rules
-
-pub returns-then-is_idle-clause-only : goal.returns-then-is_idle-clause-only
-returns-then-is_idle-clause-only c = λ reading is.
-    one_reading c.args.line.now reading Skipped is (record { most = omega arith; empty = c.is_idle.ensures.yes c.if-is_idle.true })
-
-pub returns-in-Some-clause-found : goal.returns-in-Some-clause-found
-returns-in-Some-clause-found c = search rules
-
-pub returns-in-Some-clause-only : goal.returns-in-Some-clause-only
-returns-in-Some-clause-only c = search rules
+pub returns-clause-stated : goal.returns-clause-stated
+returns-clause-stated c = lawful c.args.line.now c.read_line.result c.read_line.ensures.found
