@@ -2,7 +2,7 @@
 
 ghost use Rattle.std.specs.Prelude.{◌≡◌, ◌<◌, ◌&&◌, ◌==◌, length, get_or, false, is_some, Some};
 ghost use Rattle.ags_certtext.specs.Fault.{fault_if, has_register, is_empty, is_fixed, is_full_with, is_outside, is_unmet, lacks_word, lacks_zero, leaves_limit, may_stand};
-ghost use Rattle.ags_certread.specs.Gathering.{has_cell, stated};
+ghost use Rattle.ags_certread.specs.Gathering.{stated};
 
 use ags_certtext::{CertKind, Entry, Table};
 use ags_domain::{Domain, Value};
@@ -97,13 +97,6 @@ fn is_unmet(ports: &[Port], entry: &Entry) -> bool
     ensures { result ≡ is_unmet ports.now entry.now }
 {
     ports.iter().any(|port| is_unmet_by(port, entry))
-}
-
-/// Whether one of some cells stands at an address.
-pub(crate) fn has_cell(cells: &[At<Value>], address: u16) -> bool
-    ensures { result ≡ has_cell cells.now address }
-{
-    cells.iter().any(|cell| cell.address == address)
 }
 
 /// Whether a location is among the named places.
