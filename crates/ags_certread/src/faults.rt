@@ -10,8 +10,7 @@ ghost use Rattle.ags_certread.specs.Before.{Gathered};
 ghost use Rattle.ags_certread.specs.Gathering.{IsCounting, IsSized, gathering_of, is_stated_in, row_count};
 
 use crate::checks::{
-    count_at, fault_if, is_empty, is_full, is_named, is_stated, lacks_word, leaves_limit,
-    may_stand, stated,
+    count_at, fault_if, is_empty, is_full, is_named, is_stated, lacks_word, leaves_limit, may_stand,
 };
 use crate::gatherer::Gatherer;
 use crate::open_rows::has_cell;
@@ -54,14 +53,13 @@ impl Gatherer {
     {
         let misplaced = !may_stand(ports, table, entry.address);
         let twice = self.is_stated(table, entry.address);
-        let limit = stated(self.cells.as_slice(), entry.address);
-        let outside = leaves_limit(table, entry.value, limit);
+        let outside = leaves_limit(table, entry, self.cells.as_slice());
         let unmet = lacks_word(ports, table, entry);
         let full = is_full(table, self.row_cells.as_slice());
         let fault = fault_if(full, CertKind::TooManyAt, None);
         let fault = fault_if(unmet, CertKind::NoZero, fault);
         let fault = fault_if(outside, CertKind::OutsideGlobal, fault);
-        let fault = fault_if(is_empty(entry.value), CertKind::EmptyRange, fault);
+        let fault = fault_if(is_empty(&entry.value), CertKind::EmptyRange, fault);
         let fault = fault_if(twice, CertKind::Twice, fault);
         fault_if(misplaced, CertKind::BadLine, fault)
     }
@@ -83,7 +81,7 @@ impl Gatherer {
         ensures { (before : List Statement) → Gathered before (gathering_of self.now)
             → result ≡ statement_fault ports.now before (Row row.now) }
     {
-        let empty = is_empty(row.a) || is_empty(row.q);
+        let empty = is_empty(&row.a) || is_empty(&row.q);
         let count = count_at(self.counts.as_slice(), row.location);
         let full = self.row_count() >= MOST_ROWS || count >= MOST_ROWS_AT_ONE;
         fault_if(

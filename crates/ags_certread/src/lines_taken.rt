@@ -9,8 +9,8 @@ ghost use Rattle.ags_certread.specs.Gathering.{gathering_of};
 ghost use Rattle.ags_certread.specs.LineTaken.{TakesLine, TakesStatement, TellsFault, TellsStatementFault, opening_fault};
 
 use crate::gatherer::Gatherer;
-use ags_certtext::{CertError, CertKind, Statement, read_first_line, read_line};
-use ags_frame::{Line, Opening};
+use ags_certtext::{CertError, CertKind, CertLines, Statement, read_first_line};
+use ags_frame::{Line, Opening, read_line};
 use ags_ports::Ports;
 use std::alloc::Global;
 
@@ -67,7 +67,7 @@ impl Gatherer {
         ensures fine { IfOk result (λ _. TakesLine ports.now (gathering_of self.old) bytes.now (gathering_of self.new)) }
         ensures faulty { IfErr result (TellsFault ports.now line (gathering_of self.old) bytes.now) }
     {
-        match read_line(bytes) {
+        match read_line::<CertLines>(bytes) {
             Line::Stated(statement) => self.take_at(alloc, ports, line, &statement),
             Line::Skipped => Ok(()),
             Line::Malformed => Err(bad_line(line)),

@@ -2,8 +2,6 @@
 -- lines state.
 use Rattle.std.specs.Prelude.{ℕ, List, codes}
 use Rattle.ags_text.specs.Line.{LineAt}
-use Rattle.ags_frame.specs.declared.lines.Line.{Line}
-use Rattle.ags_frame.specs.declared.lines.Line.TheVariants as further
 use Rattle.ags_frame.specs.Reading.{Reading as ReadingOf, IsFirstReading as IsFirstReadingOf, IsReading as IsReadingOf, AreLineReadings as AreLineReadingsOf, AreReadings as AreReadingsOf}
 use Rattle.ags_certtext.specs.declared.statements.Statement.{Statement}
 use Rattle.ags_certtext.specs.Spelling.{States}
@@ -35,9 +33,3 @@ AreLineReadings lines readings = AreLineReadingsOf cert_name latest_version Stat
 -- the readings of a text: those of its lines, and its end behind them
 abbrev pub AreReadings : List LineAt → List Reading → Type 0
 AreReadings lines readings = AreReadingsOf cert_name latest_version States lines readings
-
--- where a further line makes a statement, it is one of which this holds
-abbrev pub IfStated : Line Statement → (Statement → Type 0) → Type 0
-IfStated (further.Stated statement) Is = Is statement
-IfStated further.Skipped Is = Unit {0}
-IfStated further.Malformed Is = Unit {0}

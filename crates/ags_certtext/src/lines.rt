@@ -1,17 +1,15 @@
 //! What the lines of a certificate are.
 
 ghost use Rattle.std.specs.Prelude.{◌≡◌, ℕ, List, Some, IfSome};
-ghost use Rattle.ags_frame.specs.Reading.{line_reading, opening_reading};
+ghost use Rattle.ags_frame.specs.Reading.{opening_reading};
 ghost use Rattle.ags_certtext.specs.declared.statements.Statement.{Statement};
-ghost use Rattle.ags_certtext.specs.Spelling.{States};
 ghost use Rattle.ags_certtext.specs.Operand.{AreOperands};
-ghost use Rattle.ags_certtext.specs.Reading.{Reading, IsFirstReading, IsReading, IfStated};
-ghost use Rattle.ags_certtext.specs.Statement.{IsStatement};
+ghost use Rattle.ags_certtext.specs.Reading.{Reading, IsFirstReading};
 
 use crate::keywords::{Keyword, keyword_named};
 use crate::operands::{read_entry, read_place, read_row};
 use crate::statements::Statement;
-use ags_frame::{Line, Opening, Statements, read_opening};
+use ags_frame::{Opening, Statements, read_opening};
 use ags_text::{are_blanks, split_field};
 
 /// The latest version of certificates.
@@ -31,18 +29,6 @@ fn read_operands(keyword: Keyword, text: &[u8]) -> Option<Statement>
     }
 }
 
-/// The statement that a line makes, however long it is.
-fn read_statement(line: &[u8]) -> Option<Statement>
-    ensures found { IfSome result (λ statement. States line.now statement) }
-    ensures only { (statement : Statement) → States line.now statement → result ≡ Some statement }
-{
-    let (name, behind) = split_field(line);
-    match keyword_named(name) {
-        Some(keyword) => read_operands(keyword, behind),
-        None => None,
-    }
-}
-
 /// The further lines of a certificate: what they state.
 pub struct CertLines;
 
@@ -54,22 +40,14 @@ impl Statements for CertLines {
     ghost states = { States };
 
     fn read_statement(line: &[u8]) -> Option<Statement> {
-        read_statement(line)
+        let (name, behind) = split_field(line);
+        match keyword_named(name) {
+            Some(keyword) => read_operands(keyword, behind),
+            None => None,
+        }
     }
 
     fn lines_state_one_thing_at_most() {}
-}
-
-/// What a further line of a certificate is, behind its first (docs/CERTIFICATE.md, Lines).
-pub fn read_line(line: &[u8]) -> Line<Statement>
-    // The line is read as what it is, and is nothing else.
-    ensures found { IsReading line.now (line_reading result) }
-    ensures only { (reading : Reading) → IsReading line.now reading → reading ≡ line_reading result }
-
-    // Its addresses and locations are below 4096, and a row has an index and an indicator.
-    ensures stated { IfStated result IsStatement }
-{
-    ags_frame::read_line::<CertLines>(line)
 }
 
 /// What a certificate's first line is (docs/CERTIFICATE.md, Lines).

@@ -2,10 +2,10 @@
 
 use ags_certtext::{
     CertLines, Entry, RowLine, Statement, Table, first_line_has_one_reading, line_has_one_reading,
-    read_first_line, read_line, spelled_statements_are_lawful,
+    read_first_line, spelled_statements_are_lawful,
 };
 use ags_domain::{Domain, Range, Value, WordSet};
-use ags_frame::{Line, Opening};
+use ags_frame::{Line, Opening, read_line};
 use ags_word::Word;
 use std::process::Abort;
 
@@ -74,7 +74,7 @@ fn row(location: u16, a: Option<Value>, q: Option<Value>, x: [bool; 8], v: [bool
 
 /// Expects what a line is.
 fn expect_line(rt: &impl Abort, line: &[u8], wanted: Line<Statement>) {
-    assert!(rt; read_line(line) == wanted);
+    assert!(rt; read_line::<CertLines>(line) == wanted);
 }
 
 /// Expects the statement of a line.
