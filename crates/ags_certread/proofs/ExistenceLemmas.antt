@@ -23,7 +23,8 @@ use Rattle.ags_certtext.specs.declared.statements.Statement.{Statement}
 use Rattle.ags_certtext.specs.declared.statements.Statement.TheVariants.{Entry as EntryOf}
 use Rattle.ags_certtext.specs.declared.statements.Table.TheVariants.{At}
 use Rattle.ags_certtext.specs.declared.kinds.Kind.TheVariants as kind
-use Rattle.ags_certtext.specs.Reading.{Reading, Opening, OtherOpening, Stated, Skipped, Malformed, Ended, IsFirstReading, IsReading, statement_of}
+use Rattle.ags_frame.specs.Reading.{Opening, OtherOpening, Stated, Skipped, Malformed, Ended, statement_of}
+use Rattle.ags_certtext.specs.Reading.{Reading, IsFirstReading, IsReading}
 use Rattle.ags_certtext.specs.Fault.{reading_fault}
 use Rattle.ags_certtext.specs.Kind.{is_last}
 use Rattle.ags_certtext.specs.Statement.{IsStatement}
@@ -163,7 +164,7 @@ module _ (ports : Registers) (text : List ℕ) where
       (h, taken (filter_map statement_of so.before) g so.stands ports statement h (lawful line.bytes statement is) none takes)
   stands_on line left g number so Skipped is none = (g, so.stands)
   stands_on line left g number so Malformed is none = absurd cc
-  stands_on line left g number so Opening is none = absurd is
+  stands_on line left g number so (Opening version) is none = absurd is
   stands_on line left g number so OtherOpening is none = absurd is
   stands_on line left g number so Ended is none = absurd is
 

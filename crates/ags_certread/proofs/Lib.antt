@@ -1,6 +1,7 @@
 pub mod CheckLemmas
 pub mod TableLemmas
 pub mod CellLemmas
+pub mod BelowLemmas
 pub mod RowLemmas
 pub mod FaultLemmas
 pub mod GatherLemmas

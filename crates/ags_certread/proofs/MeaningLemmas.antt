@@ -6,7 +6,8 @@ use Rattle.ags_ports.specs.Port.{Registers}
 use Rattle.ags_certtype.specs.Cert.{Stated as Cert_stated}
 use Rattle.ags_certtext.specs.declared.cert_error.CertKind.{CertKind}
 use Rattle.ags_certtext.specs.Fault.{reading_fault}
-use Rattle.ags_certtext.specs.Reading.{Reading, Ended, IsReading, AreLineReadings}
+use Rattle.ags_frame.specs.Reading.{Ended}
+use Rattle.ags_certtext.specs.Reading.{Reading, IsReading, AreLineReadings}
 use Rattle.ags_certtext.specs.Text.{IsCertOf, IsFaultyCert}
 use Rattle.ags_certread.specs.LineTaken.{behind_first}
 use Rattle.ags_certread.specs.OneMeaning.{HaveNoTwoReadings, FirstHasNoTwoReadings, HasNoTwoReadings}

@@ -1,5 +1,5 @@
 -- The lines of a certificate, one after the other.
-use Rattle.std.proofs.Common.{◌≡◌, ℕ, ◌+◌, true, false, refl, sym, ap, ◌∙◌, subst, List, [], ◌∷◌, ◌++◌, length, reverse, Some, None, append_assoc, arith}
+use Rattle.std.proofs.Common.{◌≡◌, ℕ, ◌+◌, true, false, refl, sym, ap, ◌∙◌, subst, List, [], ◌∷◌, ◌++◌, length, reverse, Option, Some, None, append_assoc, arith}
 use Rattle.std.specs.List.{filter_map}
 use Rattle.std.proofs.lemmas.List.{append-nil}
 use Rattle.std.proofs.lemmas.List.Elements.{filter_map-append}
@@ -13,10 +13,13 @@ use Rattle.ags_certtext.specs.declared.cert_error.CertKind.TheVariants.{BadLine}
 use Rattle.ags_certtext.specs.declared.cert_error.CertError.{CertError}
 use Rattle.ags_certtext.specs.declared.cert_error.CertError.TheVariants.{At as AtLine, NoMemory}
 use Rattle.ags_certtext.specs.declared.statements.Statement.{Statement}
+use Rattle.ags_certtext.specs.declared.kinds.Kind.{Kind}
 use Rattle.ags_certtext.specs.declared.kinds.Kind.TheVariants as kind
 use Rattle.ags_certtext.specs.Fault.{reading_fault}
-use Rattle.ags_certtext.specs.Kind.{is_last}
-use Rattle.ags_certtext.specs.Reading.{Reading, Opening, OtherOpening, Stated, Skipped, Malformed, Ended, IsFirstReading, IsReading, AreLineReadings, AreReadings, statement_of}
+use Rattle.ags_certtext.specs.Kind.{is_kind, is_last, kind_of, last_kind}
+use Rattle.ags_frame.specs.Fault.{has_ended}
+use Rattle.ags_frame.specs.Reading.{Opening, OtherOpening, Stated, Skipped, Malformed, Ended, statement_of}
+use Rattle.ags_certtext.specs.Reading.{Reading, IsFirstReading, IsReading, AreLineReadings, AreReadings}
 use Rattle.ags_certtext.specs.Text.{IsCertOf, IsFaultyCert, IsRefused, IsWhatIsStated}
 use Rattle.ags_certread.specs.Gathering.{Gathering, IsCertOfGathering, IsClosable, IsCounting, IsSized, nothing_stated}
 use Rattle.ags_certread.specs.LineTaken.{HaveReadings, TakesLine, TakesReading, TellsFault, behind_first, further_fault, opening_fault}
@@ -27,6 +30,21 @@ use Rattle.ags_certread.proofs.SoundLemmas.{IsSound-none}
 use Rattle.ags_certread.proofs.FinishLemmas.{what_is_stated}
 use Rattle.ags_certread.specs.Before.{Stands}
 use Rattle.ags_certread.specs.Sound.{IsSound}
+
+-- ---- the end of a text
+
+-- statements have ended where the last kind is the end
+ended_by_kind : (before : List Statement) → has_ended (λ statement. is_kind kind.End (kind_of statement)) before ≡ is_last kind.End (last_kind before)
+ended_by_kind [] = refl
+ended_by_kind (statement ∷ before) = refl
+
+end_is_missing : (ports : Registers) (before : List Reading) {last : Option Kind} → last ≡ last_kind (filter_map statement_of before) → is_last kind.End last ≡ false
+    → reading_fault ports before Ended ≡ Some BadLine
+end_is_missing ports before same missing = rw (ended_by_kind (filter_map statement_of before), sym same, missing) refl
+
+end_is_there : (ports : Registers) (before : List Reading) {last : Option Kind} → last ≡ last_kind (filter_map statement_of before) → is_last kind.End last ≡ true
+    → reading_fault ports before Ended ≡ None
+end_is_there ports before same ended = rw (ended_by_kind (filter_map statement_of before), sym same, ended) refl
 
 -- ---- readings of lines
 
@@ -65,13 +83,13 @@ pub record SoFar (ports : Registers) (text : List ℕ) (left : List LineAt) (g :
 -- the first line opens the certificate
 pub SoFar-first : (ports : Registers) (text : List ℕ) (first : LineAt) (left : List LineAt) (reading : Reading) (g : Gathering) → lines_of text ≡ first ∷ left
     → IsFirstReading first.bytes reading → opening_fault reading ≡ None → g ≡ nothing_stated → SoFar ports text left g 1
-SoFar-first ports text first left Opening g whole is none same = record {
+SoFar-first ports text first left (Opening version) g whole is none same = record {
   first = first;
   more = [];
   whole = whole;
-  before = Opening ∷ [];
+  before = Opening version ∷ [];
   readings = (is, tt);
-  faultless = λ rest. first_fault-faultless (reading_fault ports) [] Opening rest refl;
+  faultless = λ rest. first_fault-faultless (reading_fault ports) [] (Opening version) rest refl;
   stands = subst (λ (h : Gathering). Stands [] h) (sym same) (record { gathered = Gathered-none; sound = IsSound-none });
   so_many = refl;
 }
@@ -102,7 +120,7 @@ module _ (ports : Registers) (text : List ℕ) (line : LineAt) (left : List Line
   by_reading (Stated statement) h is takes =
       let taken = takes (filter_map statement_of so.before) so.stands in one_more (Stated statement) h is taken.0 taken.1
   by_reading Skipped h is takes = one_more Skipped h is refl (subst (λ (k : Gathering). Stands (filter_map statement_of so.before) k) (sym takes) so.stands)
-  by_reading Opening h is takes = absurd takes
+  by_reading (Opening version) h is takes = absurd takes
   by_reading OtherOpening h is takes = absurd takes
   by_reading Malformed h is takes = absurd takes
   by_reading Ended h is takes = absurd takes
@@ -118,7 +136,7 @@ module _ (ports : Registers) (text : List ℕ) (line : LineAt) (left : List Line
   same_further (Stated statement) kind is = is
   same_further Malformed kind is = is
   same_further Skipped kind is = absurd cc
-  same_further Opening kind is = absurd cc
+  same_further (Opening version) kind is = absurd cc
   same_further OtherOpening kind is = absurd cc
   same_further Ended kind is = absurd cc
 
@@ -172,7 +190,7 @@ opening_refused ports text first left reading kind whole is fault have =
     }
   where
     same_opening : (r : Reading) → IsFirstReading first.bytes r → opening_fault r ≡ Some kind → reading_fault ports [] r ≡ Some kind
-    same_opening Opening is fault = absurd cc
+    same_opening (Opening version) is fault = absurd cc
     same_opening OtherOpening is fault = fault
     same_opening Malformed is fault = fault
     same_opening (Stated statement) is fault = absurd is
@@ -202,7 +220,7 @@ module _ (ports : Registers) (text : List ℕ) (g : Gathering) (number : ℕ) (s
     readings = reverse so.before ++ Ended ∷ [];
     are_readings = all_readings;
     first = so.faultless (Ended ∷ [])
-        ∙ first_fault-faulty (reading_fault ports) so.before Ended [] BadLine (rw (sym so.stands.gathered.tables.last, missing) refl)
+        ∙ first_fault-faulty (reading_fault ports) so.before Ended [] BadLine (end_is_missing ports so.before (so.stands.gathered.tables.last) missing)
         ∙ ap (λ (n : ℕ). Some (n + 1, BadLine)) (sym so.so_many);
   }
 
@@ -215,7 +233,7 @@ module _ (ports : Registers) (text : List ℕ) (g : Gathering) (number : ℕ) (s
     readings = reverse so.before ++ Ended ∷ [];
     are_readings = all_readings;
     faultless = so.faultless (Ended ∷ [])
-        ∙ first_fault-faultless (reading_fault ports) so.before Ended [] (rw (sym so.stands.gathered.tables.last, ended) refl)
+        ∙ first_fault-faultless (reading_fault ports) so.before Ended [] (end_is_there ports so.before (so.stands.gathered.tables.last) ended)
         ∙ first_fault-nil (reading_fault ports) (Ended ∷ so.before);
     is_stated = subst (λ (l : List Statement). IsWhatIsStated l cert) (sym statements_are)
         (what_is_stated (filter_map statement_of so.before) g cert so.stands.gathered so.stands.sound (last_end g.last ended) is);

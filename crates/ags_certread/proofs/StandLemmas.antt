@@ -14,7 +14,8 @@ use Rattle.ags_certtext.specs.declared.cert_error.CertError.TheVariants.{At as A
 use Rattle.ags_certtext.specs.declared.kinds.Kind.TheVariants as kind
 use Rattle.ags_certtext.specs.declared.statements.Statement.{Statement}
 use Rattle.ags_certtext.specs.Kind.{is_last}
-use Rattle.ags_certtext.specs.Reading.{Reading, Opening, OtherOpening, Stated, Skipped, Malformed, Ended, IsFirstReading}
+use Rattle.ags_frame.specs.Reading.{Opening, OtherOpening, Stated, Skipped, Malformed, Ended}
+use Rattle.ags_certtext.specs.Reading.{Reading, IsFirstReading}
 use Rattle.ags_certtext.specs.Text.{IsCertOf, IsFaultyCert, IsRefused}
 use Rattle.ags_certread.specs.Gathering.{Gathering, IsCertOfGathering, nothing_stated}
 use Rattle.ags_certread.specs.Length.{certificate_limit}
@@ -40,7 +41,7 @@ stands_line : (ports : Registers) (before : List Statement) (g h : Gathering) �
     → (after : List Statement) × Stands after h
 stands_line ports before g h stands (Stated statement) takes = (statement ∷ before, (takes before stands).1)
 stands_line ports before g h stands Skipped same = (before, subst (λ (k : Gathering). Stands before k) (sym same) stands)
-stands_line ports before g h stands Opening takes = absurd takes
+stands_line ports before g h stands (Opening version) takes = absurd takes
 stands_line ports before g h stands OtherOpening takes = absurd takes
 stands_line ports before g h stands Malformed takes = absurd takes
 stands_line ports before g h stands Ended takes = absurd takes
@@ -128,7 +129,7 @@ long_fault : (ports : Registers) (text : List ℕ) (ended left : List LineAt) (l
     → AreTaken ports ended g → 512 < length line.bytes → IsFaultyCert ports text (length ended + 1) BadLine
 long_fault ports text ended left line g whole are long = none_or_some (length ended) (IsFaultyCert ports text (length ended + 1) BadLine)
     (λ none. fault_first ports text ended left line g (length ended + 1) BadLine whole none
-    (omega (arith, none), (Malformed, (λ opens. omega (arith, opens.most, long), λ opens. omega (arith, opens.most, long)), refl)))
+    (omega (arith, none), (Malformed, (λ version is_version opens. omega (arith, opens.most, long), λ opens. omega (arith, opens.most, long)), refl)))
     (λ some. fault_further ports text ended left line g (length ended + 1) BadLine whole are some
     (refl, (Malformed, (λ statement spells. omega (arith, spells.most, long), λ skipped. omega (arith, skipped.most, long)), λ before gathered. refl)))
 

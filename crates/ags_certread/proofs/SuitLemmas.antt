@@ -25,7 +25,8 @@ use Rattle.ags_certtext.specs.declared.statements.Table.TheVariants.{In, Out}
 use Rattle.ags_certtext.specs.Statement.{entry_in, entries, value_at}
 use Rattle.ags_certtext.specs.Kind.{is_second_start, last_kind, stands_in_order}
 use Rattle.ags_certtext.specs.Fault.{fault_if, has_register, is_unmet, lacks_zero, reading_fault, statement_fault, fault_after}
-use Rattle.ags_certtext.specs.Reading.{Reading, Stated, statement_of}
+use Rattle.ags_frame.specs.Reading.{Stated, statement_of}
+use Rattle.ags_certtext.specs.Reading.{Reading}
 use Rattle.ags_certtext.specs.Text.{IsCertOf, IsLimit}
 use Rattle.ags_certread.proofs.FaultLemmas.{clear, no_fault}
 use Rattle.ags_certread.proofs.CheckLemmas.{is_false}

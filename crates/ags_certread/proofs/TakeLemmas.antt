@@ -1,6 +1,7 @@
 -- A statement without a fault is taken: what is kept then stands for it too, and is sound.
-use Rattle.std.proofs.Common.{◌≡◌, ℕ, refl, sym, ap, subst, List, [], ◌∷◌, ◌++◌, Option, Some, None}
+use Rattle.std.proofs.Common.{◌≡◌, ℕ, true, refl, sym, ap, subst, List, [], ◌∷◌, ◌++◌, Option, Some, None}
 use Rattle.ags_ports.specs.Port.{Registers}
+use Rattle.ags_row.specs.Cell.{cells_ascend}
 use Rattle.ags_certtext.specs.declared.statements.Entry.{Entry}
 use Rattle.ags_certtext.specs.declared.statements.RowLine.{RowLine}
 use Rattle.ags_certtext.specs.declared.statements.Statement.{Statement}
@@ -62,3 +63,11 @@ sized_closed g m (Some line) closes sized = subst (λ (h : Gathering). IsSized h
 pub sized_behind : (statement : Statement) (g m : Gathering) → ClosesBefore statement g m → IsSized g → IsSized m
 sized_behind (EntryOf At entry) g m same sized = subst (λ (h : Gathering). IsSized h) (sym same) sized
 sized_behind statement g m closes sized = sized_closed g m g.line closes sized
+
+ascending_closed : (g m : Gathering) (line : Option RowLine) → Closes line g m → cells_ascend 0 g.row_cells ≡ true → cells_ascend 0 m.row_cells ≡ true
+ascending_closed g m None same ascending = subst (λ (h : Gathering). cells_ascend 0 h.row_cells ≡ true) (sym same) ascending
+ascending_closed g m (Some line) closes ascending = subst (λ (h : Gathering). cells_ascend 0 h.row_cells ≡ true) (sym closes.2) refl
+
+pub ascending_behind : (statement : Statement) (g m : Gathering) → ClosesBefore statement g m → cells_ascend 0 g.row_cells ≡ true → cells_ascend 0 m.row_cells ≡ true
+ascending_behind (EntryOf At entry) g m same ascending = subst (λ (h : Gathering). cells_ascend 0 h.row_cells ≡ true) (sym same) ascending
+ascending_behind statement g m closes ascending = ascending_closed g m g.line closes ascending

@@ -20,7 +20,8 @@ use Rattle.ags_row.specs.declared.ats.At.{At as Cell_at}
 use Rattle.ags_row.specs.declared.rows.Row.{Row as Row_of}
 use Rattle.ags_certtype.specs.Cert.{Stated as Cert_stated}
 use Rattle.ags_certtext.specs.declared.statements.Statement.{Statement}
-use Rattle.ags_certtext.specs.Reading.{Reading, statement_of}
+use Rattle.ags_frame.specs.Reading.{statement_of}
+use Rattle.ags_certtext.specs.Reading.{Reading}
 use Rattle.ags_certtext.specs.Text.{IsLimit, LimitsAreStated, RowOfLines, IsRowOfLines, AreRowsOf, rows_of, IsWhatIsStated, IsCertOf}
 use Rattle.ags_certread.specs.OneMeaning.{HasNoTwoReadings}
 use Rattle.ags_certread.proofs.TableLemmas.{apart}

@@ -7,7 +7,8 @@ use Rattle.ags_certtext.specs.declared.cert_error.CertKind.{CertKind}
 use Rattle.ags_certtext.specs.declared.cert_error.CertKind.TheVariants.{BadLine, Version}
 use Rattle.ags_certtext.specs.declared.cert_error.CertError.{CertError}
 use Rattle.ags_certtext.specs.declared.cert_error.CertError.TheVariants.{At as AtLine, NoMemory}
-use Rattle.ags_certtext.specs.Reading.{Reading, Opening, OtherOpening, Stated, Skipped, Malformed, Ended, IsReading}
+use Rattle.ags_frame.specs.Reading.{Opening, OtherOpening, Stated, Skipped, Malformed, Ended}
+use Rattle.ags_certtext.specs.Reading.{Reading, IsReading}
 use Rattle.ags_certtext.specs.declared.statements.Statement.{Statement}
 use Rattle.ags_certtext.specs.Fault.{fault_after}
 use Rattle.ags_certread.specs.Before.{Stands}
@@ -15,7 +16,7 @@ use Rattle.ags_certread.specs.Gathering.{Gathering}
 
 -- the fault of a first line by its reading
 abbrev pub opening_fault : Reading → Option CertKind
-opening_fault Opening = None
+opening_fault (Opening version) = None
 opening_fault OtherOpening = Some Version
 opening_fault Malformed = Some BadLine
 opening_fault (Stated statement) = None
@@ -32,7 +33,7 @@ TakesStatement ports old statement new =
 abbrev pub TakesReading : Registers → (old : Gathering) → Reading → (new : Gathering) → Type 0
 TakesReading ports old (Stated statement) new = TakesStatement ports old statement new
 TakesReading ports old Skipped new = new ≡ old
-TakesReading ports old Opening new = ⊥
+TakesReading ports old (Opening version) new = ⊥
 TakesReading ports old OtherOpening new = ⊥
 TakesReading ports old Malformed new = ⊥
 TakesReading ports old Ended new = ⊥
@@ -46,7 +47,7 @@ abbrev pub further_fault : Registers → List Statement → Reading → Option C
 further_fault ports before (Stated statement) = fault_after ports before statement
 further_fault ports before Malformed = Some BadLine
 further_fault ports before Skipped = None
-further_fault ports before Opening = None
+further_fault ports before (Opening version) = None
 further_fault ports before OtherOpening = None
 further_fault ports before Ended = None
 

@@ -2,7 +2,7 @@
 
 ghost use Rattle.std.specs.Prelude.{◌≡◌, ◌<◌, ◌&&◌, ◌==◌, length, get_or, false, is_some, Some};
 ghost use Rattle.ags_certtext.specs.Fault.{fault_if, has_register, is_empty, is_fixed, is_full_with, is_outside, is_unmet, lacks_word, lacks_zero, leaves_limit, may_stand};
-ghost use Rattle.ags_certread.specs.Gathering.{has_cell, stated};
+ghost use Rattle.ags_certread.specs.Gathering.{stated};
 
 use ags_certtext::{CertKind, Entry, Table};
 use ags_domain::{Domain, Value};
@@ -28,8 +28,8 @@ fn is_fixed(address: u16) -> bool
 }
 
 /// Whether the range of an entry, or of a row, is empty.
-pub(crate) fn is_empty(value: Option<Value>) -> bool
-    ensures { result ≡ is_empty value }
+pub(crate) fn is_empty(value: &Option<Value>) -> bool
+    ensures { result ≡ is_empty value.now }
 {
     match value {
         Some(_) => false,
@@ -37,27 +37,20 @@ pub(crate) fn is_empty(value: Option<Value>) -> bool
     }
 }
 
-/// What is stated at an address.
-pub(crate) fn stated(table: &[Option<Value>], address: u16) -> Option<Value>
-    ensures { result ≡ stated table.now address }
-{
-    let place = address as usize;
-    if place >= table.len() {
-        return None;
-    }
-    table[place]
-}
-
 /// Whether something is stated at an address.
 pub(crate) fn is_stated(table: &[Option<Value>], address: u16) -> bool
     ensures { result ≡ is_some (stated table.now address) }
 {
-    stated(table, address).is_some()
+    let place = address as usize;
+    if place >= table.len() {
+        return false;
+    }
+    table[place].is_some()
 }
 
 /// Whether what is stated of a cell isn't within what its limit is stated to be.
-fn is_outside(value: Option<Value>, limit: Option<Value>) -> bool
-    ensures { result ≡ is_outside value limit }
+fn is_outside(value: &Option<Value>, limit: &Option<Value>) -> bool
+    ensures { result ≡ is_outside value.now limit.now }
 {
     let Some(value) = value else {
         return false;
@@ -65,7 +58,18 @@ fn is_outside(value: Option<Value>, limit: Option<Value>) -> bool
     let Some(limit) = limit else {
         return false;
     };
-    !value.within(&limit)
+    !value.within(limit)
+}
+
+/// Whether what an entry states isn't within what is stated at its address.
+fn leaves(entry: &Entry, limits: &[Option<Value>]) -> bool
+    ensures { result ≡ is_outside entry.now.value (stated limits.now entry.now.address) }
+{
+    let place = entry.address as usize;
+    if place >= limits.len() {
+        return false;
+    }
+    is_outside(&entry.value, &limits[place])
 }
 
 /// Whether one of some registers stands at an address.
@@ -99,13 +103,6 @@ fn is_unmet(ports: &[Port], entry: &Entry) -> bool
     ports.iter().any(|port| is_unmet_by(port, entry))
 }
 
-/// Whether one of some cells stands at an address.
-pub(crate) fn has_cell(cells: &[At<Value>], address: u16) -> bool
-    ensures { result ≡ has_cell cells.now address }
-{
-    cells.iter().any(|cell| cell.address == address)
-}
-
 /// Whether a location is among the named places.
 pub(crate) fn is_named(places: &[bool], location: u16) -> bool
     requires { location < length places.now }
@@ -135,16 +132,16 @@ pub(crate) fn may_stand(ports: &Ports, table: Table, address: u16) -> bool
     }
 }
 
-/// Whether what is stated of a cell, at the start or in a row, isn't within the limit that is stated of it.
-pub(crate) fn leaves_limit(table: Table, value: Option<Value>, limit: Option<Value>) -> bool
-    ensures { result ≡ leaves_limit table value limit }
+/// Whether what an entry states of a cell, at the start or in a row, isn't within the limit that is stated of it.
+pub(crate) fn leaves_limit(table: Table, entry: &Entry, limits: &[Option<Value>]) -> bool
+    ensures { result ≡ leaves_limit table entry.now.value (stated limits.now entry.now.address) }
 {
     match table {
         Table::Cell => false,
-        Table::Init => is_outside(value, limit),
+        Table::Init => leaves(entry, limits),
         Table::In => false,
         Table::Out => false,
-        Table::At => is_outside(value, limit),
+        Table::At => leaves(entry, limits),
     }
 }
 

@@ -1,6 +1,7 @@
 //! The fault of a statement, given those before it. Of several faults the one of the least number is told.
 
-ghost use Rattle.std.specs.Prelude.{◌≡◌, ◌<◌, List, length};
+ghost use Rattle.std.specs.Prelude.{◌≡◌, ◌<◌, true, List, length};
+ghost use Rattle.ags_row.specs.Cell.{cells_ascend};
 ghost use Rattle.ags_certtext.specs.declared.statements.Statement.{Statement};
 ghost use Rattle.ags_certtext.specs.declared.statements.Statement.TheVariants.{End, May, Row};
 ghost use Rattle.ags_certtext.specs.Fault.{entry_fault, fault_after, statement_fault};
@@ -9,10 +10,10 @@ ghost use Rattle.ags_certread.specs.Before.{Gathered};
 ghost use Rattle.ags_certread.specs.Gathering.{IsCounting, IsSized, gathering_of, is_stated_in, row_count};
 
 use crate::checks::{
-    count_at, fault_if, has_cell, is_empty, is_full, is_named, is_stated, lacks_word, leaves_limit,
-    may_stand, stated,
+    count_at, fault_if, is_empty, is_full, is_named, is_stated, lacks_word, leaves_limit, may_stand,
 };
 use crate::gatherer::Gatherer;
+use crate::open_rows::has_cell;
 use crate::order::{is_second_start, stands_in_order};
 use ags_certtext::{CertKind, Entry, RowLine, Statement, Table};
 use ags_certtype::{MOST_ROWS, MOST_ROWS_AT_ONE};
@@ -32,6 +33,7 @@ impl Gatherer {
 
     /// Whether something is stated at an address in a table; of the cells of a row, in the open one.
     fn is_stated(&self, table: Table, address: u16) -> bool
+        requires { cells_ascend 0 self.now.row_cells.items ≡ true }
         ensures { result ≡ is_stated_in (gathering_of self.now) table address }
     {
         match table {
@@ -45,19 +47,19 @@ impl Gatherer {
 
     /// The fault of an entry of a table.
     fn entry_fault(&self, ports: &Ports, table: Table, entry: &Entry) -> Option<CertKind>
+        requires { cells_ascend 0 self.now.row_cells.items ≡ true }
         ensures { (before : List Statement) → Gathered before (gathering_of self.now)
             → result ≡ entry_fault ports.now before table entry.now }
     {
         let misplaced = !may_stand(ports, table, entry.address);
         let twice = self.is_stated(table, entry.address);
-        let limit = stated(self.cells.as_slice(), entry.address);
-        let outside = leaves_limit(table, entry.value, limit);
+        let outside = leaves_limit(table, entry, self.cells.as_slice());
         let unmet = lacks_word(ports, table, entry);
         let full = is_full(table, self.row_cells.as_slice());
         let fault = fault_if(full, CertKind::TooManyAt, None);
         let fault = fault_if(unmet, CertKind::NoZero, fault);
         let fault = fault_if(outside, CertKind::OutsideGlobal, fault);
-        let fault = fault_if(is_empty(entry.value), CertKind::EmptyRange, fault);
+        let fault = fault_if(is_empty(&entry.value), CertKind::EmptyRange, fault);
         let fault = fault_if(twice, CertKind::Twice, fault);
         fault_if(misplaced, CertKind::BadLine, fault)
     }
@@ -79,7 +81,7 @@ impl Gatherer {
         ensures { (before : List Statement) → Gathered before (gathering_of self.now)
             → result ≡ statement_fault ports.now before (Row row.now) }
     {
-        let empty = is_empty(row.a) || is_empty(row.q);
+        let empty = is_empty(&row.a) || is_empty(&row.q);
         let count = count_at(self.counts.as_slice(), row.location);
         let full = self.row_count() >= MOST_ROWS || count >= MOST_ROWS_AT_ONE;
         fault_if(
@@ -102,6 +104,7 @@ impl Gatherer {
     fn part_fault(&self, ports: &Ports, statement: &Statement) -> Option<CertKind>
         requires sized { IsSized (gathering_of self.now) }
         requires counting { IsCounting (gathering_of self.now) }
+        requires ascending { cells_ascend 0 self.now.row_cells.items ≡ true }
         requires statement { IsStatement statement.now }
         ensures { (before : List Statement) → Gathered before (gathering_of self.now)
             → result ≡ statement_fault ports.now before statement.now }
@@ -119,6 +122,7 @@ impl Gatherer {
     pub(crate) fn fault(&self, ports: &Ports, statement: &Statement) -> Option<CertKind>
         requires sized { IsSized (gathering_of self.now) }
         requires counting { IsCounting (gathering_of self.now) }
+        requires ascending { cells_ascend 0 self.now.row_cells.items ≡ true }
         requires statement { IsStatement statement.now }
         ensures { (before : List Statement) → Gathered before (gathering_of self.now)
             → result ≡ fault_after ports.now before statement.now }

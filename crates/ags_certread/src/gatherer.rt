@@ -1,6 +1,7 @@
 //! What is gathered of the statements of a certificate, one after the other.
 
-ghost use Rattle.std.specs.Prelude.{◌≡◌, ◌<◌, false, ◌∷◌, List, Ok, None, IfOk, length, get_or, set, replicate};
+ghost use Rattle.std.specs.Prelude.{◌≡◌, ◌<◌, true, false, ◌∷◌, List, Ok, None, IfOk, length, get_or, set, replicate};
+ghost use Rattle.ags_row.specs.Cell.{cells_ascend};
 ghost use Rattle.ags_certtext.specs.declared.statements.Statement.TheVariants.{Entry as EntryOf, Row as RowOf};
 ghost use Rattle.ags_certtext.specs.declared.statements.Statement.{Statement};
 ghost use Rattle.ags_certtext.specs.Fault.{fault_after};
@@ -141,6 +142,7 @@ impl Gatherer {
     fn enter(&mut self, table: Table, entry: &Entry) -> Result<(), AllocError>
         requires sized { IsSized (gathering_of self.old) }
         requires placed { IsPlaced self.old.counts.items (EntryOf table entry.now) }
+        requires ascending { cells_ascend 0 self.old.row_cells.items ≡ true }
         ensures { IfOk result (λ _. gathering_of self.new ≡ with_entry_in (gathering_of self.old) table entry.now) }
     {
         match table {
@@ -157,6 +159,7 @@ impl Gatherer {
     fn add_part(&mut self, statement: &Statement) -> Result<(), AllocError>
         requires sized { IsSized (gathering_of self.old) }
         requires placed { IsPlaced self.old.counts.items statement.now }
+        requires ascending { cells_ascend 0 self.old.row_cells.items ≡ true }
         ensures { IfOk result (λ _. gathering_of self.new ≡ with_part (gathering_of self.old) statement.now) }
     {
         match statement {
@@ -173,6 +176,7 @@ impl Gatherer {
     fn add(&mut self, statement: &Statement) -> Result<(), AllocError>
         requires sized { IsSized (gathering_of self.old) }
         requires placed { IsPlaced self.old.counts.items statement.now }
+        requires ascending { cells_ascend 0 self.old.row_cells.items ≡ true }
         ensures { IfOk result (λ _. gathering_of self.new ≡ with_statement (gathering_of self.old) statement.now) }
     {
         self.add_part(statement)?;

@@ -9,9 +9,8 @@ ghost use Rattle.ags_certread.specs.Gathering.{gathering_of};
 ghost use Rattle.ags_certread.specs.LineTaken.{TakesLine, TakesStatement, TellsFault, TellsStatementFault, opening_fault};
 
 use crate::gatherer::Gatherer;
-use ags_certtext::{
-    CertError, CertKind, FirstLine, FurtherLine, Statement, read_first_line, read_line,
-};
+use ags_certtext::{CertError, CertKind, CertLines, Statement, read_first_line};
+use ags_frame::{Line, Opening, read_line};
 use ags_ports::Ports;
 use std::alloc::Global;
 
@@ -30,9 +29,9 @@ pub(crate) fn opening_fault(line: &[u8]) -> Option<CertKind>
     ensures { (reading : Reading) × IsFirstReading line.now reading × (result ≡ opening_fault reading) }
 {
     match read_first_line(line) {
-        FirstLine::Opening => None,
-        FirstLine::OtherOpening => Some(CertKind::Version),
-        FirstLine::Malformed => Some(CertKind::BadLine),
+        Opening::Version(_) => None,
+        Opening::Another => Some(CertKind::Version),
+        Opening::Malformed => Some(CertKind::BadLine),
     }
 }
 
@@ -68,10 +67,10 @@ impl Gatherer {
         ensures fine { IfOk result (λ _. TakesLine ports.now (gathering_of self.old) bytes.now (gathering_of self.new)) }
         ensures faulty { IfErr result (TellsFault ports.now line (gathering_of self.old) bytes.now) }
     {
-        match read_line(bytes) {
-            FurtherLine::Stated(statement) => self.take_at(alloc, ports, line, &statement),
-            FurtherLine::Skipped => Ok(()),
-            FurtherLine::Malformed => Err(bad_line(line)),
+        match read_line::<CertLines>(bytes) {
+            Line::Stated(statement) => self.take_at(alloc, ports, line, &statement),
+            Line::Skipped => Ok(()),
+            Line::Malformed => Err(bad_line(line)),
         }
     }
 }

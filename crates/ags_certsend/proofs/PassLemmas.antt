@@ -11,8 +11,10 @@ use Rattle.ags_domain.specs.declared.values.Value.{Value}
 use Rattle.ags_ports.specs.Port.{Registers}
 use Rattle.ags_row.specs.Limit.{cell_limit}
 use Rattle.ags_certtype.specs.Cert.{Stated}
-use Rattle.ags_certtext.specs.Fault.{fault_after, end_fault, reading_fault, is_outside}
-use Rattle.ags_certtext.specs.Reading.{Reading, Stated as StatedBy, Ended, statement_of}
+use Rattle.ags_certtext.specs.Fault.{fault_after, faults, reading_fault, is_outside}
+use Rattle.ags_frame.specs.Fault.{end_fault}
+use Rattle.ags_frame.specs.Reading.{Stated as StatedBy, Ended, statement_of}
+use Rattle.ags_certtext.specs.Reading.{Reading}
 use Rattle.ags_certtext.specs.declared.kinds.Kind.{Kind}
 use Rattle.ags_certtext.specs.declared.kinds.Kind.TheVariants as kind
 use Rattle.ags_certtext.specs.Kind.{follows, is_kind, kind_of, kinds_before, last_kind}
@@ -47,7 +49,7 @@ onto-append before (x ∷ xs) ys = onto-append (x ∷ before) xs ys
 
 -- their readings have no fault, and neither has the end of the text
 pub readings_faultless : (ports : Registers) (read : List Reading) (before statements : List Statement) → filter_map statement_of read ≡ before
-    → NoFault ports before statements → end_fault (onto before statements) ≡ None
+    → NoFault ports before statements → end_fault (faults ports) (onto before statements) ≡ None
     → first_fault (reading_fault ports) read (map StatedBy statements ++ Ended ∷ []) ≡ None
 unfolding NoFault onto
 readings_faultless ports read before [] same none last =

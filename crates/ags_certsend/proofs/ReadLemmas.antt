@@ -6,7 +6,8 @@ use Rattle.ags_text.specs.Line.{LineAt, IsCutFrom, lines_of}
 use Rattle.ags_text.specs.Reading.{AreReadingsBy}
 use Rattle.ags_text.proofs.CutLemmas.{cut_is_lines}
 use Rattle.ags_certtype.specs.Cert.{Stated, IsCert}
-use Rattle.ags_certtext.specs.Reading.{Reading, Opening, Stated as StatedBy, Ended, IsReading, AreReadings}
+use Rattle.ags_frame.specs.Reading.{Opening, Stated as StatedBy, Ended}
+use Rattle.ags_certtext.specs.Reading.{Reading, IsFirstReading, IsReading, AreReadings}
 use Rattle.ags_certtext.specs.declared.statements.Statement.{Statement}
 use Rattle.ags_certsend.specs.Spelled.{statement_text, statement_line}
 use Rattle.ags_certsend.specs.CertText.{statements_of, cert_text}
@@ -59,6 +60,18 @@ statements_read start (statement ∷ statements) good =
     let short = is.shown.short in
     (record { most = omega (arith, short); states = is.states }, statements_read (start + length (statement_text statement) + 0 + 1) statements (good_tail statement statements good))
 
+-- the first line opens a certificate of version 1
+opens_first : IsFirstReading (codes "AGSCERT 1") (Opening 1)
+opens_first = (
+  record { first = omega arith; last = omega arith },
+  record {
+    most = omega arith;
+    digits = codes "1";
+    spelled = record { is_decimal = record { digits = (omega arith, (omega arith, tt)); fits = omega arith; value = refl }; plain = λ is. omega (arith, is) };
+    fields = opening_line;
+  },
+)
+
 texts_of : Stated → List (List ℕ)
 texts_of cert = codes "AGSCERT 1" ∷ map statement_text (statements_of cert)
 
@@ -68,7 +81,7 @@ text_joined cert = ap (λ (text : List ℕ). codes "AGSCERT 1\n" ++ text) (sym (
 
 -- what the lines are read as
 unfoldable pub readings_of : Stated → List Reading
-readings_of cert = Opening ∷ (map StatedBy (statements_of cert) ++ Ended ∷ [])
+readings_of cert = Opening 1 ∷ (map StatedBy (statements_of cert) ++ Ended ∷ [])
 
 pub text_read : (cert : Stated) → IsCert cert → AreReadings (lines_of (cert_text cert)) (readings_of cert)
 unfolding readings_of texts_of AllShown line_ats
@@ -76,7 +89,7 @@ text_read cert is =
     let good = statements_good cert is in
     let lines : line_ats 0 (texts_of cert) ≡ lines_of (joined (texts_of cert)) = cut_is_lines 0 (joined (texts_of cert)) (line_ats 0 (texts_of cert)) (joined_cut 0 (texts_of cert) (refl, statements_shown (statements_of cert) good)) in
     rw (text_joined cert, ← lines) (record {
-      of_lines = Opening ∷ map StatedBy (statements_of cert);
-      are = (record { most = omega arith; fields = opening_line }, statements_read (0 + length (codes "AGSCERT 1") + 0 + 1) (statements_of cert) good);
+      of_lines = Opening 1 ∷ map StatedBy (statements_of cert);
+      are = (opens_first, statements_read (0 + length (codes "AGSCERT 1") + 0 + 1) (statements_of cert) good);
       whole = refl;
     })

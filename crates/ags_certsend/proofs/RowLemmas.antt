@@ -19,8 +19,9 @@ use Rattle.ags_row.specs.declared.rows.Row.{Row}
 use Rattle.ags_safe.specs.Certificate.{Suits}
 use Rattle.ags_certtype.specs.Cert.{Stated, IsCert, certificate_of, rows_at}
 use Rattle.ags_certtype.specs.Limit.{most_rows, most_rows_at_one}
-use Rattle.ags_certtext.specs.Fault.{fault_after, end_fault, reading_fault, is_outside, rows_at as lines_at}
-use Rattle.ags_certtext.specs.Reading.{Opening, Stated as StatedBy, Ended}
+use Rattle.ags_certtext.specs.Fault.{fault_after, faults, reading_fault, is_outside, rows_at as lines_at}
+use Rattle.ags_frame.specs.Fault.{end_fault}
+use Rattle.ags_frame.specs.Reading.{Opening, Stated as StatedBy, Ended}
 use Rattle.ags_certtext.specs.declared.kinds.Kind.TheVariants as kind
 use Rattle.ags_certtext.specs.Kind.{last_kind}
 use Rattle.ags_certtext.specs.Statement.{entries, has_address, value_at, row_entries, row_line}
@@ -161,7 +162,7 @@ rows_passed ports cert good (row ∷ rows) within before state =
 -- no fault, and the text may end behind them
 pub record Finishes (ports : Registers) (before statements : List Statement) : Type 0 where
   pub none : NoFault ports before statements
-  pub ended : end_fault (onto before statements) ≡ None
+  pub ended : end_fault (faults ports) (onto before statements) ≡ None
 
 finishes-append : (ports : Registers) (before xs ys : List Statement) → NoFault ports before xs → Finishes ports (onto before xs) ys → Finishes ports before (xs ++ ys)
 finishes-append ports before xs ys none last = record {
@@ -222,8 +223,8 @@ statements_finish machine cert good suits =
     record { none = (refl, finish.none); ended = finish.ended }
 
 pub text_faultless : (machine : Machine) (cert : Stated) → IsCert cert → Suits value_meaning machine (certificate_of cert)
-    → first_fault (reading_fault machine.ports) [] (Opening ∷ (map StatedBy (statements_of cert) ++ Ended ∷ [])) ≡ None
+    → first_fault (reading_fault machine.ports) [] (Opening 1 ∷ (map StatedBy (statements_of cert) ++ Ended ∷ [])) ≡ None
 text_faultless machine cert good suits =
     let finish = statements_finish machine cert good suits in
-    first_fault-faultless (reading_fault machine.ports) [] Opening (map StatedBy (statements_of cert) ++ Ended ∷ []) refl
-    ∙ readings_faultless machine.ports (Opening ∷ []) [] (statements_of cert) refl finish.none finish.ended
+    first_fault-faultless (reading_fault machine.ports) [] (Opening 1) (map StatedBy (statements_of cert) ++ Ended ∷ []) refl
+    ∙ readings_faultless machine.ports (Opening 1 ∷ []) [] (statements_of cert) refl finish.none finish.ended

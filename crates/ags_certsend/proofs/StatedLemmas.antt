@@ -13,7 +13,7 @@ use Rattle.ags_row.specs.Limit.{cell_limit, input_limit, output_limit, is_named}
 use Rattle.ags_row.specs.declared.ats.At.{At}
 use Rattle.ags_row.specs.declared.rows.Row.{Row}
 use Rattle.ags_certtype.specs.Cert.{Stated, IsCert}
-use Rattle.ags_certtext.specs.Reading.{Stated as StatedBy, Ended, statement_of}
+use Rattle.ags_frame.specs.Reading.{Stated as StatedBy, Ended, statement_of}
 use Rattle.ags_certtext.specs.Statement.{entry_in, may_place, entries, value_at}
 use Rattle.ags_certtext.specs.Text.{start_of, IsLimit, leading_cells, rows_of, AreRowsOf, IsWhatIsStated}
 use Rattle.ags_certtext.specs.declared.statements.Entry.{Entry}

@@ -11,18 +11,15 @@ use Rattle.ags_text.proofs.FieldLaws.{standing_cut, number_field, writes_field, 
 use Rattle.ags_domain.specs.declared.values.Value.{Value}
 use Rattle.ags_certtext.specs.declared.keywords.Keyword.{Keyword}
 use Rattle.ags_certtext.specs.declared.keywords.Keyword.TheVariants as keyword
-use Rattle.ags_certtext.specs.declared.lines.FirstLine.{FirstLine}
-use Rattle.ags_certtext.specs.declared.lines.FirstLine.TheVariants as first
 use Rattle.ags_certtext.specs.declared.statements.Entry.{Entry}
 use Rattle.ags_certtext.specs.declared.statements.RowLine.{RowLine}
 use Rattle.ags_certtext.specs.declared.statements.Statement.{Statement}
 use Rattle.ags_certtext.specs.declared.statements.Statement.TheVariants.{Start, Entry as EntryOf, May, Row, End}
 use Rattle.ags_certtext.specs.declared.statements.Table.TheVariants.{Cell, Init, In, Out, At}
 use Rattle.ags_certtext.specs.Statement.{IsStatement}
-use Rattle.ags_certtext.specs.Spelling.{StatesPlace, StatesEntry, StatesRow, States, table_name, Opens, OpensAnother, flag_digits}
+use Rattle.ags_certtext.specs.Spelling.{StatesPlace, StatesEntry, StatesRow, States, table_name, flag_digits}
 use Rattle.ags_certtext.specs.Front.{IsPlace}
-use Rattle.ags_certtext.specs.Operand.{IsEntry, IsRow, keyword_name, AreOperands, IsVersionField, IsOther, IsFirstOf}
-use Rattle.ags_certtext.specs.Reading.{Reading, Opening, OtherOpening, Stated, Skipped, Malformed, Ended, IsFirstReading, first_reading}
+use Rattle.ags_certtext.specs.Operand.{IsEntry, IsRow, keyword_name, AreOperands}
 use Rattle.ags_certtext.proofs.FrontLemmas.{front_cut, cut_front, fields_append, cut_stands, value_fields, flags_field}
 
 -- an entry is its parts, and so is a row
@@ -225,70 +222,3 @@ idle_states_nothing line statement (inl blank) states =
     let has = state_operands line statement states in (some_first has.its).0 (has.named ∙ (blanks_none line blank).0)
 idle_states_nothing line statement (inr sign) states =
     let has = state_operands line statement states in (some_first has.its).1 (ap (λ (name : List ℕ). get_or name 0 0) has.named ∙ sign_first line sign)
-
--- ---- first lines
-
--- a line of a version's form
-opening_field : IsField (codes "AGSCERT")
-opening_field = record { some = omega arith; marks = refl }
-
-pub version_has : (line digits : List ℕ) → IsField digits → IsVersionField line digits → HasFields line (codes "AGSCERT" ∷ digits ∷ [])
-version_has line digits field is = cut_stands line (codes "AGSCERT" ∷ digits ∷ []) (opening_field, (field, tt)) (is.named, (is.digits_are, is.ends))
-
-has_version : (line digits : List ℕ) → IsField digits → HasFields line (codes "AGSCERT" ∷ digits ∷ []) → IsVersionField line digits
-has_version line digits field has =
-    let cut = standing_cut line (codes "AGSCERT" ∷ digits ∷ []) (opening_field, (field, tt)) has in
-    record { named = cut.0; digits_are = cut.1.0; ends = cut.1.1 }
-
-one_field : IsField (codes "1")
-one_field = record { some = omega arith; marks = refl }
-
-pub opens_version : (line : List ℕ) → Opens line → IsVersionField line (codes "1")
-opens_version line is = has_version line (codes "1") one_field is.fields
-
-pub another_version : (line : List ℕ) → (is : OpensAnother line) → IsVersionField line is.digits
-another_version line is = has_version line is.digits (number_field 10 6 is.digits is.version (omega arith) is.is_decimal) is.fields
-
--- the reading of a line of that form
-pub first_found : (line digits : List ℕ) (its : FirstLine) → length line ≤ 512 → IsVersionField line digits → IsFirstOf digits its → IsFirstReading line (first_reading its)
-first_found line digits first.Opening most form is =
-    let has = version_has line digits (rw is one_field) form in
-    let fields : HasFields line (codes "AGSCERT" ∷ codes "1" ∷ []) = rw is at has in
-    record { most = most; fields = fields }
-first_found line digits first.OtherOpening most form is = record {
-  most = most;
-  version = is.0;
-  digits = digits;
-  is_decimal = is.1;
-  other = is.2;
-  fields = version_has line digits (number_field 10 6 digits is.0 (omega arith) is.1) form;
-}
-first_found line digits first.Malformed most form is = (
-  λ opens. is.0 (sym form.digits_are ∙ (opens_version line opens).digits_are),
-  λ opens.
-      let same : digits ≡ opens.digits = sym form.digits_are ∙ (another_version line opens).digits_are in
-      is.1 (opens.version, rw same opens.is_decimal, opens.other),
-)
-
--- the number of this version is no other
-one_not_other : (digits : List ℕ) → digits ≡ codes "1" → IsOther digits → ⊥
-one_not_other digits one other = other.2 (other.1.value ∙ rw one refl)
-
--- a line has one reading as a first one
-pub first_only : (line : List ℕ) (its : FirstLine) (reading : Reading) → IsFirstReading line (first_reading its) → IsFirstReading line reading → reading ≡ first_reading its
-first_only line first.Opening Opening found is = refl
-first_only line first.Opening OtherOpening found is =
-    let same = sym (opens_version line found).digits_are ∙ (another_version line is).digits_are in
-    absurd (one_not_other is.digits (sym same) (is.version, is.is_decimal, is.other))
-first_only line first.Opening Malformed found is = absurd (is.0 found)
-first_only line first.OtherOpening Opening found is =
-    let same = sym (opens_version line is).digits_are ∙ (another_version line found).digits_are in
-    absurd (one_not_other found.digits (sym same) (found.version, found.is_decimal, found.other))
-first_only line first.OtherOpening OtherOpening found is = refl
-first_only line first.OtherOpening Malformed found is = absurd (is.1 found)
-first_only line first.Malformed Opening found is = absurd (found.0 is)
-first_only line first.Malformed OtherOpening found is = absurd (found.1 is)
-first_only line first.Malformed Malformed found is = refl
-first_only line its (Stated statement) found is = absurd is
-first_only line its Skipped found is = absurd is
-first_only line its Ended found is = absurd is

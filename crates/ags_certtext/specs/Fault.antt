@@ -5,6 +5,7 @@ use Rattle.ags_domain.specs.Value.{value_held}
 use Rattle.ags_domain.specs.declared.values.Value.{Value}
 use Rattle.ags_ports.specs.Port.{Registers, is_once}
 use Rattle.ags_ports.specs.declared.registers.Port.{Port}
+use Rattle.ags_frame.specs.Fault.{Faults, reading_fault as fault_of}
 use Rattle.ags_certtype.specs.Limit.{most_rows, most_rows_at_one}
 use Rattle.ags_certtext.specs.declared.cert_error.CertKind.{CertKind}
 use Rattle.ags_certtext.specs.declared.cert_error.CertKind.TheVariants.{BadLine, Version, Twice, EmptyRange, OutsideGlobal, NoZero, TooManyRows, TooManyAt, NoRows}
@@ -15,9 +16,9 @@ use Rattle.ags_certtext.specs.declared.statements.Table.{Table}
 use Rattle.ags_certtext.specs.declared.statements.Table.TheVariants.{Cell, Init, In, Out, At}
 use Rattle.ags_certtext.specs.declared.kinds.Kind.TheVariants as kind
 use Rattle.ags_certtext.specs.declared.statements.Entry.{Entry}
-use Rattle.ags_certtext.specs.Kind.{last_kind, is_last, stands_in_order, is_second_start}
+use Rattle.ags_certtext.specs.Kind.{is_kind, kind_of, last_kind, stands_in_order, is_second_start}
 use Rattle.ags_certtext.specs.Statement.{may_place, row_line, entries, has_address, value_at, entries_before, is_within}
-use Rattle.ags_certtext.specs.Reading.{Reading, Opening, OtherOpening, Stated, Skipped, Malformed, Ended, statement_of}
+use Rattle.ags_certtext.specs.Reading.{Reading}
 
 -- a fault where a test holds, and else what is found later: so of several faults the first that is written is told
 abbrev pub fault_if : Bool → CertKind → Option CertKind → Option CertKind
@@ -115,15 +116,15 @@ fault_after ports before statement =
     (fault_if (not (stands_in_order (last_kind before) statement)) BadLine
     (statement_fault ports before statement))
 
--- END is missing
-abbrev pub end_fault : List Statement → Option CertKind
-end_fault before = fault_if (not (is_last kind.End (last_kind before))) BadLine None
+-- how a certificate tells faults for a machine's registers
+abbrev pub faults : Registers → Faults Statement CertKind
+faults ports = record {
+  bad_line = BadLine;
+  version = Version;
+  is_end = λ statement. is_kind kind.End (kind_of statement);
+  fault_after = fault_after ports;
+}
 
 -- The fault of a line's reading, or of the end of the text, where the lines before it have these readings, nearest first.
 abbrev pub reading_fault : Registers → List Reading → Reading → Option CertKind
-reading_fault ports before Opening = None
-reading_fault ports before OtherOpening = Some Version
-reading_fault ports before Skipped = None
-reading_fault ports before Malformed = Some BadLine
-reading_fault ports before (Stated statement) = fault_after ports (filter_map statement_of before) statement
-reading_fault ports before Ended = end_fault (filter_map statement_of before)
+reading_fault ports before reading = fault_of (faults ports) before reading

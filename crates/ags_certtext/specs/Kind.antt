@@ -1,6 +1,6 @@
 -- The kinds of statements, and the order in which they stand.
-use Rattle.std.specs.Prelude.{ℕ, Bool, true, false, not, ◌&&◌, nat_le, List, [], ◌∷◌, Option, Some, None, is_some}
-use Rattle.std.specs.List.{position_or_len}
+use Rattle.std.specs.Prelude.{ℕ, Bool, true, false, not, List, [], ◌∷◌, Option, Some, None, is_some}
+use Rattle.ags_frame.specs.Order.{place_in, follows_in}
 use Rattle.ags_certtext.specs.declared.kinds.Kind.{Kind}
 use Rattle.ags_certtext.specs.declared.kinds.Kind.TheVariants as kind
 use Rattle.ags_certtext.specs.declared.statements.Statement.{Statement}
@@ -26,7 +26,7 @@ is_kind _ _ = false
 
 -- how many kinds stand before one
 abbrev pub kinds_before : Kind → ℕ
-kinds_before its = position_or_len (λ (other : Kind). is_kind its other) kinds_in_order
+kinds_before its = place_in is_kind kinds_in_order its
 
 -- the kind of a table's entries; those of a row's cells are of the row's kind
 abbrev pub table_kind : Table → Kind
@@ -54,10 +54,9 @@ abbrev pub is_last : Kind → (last : Option Kind) → Bool
 is_last its None = false
 is_last its (Some last) = is_kind its last
 
--- a kind may stand behind the last: it doesn't come before that in the order, and nothing stands behind the end
+-- a kind may stand behind the last, in that order
 abbrev pub follows : (last : Option Kind) → Kind → Bool
-follows None its = true
-follows (Some last) its = nat_le (kinds_before last) (kinds_before its) && not (is_kind kind.End last)
+follows last its = follows_in is_kind kinds_in_order kind.End last its
 
 -- so may the entry of a table; that of a row's cell stands behind its row
 abbrev pub entry_follows : (last : Option Kind) → Table → Bool

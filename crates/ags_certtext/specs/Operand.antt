@@ -1,12 +1,10 @@
 -- What stands behind the keyword of a line, as it is read.
-use Rattle.std.specs.Prelude.{◌≡◌, ◌≢◌, ℕ, Bool, List, codes}
+use Rattle.std.specs.Prelude.{◌≡◌, ℕ, Bool, List, codes}
 use Rattle.ags_text.specs.Field.{AreBlanks, next_field, behind_field}
-use Rattle.ags_text.specs.Numeral.{IsDecimal, Writes}
+use Rattle.ags_text.specs.Numeral.{Writes}
 use Rattle.ags_certtext.specs.Front.{BeginsWithValue, BeginsWithNamed, BeginsWithFlags, IsPlace}
 use Rattle.ags_certtext.specs.declared.keywords.Keyword.{Keyword}
 use Rattle.ags_certtext.specs.declared.keywords.Keyword.TheVariants as keyword
-use Rattle.ags_certtext.specs.declared.lines.FirstLine.{FirstLine}
-use Rattle.ags_certtext.specs.declared.lines.FirstLine.TheVariants as first
 use Rattle.ags_certtext.specs.declared.statements.Entry.{Entry}
 use Rattle.ags_certtext.specs.declared.statements.RowLine.{RowLine}
 use Rattle.ags_certtext.specs.declared.statements.Statement.{Statement}
@@ -50,19 +48,3 @@ AreOperands (keyword.Entry table) text statement = (entry : Entry) × IsEntry te
 AreOperands keyword.May text statement = (location : ℕ) × IsPlace text location × (statement ≡ May location)
 AreOperands keyword.Row text statement = (row : RowLine) × IsRow text row × (statement ≡ Row row)
 AreOperands keyword.End text statement = AreBlanks text × (statement ≡ End)
-
--- the keyword of a first line, the digits of its version, and nothing behind them
-pub record IsVersionField (line digits : List ℕ) : Type 0 where
-  pub named : next_field line ≡ codes "AGSCERT"
-  pub digits_are : next_field (behind_field line) ≡ digits
-  pub ends : AreBlanks (behind_field (behind_field line))
-
--- the digits are those of another version
-abbrev pub IsOther : List ℕ → Type 0
-IsOther digits = (version : ℕ) × IsDecimal 6 digits version × (version ≢ 1)
-
--- what a first line is whose version has these digits
-abbrev pub IsFirstOf : List ℕ → FirstLine → Type 0
-IsFirstOf digits first.Opening = digits ≡ codes "1"
-IsFirstOf digits first.OtherOpening = IsOther digits
-IsFirstOf digits first.Malformed = (digits ≡ codes "1" → ⊥) × (IsOther digits → ⊥)

@@ -104,27 +104,3 @@ States line (EntryOf table entry) = StatesEntry (table_name table) line entry
 States line (May location) = StatesPlace (codes "MAY") line location
 States line (Row row) = StatesRow line row
 States line End = HasFields line (codes "END" ∷ [])
-
--- The line is a spelling of the statement: at most 512 bytes that state it.
-pub record Spells (line : List ℕ) (statement : Statement) : Type 0 where
-  pub most : length line ≤ 512
-  pub states : States line statement
-
--- The line is skipped: at most 512 bytes that are nothing but blanks, or begin with a number sign.
-pub record IsSkipped (line : List ℕ) : Type 0 where
-  pub most : length line ≤ 512
-  pub empty : AreBlanks line ⊎ (slice_index line 0 ≡ 35)
-
--- The line opens a certificate: at most 512 bytes that are its keyword and the number of this version.
-pub record Opens (line : List ℕ) : Type 0 where
-  pub most : length line ≤ 512
-  pub fields : HasFields line (codes "AGSCERT" ∷ codes "1" ∷ [])
-
--- The line opens a certificate of another version: its number has one to six digits.
-pub record OpensAnother (line : List ℕ) : Type 0 where
-  pub most : length line ≤ 512
-  pub version : ℕ
-  pub digits : List ℕ
-  pub is_decimal : IsDecimal 6 digits version
-  pub other : version ≢ 1
-  pub fields : HasFields line (codes "AGSCERT" ∷ digits ∷ [])

@@ -3,6 +3,7 @@ use Rattle.std.specs.Prelude.{◌≡◌, ℕ, ◌<◌, ◌==◌, List, [], ◌�
 use Rattle.std.specs.List.{list_any, filter_map}
 use Rattle.ags_text.specs.Fault.{first_fault}
 use Rattle.ags_text.specs.Line.{lines_of}
+use Rattle.ags_frame.specs.Reading.{statement_of}
 use Rattle.ags_domain.specs.Domain.{IsFull}
 use Rattle.ags_domain.specs.Value.{value_meaning}
 use Rattle.ags_domain.specs.declared.values.Value.{Value}
@@ -20,7 +21,7 @@ use Rattle.ags_certtext.specs.declared.statements.Statement.{Statement}
 use Rattle.ags_certtext.specs.declared.statements.Statement.TheVariants.{Start, Entry as EntryOf, Row as RowOf}
 use Rattle.ags_certtext.specs.declared.statements.Table.TheVariants.{Cell, Init, In, Out, At}
 use Rattle.ags_certtext.specs.Statement.{may_place, entries, value_at}
-use Rattle.ags_certtext.specs.Reading.{Reading, AreReadings, statement_of}
+use Rattle.ags_certtext.specs.Reading.{Reading, AreReadings}
 use Rattle.ags_certtext.specs.Fault.{reading_fault}
 
 -- the location of START, and 4000 octal where there is none

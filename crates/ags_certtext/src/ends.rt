@@ -5,7 +5,7 @@ ghost use Rattle.ags_word.specs.Word.{fits};
 ghost use Rattle.ags_certtext.specs.Spelling.{IsSigned};
 ghost use Rattle.ags_certtext.specs.Front.{IsEnd};
 
-use crate::numbers::read_size;
+use ags_frame::read_size;
 use ags_word::Word;
 
 /// What stands behind a minus, where a text begins with one.

@@ -1,9 +1,10 @@
 //! What the definitions of a certificate's lines mean, over every line.
 
 ghost use Rattle.std.specs.Prelude.{◌≡◌, ℕ, List};
+ghost use Rattle.ags_frame.specs.Line.{Spells};
 ghost use Rattle.ags_certtext.specs.declared.statements.Statement.{Statement};
 ghost use Rattle.ags_certtext.specs.Reading.{Reading, IsFirstReading, IsReading};
-ghost use Rattle.ags_certtext.specs.Spelling.{Spells};
+ghost use Rattle.ags_certtext.specs.Spelling.{States};
 ghost use Rattle.ags_certtext.specs.Statement.{IsStatement};
 
 /// A line has one reading as a certificate's first line, and no other.
@@ -20,5 +21,5 @@ pub fn line_has_one_reading()
 
 /// A statement that a line spells has addresses and locations below 4096, and a row has an index and an indicator.
 pub fn spelled_statements_are_lawful()
-    ensures { (line : List ℕ) (statement : Statement) → Spells line statement → IsStatement statement }
+    ensures { (line : List ℕ) (statement : Statement) → Spells States line statement → IsStatement statement }
 {}

@@ -1,7 +1,7 @@
 //! The text of a certificate (docs/CERTIFICATE.md): what each line states, which text is a certificate for a machine's
-//! registers, and which fault is a text's first. `read_first_line` and `read_line` tell what a line is exactly as
-//! `specs/Spelling` has it: a line has one reading. It stands on `ags_text` for lines, fields and digits, on
-//! `ags_domain` for values, and on `ags_certtype` for certificates.
+//! registers, and which fault is a text's first. `read_first_line`, and `read_line` of `CertLines`, tell what a line is exactly as
+//! `specs/Spelling` has it: a line has one reading. It stands on `ags_frame` for what a certificate shares with other texts, on
+//! `ags_text` for fields and digits, on `ags_domain` for values, and on `ags_certtype` for certificates.
 #![tactic(auto)]
 
 mod cert_error;
@@ -21,6 +21,6 @@ mod word_fields;
 pub use cert_error::{CertError, CertKind};
 pub use kinds::Kind;
 pub use laws::{first_line_has_one_reading, line_has_one_reading, spelled_statements_are_lawful};
-pub use lines::{FirstLine, FurtherLine, read_first_line, read_line};
-pub use numbers::{read_address, read_size, read_word};
+pub use lines::{CertLines, read_first_line};
+pub use numbers::{read_address, read_word};
 pub use statements::{Entry, RowLine, Statement, Table};

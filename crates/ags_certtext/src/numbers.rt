@@ -1,12 +1,9 @@
 //! The numbers of a certificate's lines, which have so many digits and no fewer.
 
 ghost use Rattle.std.specs.Prelude.{◌≡◌, ◌<◌, ℕ, Some, IfSome};
-ghost use Rattle.ags_text.specs.Numeral.{IsDecimal, Writes};
+ghost use Rattle.ags_text.specs.Numeral.{Writes};
 
 use ags_word::Word;
-
-/// The most digits of a decimal number.
-const MOST_DIGITS: usize = 6;
 
 /// The address that four octal digits write, and nothing for any other text.
 pub fn read_address(text: &[u8]) -> Option<u16>
@@ -32,19 +29,4 @@ pub fn read_word(text: &[u8]) -> Option<Word>
         return None;
     }
     Word::read_octal(text)
-}
-
-/// The number that one to six decimal digits write, and nothing for any other text.
-pub fn read_size(text: &[u8]) -> Option<u32>
-    ensures found { IfSome result (λ size. IsDecimal 6 text.now size) }
-    ensures only { (size : ℕ) → IsDecimal 6 text.now size → result ≡ Some size }
-    ensures below { IfSome result (λ size. size < 1000000) }
-{
-    if text.len() > MOST_DIGITS {
-        return None;
-    }
-    let Some(size) = ags_text::read_decimal(text) else {
-        return None;
-    };
-    Some(size)
 }

@@ -1,10 +1,11 @@
 //! Rows worked out by hand from the rules of a certificate's lines: octal numbers are typed as octal.
 
 use ags_certtext::{
-    Entry, FirstLine, FurtherLine, RowLine, Statement, Table, first_line_has_one_reading,
-    line_has_one_reading, read_first_line, read_line, spelled_statements_are_lawful,
+    CertLines, Entry, RowLine, Statement, Table, first_line_has_one_reading, line_has_one_reading,
+    read_first_line, spelled_statements_are_lawful,
 };
 use ags_domain::{Domain, Range, Value, WordSet};
+use ags_frame::{Line, Opening, read_line};
 use ags_word::Word;
 use std::process::Abort;
 
@@ -72,13 +73,13 @@ fn row(location: u16, a: Option<Value>, q: Option<Value>, x: [bool; 8], v: [bool
 }
 
 /// Expects what a line is.
-fn expect_line(rt: &impl Abort, line: &[u8], wanted: FurtherLine) {
-    assert!(rt; read_line(line) == wanted);
+fn expect_line(rt: &impl Abort, line: &[u8], wanted: Line<Statement>) {
+    assert!(rt; read_line::<CertLines>(line) == wanted);
 }
 
 /// Expects the statement of a line.
 fn expect_statement(rt: &impl Abort, line: &[u8], wanted: Statement) {
-    expect_line(rt, line, FurtherLine::Stated(wanted));
+    expect_line(rt, line, Line::Stated(wanted));
 }
 
 /// Expects the entry of a line.
@@ -267,7 +268,7 @@ const MALFORMED: [&[u8]; 64] = [
 #[test]
 fn other_lines_are_malformed(rt: HostRuntime) {
     for line in &MALFORMED {
-        expect_line(&rt, line, FurtherLine::Malformed);
+        expect_line(&rt, line, Line::Malformed);
     }
 }
 
@@ -277,55 +278,55 @@ const SKIPPED: [&[u8]; 6] = [b"", b" ", b"\t", b" \t \t", b"#", b"# END \x00\xff
 #[test]
 fn lines_that_do_nothing_are_skipped(rt: HostRuntime) {
     for line in &SKIPPED {
-        expect_line(&rt, line, FurtherLine::Skipped);
+        expect_line(&rt, line, Line::Skipped);
     }
 }
 
 /// Expects what the first 512 bytes of a line are, which is malformed as a whole.
-fn expect_long(rt: &impl Abort, line: &[u8; 513], wanted: FurtherLine) {
+fn expect_long(rt: &impl Abort, line: &[u8; 513], wanted: Line<Statement>) {
     expect_line(rt, &line[..512], wanted);
-    expect_line(rt, line, FurtherLine::Malformed);
+    expect_line(rt, line, Line::Malformed);
 }
 
 #[test]
 fn long_lines_are_malformed(rt: HostRuntime) {
     let mut bytes = [b' '; 513];
-    expect_long(&rt, &bytes, FurtherLine::Skipped);
+    expect_long(&rt, &bytes, Line::Skipped);
     bytes[0] = b'#';
-    expect_long(&rt, &bytes, FurtherLine::Skipped);
+    expect_long(&rt, &bytes, Line::Skipped);
     bytes[0] = b'E';
     bytes[1] = b'N';
     bytes[2] = b'D';
-    expect_long(&rt, &bytes, FurtherLine::Stated(Statement::End));
+    expect_long(&rt, &bytes, Line::Stated(Statement::End));
 }
 
 /// The rows of `first_lines_are_read`.
-const FIRST_LINES_ARE_READ: [(&[u8], FirstLine); 21] = [
-    (b"AGSCERT 1", FirstLine::Opening),
-    (b"\t AGSCERT \t1 ", FirstLine::Opening),
-    (b"AGSCERT 0", FirstLine::OtherOpening),
-    (b"AGSCERT 3", FirstLine::OtherOpening),
-    (b"AGSCERT 10", FirstLine::OtherOpening),
-    (b"AGSCERT 003", FirstLine::OtherOpening),
-    (b"AGSCERT 999999", FirstLine::OtherOpening),
-    (b"AGSCERT 01", FirstLine::Malformed),
-    (b"AGSCERT 000001", FirstLine::Malformed),
-    (b"AGSCERT 0000002", FirstLine::Malformed),
-    (b"AGSCERT 1000000", FirstLine::Malformed),
-    (b"AGSCERT 1 1", FirstLine::Malformed),
-    (b"AGSCERT 3 ANY", FirstLine::Malformed),
-    (b"AGSCERT", FirstLine::Malformed),
-    (b"AGSCERT -1", FirstLine::Malformed),
-    (b"AGSCERT 1A", FirstLine::Malformed),
-    (b"agscert 1", FirstLine::Malformed),
-    (b"AGSCERT1", FirstLine::Malformed),
-    (b"START 4000", FirstLine::Malformed),
-    (b"# AGSCERT 1", FirstLine::Malformed),
-    (b"", FirstLine::Malformed),
+const FIRST_LINES_ARE_READ: [(&[u8], Opening); 21] = [
+    (b"AGSCERT 1", Opening::Version(1)),
+    (b"\t AGSCERT \t1 ", Opening::Version(1)),
+    (b"AGSCERT 0", Opening::Another),
+    (b"AGSCERT 3", Opening::Another),
+    (b"AGSCERT 10", Opening::Another),
+    (b"AGSCERT 003", Opening::Another),
+    (b"AGSCERT 999999", Opening::Another),
+    (b"AGSCERT 01", Opening::Malformed),
+    (b"AGSCERT 000001", Opening::Malformed),
+    (b"AGSCERT 0000002", Opening::Malformed),
+    (b"AGSCERT 1000000", Opening::Malformed),
+    (b"AGSCERT 1 1", Opening::Malformed),
+    (b"AGSCERT 3 ANY", Opening::Malformed),
+    (b"AGSCERT", Opening::Malformed),
+    (b"AGSCERT -1", Opening::Malformed),
+    (b"AGSCERT 1A", Opening::Malformed),
+    (b"agscert 1", Opening::Malformed),
+    (b"AGSCERT1", Opening::Malformed),
+    (b"START 4000", Opening::Malformed),
+    (b"# AGSCERT 1", Opening::Malformed),
+    (b"", Opening::Malformed),
 ];
 
 /// Expects what a first line is.
-fn expect_first_line(rt: &impl Abort, line: &[u8], wanted: FirstLine) {
+fn expect_first_line(rt: &impl Abort, line: &[u8], wanted: Opening) {
     assert!(rt; read_first_line(line) == wanted);
 }
 
@@ -347,13 +348,15 @@ fn long_first_lines_are_malformed(rt: HostRuntime) {
     bytes[5] = b'R';
     bytes[6] = b'T';
     bytes[8] = b'1';
-    expect_first_line(&rt, &bytes[..512], FirstLine::Opening);
-    expect_first_line(&rt, &bytes, FirstLine::Malformed);
+    expect_first_line(&rt, &bytes[..512], Opening::Version(1));
+    expect_first_line(&rt, &bytes, Opening::Malformed);
 }
 
 #[test]
 fn laws_are_called(_rt: HostRuntime) {
     first_line_has_one_reading();
     line_has_one_reading();
+    ags_frame::first_line_has_one_reading::<CertLines>();
+    ags_frame::line_has_one_reading::<CertLines>();
     spelled_statements_are_lawful();
 }

@@ -1,9 +1,8 @@
 use Rattle.std.proofs.Common.{◌≡◌, ◌∙◌, ap, length, refl, Option}
 use Rattle.ags_domain.specs.declared.values.Value.{Value}
-use Rattle.ags_certtext.specs.declared.statements.Table.TheVariants.{Cell}
 use Rattle.ags_certtext.specs.Fault.{is_full_with, leaves_limit}
-use Rattle.ags_certtext.specs.Statement.{entries, entries_before, value_at}
-use Rattle.ags_certread.specs.Gathering.{gathering_of}
+use Rattle.ags_certtext.specs.Statement.{entries_before}
+use Rattle.ags_certread.specs.Gathering.{gathering_of, stated}
 use Rattle.ags_certread.proofs.FaultLemmas.{full_before, stated_before}
 use Rattle.ags_certread.proofs.gatherer.Gatherer.entry_fault.Goals as goal
 
@@ -13,8 +12,8 @@ returns c = λ before is.
     let table = c.args.table in
     let entry = c.args.entry.now in
     let twice = c.is_stated-twice.ensures ∙ stated_before before g is table entry.address in
-    let limit : c.stated-limit.result ≡ value_at (entries Cell before) entry.address = rw c.as_slice.ensures.value at c.stated-limit.ensures ∙ is.tables.cells.at entry.address in
-    let outside = c.leaves_limit-outside.ensures ∙ ap (λ (l : Option Value). leaves_limit table entry.value l) limit in
+    let leaves : c.leaves_limit-outside.result ≡ leaves_limit table entry.value (stated g.cells entry.address) = rw c.as_slice.ensures.value at c.leaves_limit-outside.ensures in
+    let outside = leaves ∙ ap (λ (l : Option Value). leaves_limit table entry.value l) (is.tables.cells.at entry.address) in
     let full : c.is_full-full.result ≡ is_full_with (length (entries_before table before)) table = rw c.as_slice-2.ensures.value at c.is_full-full.ensures ∙ full_before before g is table in
     rw (c.fault_if.ensures, c.fault_if-fault-5.ensures, c.fault_if-fault-4.ensures, c.fault_if-fault-3.ensures, c.fault_if-fault-2.ensures, c.fault_if-fault.ensures)
     (rw (c.may_stand-misplaced.ensures, twice, outside, c.lacks_word-unmet.ensures, full, c.is_empty.ensures) refl)

@@ -1,6 +1,6 @@
 use Rattle.std.proofs.Common.{arith}
-use Rattle.ags_certtext.proofs.NumberLemmas.{small_decimal, fewer}
-use Rattle.ags_certtext.proofs.numbers.read_size.Goals as goal
+use Rattle.ags_frame.proofs.NumberLemmas.{small_decimal, fewer}
+use Rattle.ags_frame.proofs.numbers.read_size.Goals as goal
 
 pub returns-clause-below : goal.returns-clause-below
 returns-clause-below c = small_decimal c.args.text.now c.in-Some.size (fewer c.args.text.now c.in-Some.size (omega arith) c.in-Some.ensures.found)

@@ -1,7 +1,7 @@
 use Rattle.std.proofs.Common.{◌≡◌, sym, ◌∙◌}
 use Rattle.ags_certtext.proofs.FrontLemmas.{some_also}
 use Rattle.ags_certtext.proofs.StatementLemmas.{operands_state, state_operands}
-use Rattle.ags_certtext.proofs.lines.read_statement.Goals as goal
+use Rattle.ags_certtext.proofs.lines.CertLinesStatements.read_statement.Goals as goal
 
 pub returns-in-Some-clause-found : goal.returns-in-Some-clause-found
 returns-in-Some-clause-found c =

@@ -1,0 +1,5 @@
+-- Each line has one reading.
+pub mod ReadingLaws
+-- What stands below.
+pub mod NumberLemmas
+pub mod OpeningLemmas
