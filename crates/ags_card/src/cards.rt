@@ -1,5 +1,8 @@
 //! Cards, and the faults of a line that is none.
 
+ghost use Rattle.std.specs.Prelude.{◌≡◌};
+ghost use Rattle.ags_card.specs.Spelling.{comment_card};
+
 use crate::names::Name;
 use crate::terms::Terms;
 use ags_decimal::Decimal;
@@ -41,6 +44,18 @@ pub struct Card {
     pub symbol: Option<Name>,
     /// What it asks for.
     pub body: Body,
+}
+
+impl Card {
+    /// The card of a comment.
+    pub fn comment() -> Card
+        ensures { result ≡ comment_card }
+    {
+        Card {
+            symbol: None,
+            body: Body::Comment,
+        }
+    }
 }
 
 /// Why a line is no card (docs/SOURCE.md, Faults). Of several, the first of this list is told.

@@ -1,11 +1,11 @@
 //! The operands of operations, each as what its card asks for.
 
-ghost use Rattle.std.specs.Prelude.{◌≡◌, ◌≤◌, ◌==◌, not, length};
+ghost use Rattle.std.specs.Prelude.{◌≡◌, ◌≤◌, ◌==◌, not, length, Ok, Err, OnOk, IfErr};
 ghost use Rattle.std.specs.List.{list_all};
 ghost use Rattle.ags_card.specs.Reading.{is_indexed, without_index, order_terms, plain_terms, decimal_operand, octal_reading, octal_operand};
 
 use crate::cards::CardFault;
-use crate::expressions::{begins_with_minus, behind_sign, read_expression};
+use crate::expressions::{begins_with_minus, behind_sign};
 use crate::terms::Terms;
 use ags_decimal::Decimal;
 use ags_text::read_octal;
@@ -38,26 +38,25 @@ fn without_index(operand: &[u8]) -> &[u8]
     }
 }
 
-/// The terms of an order's operand.
+/// Reads the terms of an order's operand in place of others.
 #[tactic(auto, unfolding(crate::specs::Reading::order_terms))]
-pub(crate) fn read_order_operand(operand: &[u8]) -> Result<Terms, CardFault>
+pub(crate) fn read_order_operand(operand: &[u8], terms: &mut Terms) -> Result<(), CardFault>
     requires { length operand.now ≤ 120 }
-    ensures { result ≡ order_terms operand.now }
+    ensures read { OnOk result (order_terms operand.now ≡ Ok terms.new) }
+    ensures fault { IfErr result (λ fault. order_terms operand.now ≡ Err fault) }
 {
     if operand.is_empty() {
         return Err(CardFault::MissingOperand);
     }
-    match read_expression(without_index(operand)) {
-        Some(terms) => Ok(terms),
-        None => Err(CardFault::BadExpression),
-    }
+    terms.read(without_index(operand))
 }
 
-/// The terms of the operand of ORG, EQU or BSS.
+/// Reads the terms of the operand of ORG, EQU or BSS in place of others.
 #[tactic(auto, unfolding(crate::specs::Reading::plain_terms))]
-pub(crate) fn read_plain_operand(operand: &[u8]) -> Result<Terms, CardFault>
+pub(crate) fn read_plain_operand(operand: &[u8], terms: &mut Terms) -> Result<(), CardFault>
     requires { length operand.now ≤ 120 }
-    ensures { result ≡ plain_terms operand.now }
+    ensures read { OnOk result (plain_terms operand.now ≡ Ok terms.new) }
+    ensures fault { IfErr result (λ fault. plain_terms operand.now ≡ Err fault) }
 {
     if operand.is_empty() {
         return Err(CardFault::MissingOperand);
@@ -65,10 +64,7 @@ pub(crate) fn read_plain_operand(operand: &[u8]) -> Result<Terms, CardFault>
     if !has_no_comma(operand) {
         return Err(CardFault::ExtraOperand);
     }
-    match read_expression(operand) {
-        Some(terms) => Ok(terms),
-        None => Err(CardFault::BadExpression),
-    }
+    terms.read(operand)
 }
 
 /// The decimal of the operand of DEC.
