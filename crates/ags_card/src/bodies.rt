@@ -1,13 +1,14 @@
-//! What a card asks for, read in place of what another card asked for: a body has room for the terms of the longest operand, and
+//! What a card asks for, read in place of what another card asked for: a body has room for the terms or constants of the longest operand, and
 //! where the new one is of the same kind, that room stays where it is.
 
 ghost use Rattle.std.specs.Prelude.{◌≡◌, ◌≤◌, length, Ok, Err, OnOk, IfErr};
 ghost use Rattle.ags_card.specs.Reading.{body_reading};
-ghost use Rattle.ags_card.specs.declared.operations.Operation.TheVariants.{OfOrder, Org, Equ, Bss, Dec, Oct};
+ghost use Rattle.ags_card.specs.declared.operations.Operation.TheVariants.{OfOrder, Org, Equ, Bss, Bes, Dec, Oct};
 
 use crate::cards::{Body, CardFault};
+use crate::lists::{DecList, OctList};
 use crate::operands::{
-    is_indexed, read_decimal_operand, read_octal_operand, read_order_operand, read_plain_operand,
+    is_indexed, read_decimal_operands, read_octal_operands, read_order_operand, read_plain_operand,
 };
 use crate::operations::{Operation, is_bare};
 use crate::terms::Terms;
@@ -62,7 +63,7 @@ fn read_org(body: &mut Body, operand: &[u8]) -> Result<(), CardFault>
     Ok(())
 }
 
-/// An EQU with its operand.
+/// An EQU or a SYN with its operand.
 fn read_equ(body: &mut Body, operand: &[u8]) -> Result<(), CardFault>
     requires { length operand.now ≤ 120 }
     ensures read { OnOk result (body_reading Equ operand.now ≡ Ok body.new) }
@@ -92,21 +93,48 @@ fn read_bss(body: &mut Body, operand: &[u8]) -> Result<(), CardFault>
     Ok(())
 }
 
-/// A DEC with its operand.
-fn read_dec(body: &mut Body, operand: &[u8]) -> Result<(), CardFault>
-    ensures read { OnOk result (body_reading Dec operand.now ≡ Ok body.new) }
-    ensures fault { IfErr result (λ fault. body_reading Dec operand.now ≡ Err fault) }
+/// A BES with its operand.
+fn read_bes(body: &mut Body, operand: &[u8]) -> Result<(), CardFault>
+    requires { length operand.now ≤ 120 }
+    ensures read { OnOk result (body_reading Bes operand.now ≡ Ok body.new) }
+    ensures fault { IfErr result (λ fault. body_reading Bes operand.now ≡ Err fault) }
 {
-    *body = Body::Dec(read_decimal_operand(operand)?);
+    if let Body::Bes(terms) = body {
+        return read_plain_operand(operand, terms);
+    }
+    let mut terms = Terms::zero();
+    read_plain_operand(operand, &mut terms)?;
+    *body = Body::Bes(terms);
     Ok(())
 }
 
-/// An OCT with its operand.
+/// A DEC with its operands.
+fn read_dec(body: &mut Body, operand: &[u8]) -> Result<(), CardFault>
+    requires { length operand.now ≤ 120 }
+    ensures read { OnOk result (body_reading Dec operand.now ≡ Ok body.new) }
+    ensures fault { IfErr result (λ fault. body_reading Dec operand.now ≡ Err fault) }
+{
+    if let Body::Dec(numbers) = body {
+        return read_decimal_operands(operand, numbers);
+    }
+    let mut numbers = DecList::zero();
+    read_decimal_operands(operand, &mut numbers)?;
+    *body = Body::Dec(numbers);
+    Ok(())
+}
+
+/// An OCT with its operands.
 fn read_oct(body: &mut Body, operand: &[u8]) -> Result<(), CardFault>
+    requires { length operand.now ≤ 120 }
     ensures read { OnOk result (body_reading Oct operand.now ≡ Ok body.new) }
     ensures fault { IfErr result (λ fault. body_reading Oct operand.now ≡ Err fault) }
 {
-    *body = Body::Oct(read_octal_operand(operand)?);
+    if let Body::Oct(words) = body {
+        return read_octal_operands(operand, words);
+    }
+    let mut words = OctList::zero();
+    read_octal_operands(operand, &mut words)?;
+    *body = Body::Oct(words);
     Ok(())
 }
 
@@ -123,8 +151,9 @@ pub(crate) fn read_body(
     match operation {
         Operation::OfOrder(order) => read_order(body, order, operand),
         Operation::Org => read_org(body, operand),
-        Operation::Equ => read_equ(body, operand),
+        Operation::Equ | Operation::Syn => read_equ(body, operand),
         Operation::Bss => read_bss(body, operand),
+        Operation::Bes => read_bes(body, operand),
         Operation::Dec => read_dec(body, operand),
         Operation::Oct => read_oct(body, operand),
         Operation::End => {

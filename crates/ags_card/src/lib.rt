@@ -7,6 +7,7 @@ mod cards;
 mod expressions;
 mod fields;
 mod laws;
+mod lists;
 mod names;
 mod operands;
 mod operations;
@@ -16,6 +17,7 @@ mod terms;
 
 pub use cards::{Body, Card, CardFault};
 pub use laws::symbols_are_capitals_and_digits;
+pub use lists::{DecList, MOST_CONSTANTS, OctList};
 pub use names::Name;
 pub use reading::{is_comment_card, read_card, read_card_into};
 pub use reading_laws::{

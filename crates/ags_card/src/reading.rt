@@ -49,12 +49,19 @@ fn is_equ(operation: &[u8]) -> bool
     operation == b"EQU".as_slice()
 }
 
-/// Whether what stands in the symbol field fits the operation: a symbol, or nothing where the operation isn't EQU.
+/// Whether a text is the name of SYN.
+fn is_syn(operation: &[u8]) -> bool
+    ensures { result ≡ pointwise nat_eq operation.now (codes "SYN") }
+{
+    operation == b"SYN".as_slice()
+}
+
+/// Whether what stands in the symbol field fits the operation: a symbol, or nothing where the operation isn't EQU or SYN.
 fn fits_symbol(symbol: &[u8], operation: &[u8]) -> bool
     ensures { result ≡ fits_symbol symbol.now operation.now }
 {
     if symbol.is_empty() {
-        !is_equ(operation)
+        !(is_equ(operation) || is_syn(operation))
     } else {
         is_symbol(symbol)
     }
