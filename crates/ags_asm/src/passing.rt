@@ -11,7 +11,7 @@ ghost use Rattle.ags_card.specs.Spelling.{comment_card};
 ghost use Rattle.ags_asm.specs.Source.{IsRefused};
 
 use crate::half_words::HalfWords;
-use ags_card::{Card, is_comment_card, read_card};
+use ags_card::{Card, is_comment_card, read_card_into};
 use ags_isa::Codes;
 use ags_places::{
     AssembleError, Placed, SOURCE_LIMIT, SourceError, Stop, is_end, kind_of, place_card,
@@ -100,8 +100,14 @@ impl Pass {
         Ok(())
     }
 
-    /// Reads the next line and takes its card: whether that ends the source.
-    fn read(&mut self, codes: &Codes, line: Line<'_>, number: u32) -> Result<bool, AssembleError>
+    /// Reads the next line in place of the card before and takes its card: whether that ends the source.
+    fn read(
+        &mut self,
+        codes: &Codes,
+        line: Line<'_>,
+        number: u32,
+        card: &mut Card,
+    ) -> Result<bool, AssembleError>
         requires line { line.start + length line.bytes.now < 2 ^ 32 }
         requires within { IsWithinLimits self.old }
         requires positive { 0 < number }
@@ -109,9 +115,9 @@ impl Pass {
         ensures within { OnOk result (IsWithinLimits self.new) }
         ensures misread { IfErr result (IsMisread (line_at line.entry) number) }
     {
-        match read_card(line.bytes) {
-            Ok(card) => {
-                self.take(codes, line, number, &card)?;
+        match read_card_into(card, line.bytes) {
+            Ok(()) => {
+                self.take(codes, line, number, card)?;
                 Ok(is_end(&card.body))
             }
             Err(fault) => {
@@ -129,6 +135,7 @@ pub(crate) fn read_cards(codes: &Codes, bytes: &[u8], pass: &mut Pass) -> Result
     ensures passed { OnOk result (IsPassed codes.now bytes.now pass.new) }
     ensures refused { IfErr result (IsRefused bytes.now) }
 {
+    let mut card = Card::comment();
     let mut number: u32 = 0;
     for line in Lines::of(bytes) {
         number += 1;
@@ -136,7 +143,7 @@ pub(crate) fn read_cards(codes: &Codes, bytes: &[u8], pass: &mut Pass) -> Result
             pass.take_comment(line)?;
             continue;
         }
-        if pass.read(codes, line, number)? {
+        if pass.read(codes, line, number, &mut card)? {
             return Ok(());
         }
     }

@@ -12,7 +12,7 @@ use Rattle.ags_card.specs.declared.terms.Term.{Term}
 use Rattle.ags_card.specs.Operation.{is_bare}
 use Rattle.ags_card.specs.Term.{zero_terms}
 use Rattle.ags_card.specs.Spelling.{IsWritten, IsOrder, IsOrderOperand}
-use Rattle.ags_card.specs.Reading.{is_indexed, order_terms, plain_terms, decimal_operand, octal_operand, body_reading, mapped}
+use Rattle.ags_card.specs.Reading.{is_indexed, order_terms, plain_terms, decimal_operands, octal_operands, body_reading, mapped}
 use Rattle.ags_card.proofs.ResultLemmas.{mapped_ok}
 use Rattle.ags_card.proofs.OperandLaws.{order_spelled, order_read, plain_spelled, plain_read, decimal_spelled, decimal_read, octal_spelled, octal_read}
 
@@ -55,10 +55,12 @@ order_written order operand asked is =
 pub body_spelled : (operation : Operation) (operand : List ℕ) (asked : Body) → body_reading operation operand ≡ Ok asked → BodyIsWritten asked operation operand
 body_spelled (op.OfOrder order) operand asked is = order_written order operand asked is
 body_spelled op.Org operand asked is = one_written body.Org op.Org operand (plain_terms operand) asked is (plain_spelled operand) (λ terms spells. (refl, (operand, refl, spells)))
-body_spelled op.Equ operand asked is = one_written body.Equ op.Equ operand (plain_terms operand) asked is (plain_spelled operand) (λ terms spells. (refl, (operand, refl, spells)))
+body_spelled op.Equ operand asked is = one_written body.Equ op.Equ operand (plain_terms operand) asked is (plain_spelled operand) (λ terms spells. (inl refl, (operand, refl, spells)))
+body_spelled op.Syn operand asked is = one_written body.Equ op.Syn operand (plain_terms operand) asked is (plain_spelled operand) (λ terms spells. (inr refl, (operand, refl, spells)))
 body_spelled op.Bss operand asked is = one_written body.Bss op.Bss operand (plain_terms operand) asked is (plain_spelled operand) (λ terms spells. (refl, (operand, refl, spells)))
-body_spelled op.Dec operand asked is = one_written body.Dec op.Dec operand (decimal_operand operand) asked is (decimal_spelled operand) (λ number spells. (refl, (operand, refl, spells)))
-body_spelled op.Oct operand asked is = one_written body.Oct op.Oct operand (octal_operand operand) asked is (octal_spelled operand) (λ word spells. (refl, (operand, refl, spells)))
+body_spelled op.Bes operand asked is = one_written body.Bes op.Bes operand (plain_terms operand) asked is (plain_spelled operand) (λ terms spells. (refl, (operand, refl, spells)))
+body_spelled op.Dec operand asked is = one_written body.Dec op.Dec operand (decimal_operands operand) asked is (decimal_spelled operand) (λ numbers spells. (refl, (operand, refl, spells)))
+body_spelled op.Oct operand asked is = one_written body.Oct op.Oct operand (octal_operands operand) asked is (octal_spelled operand) (λ words spells. (refl, (operand, refl, spells)))
 body_spelled op.End operand asked is =
     let same : asked ≡ body.End = (cc) in
     rw same (record { operands = []; written = (refl, refl); stands = inl refl })
@@ -85,8 +87,14 @@ pub body_read : (asked : Body) (operation : Operation) (operands : List (List �
 body_read body.Comment operation operands operand is first = absurd is
 body_read (body.Order order terms indexed) operation operands operand is first = rw (is.0) (order_is_read (is_bare order) order terms indexed operands operand refl is.1 first)
 body_read (body.Org terms) operation operands operand is first = rw (is.0, first_is operands is.1.0 operand is.1.1 first, plain_read is.1.0 terms is.1.2) refl
-body_read (body.Equ terms) operation operands operand is first = rw (is.0, first_is operands is.1.0 operand is.1.1 first, plain_read is.1.0 terms is.1.2) refl
+body_read (body.Equ terms) operation operands operand is first =
+    let read = first_is operands is.1.0 operand is.1.1 first in
+    elim (is.0) [
+      | inl equ ↦ rw (equ, read, plain_read is.1.0 terms is.1.2) refl
+      | inr syn ↦ rw (syn, read, plain_read is.1.0 terms is.1.2) refl
+    ]
 body_read (body.Bss terms) operation operands operand is first = rw (is.0, first_is operands is.1.0 operand is.1.1 first, plain_read is.1.0 terms is.1.2) refl
-body_read (body.Dec number) operation operands operand is first = rw (is.0, first_is operands is.1.0 operand is.1.1 first, decimal_read is.1.0 number is.1.2) refl
-body_read (body.Oct word) operation operands operand is first = rw (is.0, first_is operands is.1.0 operand is.1.1 first, octal_read is.1.0 word is.1.2) refl
+body_read (body.Bes terms) operation operands operand is first = rw (is.0, first_is operands is.1.0 operand is.1.1 first, plain_read is.1.0 terms is.1.2) refl
+body_read (body.Dec numbers) operation operands operand is first = rw (is.0, first_is operands is.1.0 operand is.1.1 first, decimal_read is.1.0 numbers is.1.2) refl
+body_read (body.Oct words) operation operands operand is first = rw (is.0, first_is operands is.1.0 operand is.1.1 first, octal_read is.1.0 words is.1.2) refl
 body_read body.End operation operands operand is first = rw (is.0) refl

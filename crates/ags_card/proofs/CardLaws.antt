@@ -14,13 +14,13 @@ use Rattle.ags_card.specs.declared.cards.Body.{Body}
 use Rattle.ags_card.specs.declared.cards.CardFault.TheVariants.{BadByte, LongCard, BadSymbol}
 use Rattle.ags_card.specs.declared.operations.Operation.{Operation}
 use Rattle.ags_card.specs.declared.operations.Operation.TheVariants as op
-use Rattle.ags_card.specs.Operation.{operation_name, operation_named}
+use Rattle.ags_card.specs.Operation.{operation_name, operation_named, gives_value}
 use Rattle.ags_card.specs.Symbol.{is_capital, is_symbol}
 use Rattle.ags_card.specs.Spelling.{is_allowed, IsComment, comment_card, HasCardFields, FitsSymbol, WritesCard, Spells}
 use Rattle.ags_card.specs.Reading.{body_reading, fits_symbol, symbol_of, operation_reading, fields_reading, symbol_field, operation_field, operand_field, is_comment, reading}
 use Rattle.ags_card.proofs.ByteLemmas.{first_by}
 use Rattle.ags_card.proofs.SymbolLemmas.{is_symbol-IsSymbol, IsSymbol-is_symbol}
-use Rattle.ags_card.proofs.OperationLemmas.{named_name, name_named, name_some}
+use Rattle.ags_card.proofs.OperationLemmas.{named_name, name_named, name_some, not_value, other_named}
 use Rattle.ags_card.proofs.ResultLemmas.{checked_ok, mapped_ok}
 use Rattle.ags_card.proofs.FieldLemmas.{card_fields, first_field, second_field, cut_read, fields_read, not_blank}
 use Rattle.ags_card.proofs.BodyLaws.{Stands, BodyIsWritten, body_spelled, IsFirst, body_read}
@@ -63,10 +63,7 @@ pub empty_of_length : (symbol : List ℕ) → (length symbol == 0) ≡ true → 
 empty_of_length [] is = refl
 empty_of_length (b ∷ symbol) is = absurd (grind (arith, nat_tests))
 
-not_equ : (operation : Operation) → not (pointwise nat_eq (operation_name operation) (codes "EQU")) ≡ true → operation ≢ op.Equ
-not_equ operation is same = true≢false (sym is ∙ ap (λ o. not (pointwise nat_eq (operation_name o) (codes "EQU"))) same)
-
-no_symbol : (operation : Operation) → operation ≢ op.Equ → FitsField [] operation
+no_symbol : (operation : Operation) → gives_value operation ≡ false → FitsField [] operation
 unfolding is_symbol
 no_symbol operation other = record { same = refl; fits = other }
 
@@ -75,7 +72,7 @@ fits_field symbol operation fits =
     elim (cases_Bool (length symbol == 0)) [
       | inl none ↦
           let empty = empty_of_length symbol none in
-          let other = not_equ operation (rw none at fits) in
+          let other = not_value operation (rw none at fits) in
           rw empty (no_symbol operation other)
       | inr some ↦
           let is : is_symbol symbol ≡ true = rw some at fits in
@@ -193,19 +190,11 @@ no_comment line card writes =
     (no_asterisk card.symbol writes.operation line (operation_name writes.operation) (writes.operands ++ writes.remark) writes.fits writes.fields)
     (false_from_ne_true (list_all is_blank line) (not_blank line (unwrap_or card.symbol []) (operation_name writes.operation) (writes.operands ++ writes.remark) writes.fields))
 
--- the name of no other operation is that of EQU
-other_name : (operation : Operation) → operation ≢ op.Equ → pointwise nat_eq (operation_name operation) (codes "EQU") ≡ false
-other_name operation other =
-    false_from_ne_true (pointwise nat_eq (operation_name operation) (codes "EQU")) (λ is.
-    let name : operation_name operation ≡ codes "EQU" = same_text (operation_name operation) (codes "EQU") (sym is) in
-    let found : Some operation ≡ Some op.Equ = sym (name_named operation) ∙ ap operation_named name ∙ name_named op.Equ in
-    other (cc))
-
 pub some_not_zero : (symbol : List ℕ) → 0 < length symbol → (length symbol == 0) ≡ false
 some_not_zero symbol some = ne_eqb (length symbol) 0 (λ none. omega (arith, some, none))
 
 field_fits : (symbol : Option (List ℕ)) (operation : Operation) → FitsSymbol symbol operation → fits_symbol (unwrap_or symbol []) (operation_name operation) ≡ true
-field_fits None operation fits = rw (other_name operation fits) refl
+field_fits None operation fits = rw (other_named operation fits) refl
 field_fits (Some symbol) operation fits = rw (some_not_zero symbol fits.some, IsSymbol-is_symbol symbol fits) refl
 
 symbol_of_field : (symbol : Option (List ℕ)) (operation : Operation) → FitsSymbol symbol operation → symbol_of (unwrap_or symbol []) ≡ symbol

@@ -23,13 +23,14 @@ use Rattle.ags_card.specs.declared.terms.Term.{Term}
 use Rattle.ags_card.specs.Operation.{operation_name, operation_named, is_bare, takes_operand}
 use Rattle.ags_card.specs.Symbol.{is_symbol}
 use Rattle.ags_card.specs.Spelling.{is_allowed, Holds, IsExpression, IsOrder, IsOrderOperand, IsOctalOperand, IsWritten, IsComment, Spells, IsFaulty, IsBadSymbol, HasNoOperation, HasNoOperand, HasOperand, HasComma, IsNoExpression, IsNoDecimal, IsNoOctal, HasFault, fault_number, IsLeastFault}
-use Rattle.ags_card.specs.Reading.{one_operand, expression_reading, is_indexed, without_index, order_terms, plain_terms, decimal_operand, octal_reading, octal_operand, body_reading, fits_symbol, symbol_of, operation_reading, fields_reading, symbol_field, operation_field, operand_field, is_comment, reading}
+use Rattle.ags_card.specs.Reading.{some_operand, one_operand, expression_reading, is_indexed, without_index, order_terms, plain_terms, decimal_operands, octal_reading, octal_operands, list_reading, body_reading, fits_symbol, symbol_of, operation_reading, fields_reading, symbol_field, operation_field, operand_field, is_comment, reading}
 use Rattle.ags_card.proofs.ByteLemmas.{fails_not_all}
 use Rattle.ags_card.proofs.SymbolLemmas.{is_symbol-IsSymbol}
-use Rattle.ags_card.proofs.OperationLemmas.{named_name, name_named, name_some}
+use Rattle.ags_card.proofs.OperationLemmas.{named_name, name_named, name_some, value_named}
 use Rattle.ags_card.proofs.ResultLemmas.{none_found, AtMost, at_most_checked, at_most_failed, at_most_mapped, at_most_none, at_most-ok, at_most-err}
 use Rattle.ags_card.proofs.ExpressionLaws.{expression_spelled}
-use Rattle.ags_card.proofs.OperandLaws.{is_no_comma, marked, octal_spells}
+use Rattle.ags_card.proofs.ListLaws.{is_no_comma, fails_list}
+use Rattle.ags_card.proofs.OperandLaws.{marked, octal_spells}
 use Rattle.ags_card.proofs.FieldLemmas.{first_field, second_field, fields_read}
 use Rattle.ags_card.proofs.CardLaws.{first_some, comment_is, some_not_zero, reading-spells, spelled-reading}
 use Rattle.ags_card.proofs.ToldFaultLaws.{told_fault}
@@ -56,24 +57,28 @@ not_bare true is = sym is
 not_bare false is = refl
 
 body_missing : (operation : Operation) → takes_operand operation ≡ true → AtMost 5 (body_reading operation [])
-unfolding plain_terms decimal_operand octal_operand order_terms
+unfolding plain_terms decimal_operands octal_operands order_terms
 body_missing (op.OfOrder order) takes =
     rw (not_bare (is_bare order) takes) (at_most_mapped 5 (λ terms. body.Order order terms (is_indexed [])) (order_terms []) (missing_at_most (order_terms []) refl))
 body_missing op.Org takes = at_most_mapped 5 body.Org (plain_terms []) (missing_at_most (plain_terms []) refl)
 body_missing op.Equ takes = at_most_mapped 5 body.Equ (plain_terms []) (missing_at_most (plain_terms []) refl)
+body_missing op.Syn takes = at_most_mapped 5 body.Equ (plain_terms []) (missing_at_most (plain_terms []) refl)
 body_missing op.Bss takes = at_most_mapped 5 body.Bss (plain_terms []) (missing_at_most (plain_terms []) refl)
-body_missing op.Dec takes = at_most_mapped 5 body.Dec (decimal_operand []) (missing_at_most (decimal_operand []) refl)
-body_missing op.Oct takes = at_most_mapped 5 body.Oct (octal_operand []) (missing_at_most (octal_operand []) refl)
+body_missing op.Bes takes = at_most_mapped 5 body.Bes (plain_terms []) (missing_at_most (plain_terms []) refl)
+body_missing op.Dec takes = at_most_mapped 5 body.Dec (decimal_operands []) (missing_at_most (decimal_operands []) refl)
+body_missing op.Oct takes = at_most_mapped 5 body.Oct (octal_operands []) (missing_at_most (octal_operands []) refl)
 body_missing op.End takes = absurd (true≢false (sym takes))
 
 body_comma : (operation : Operation) (operand : List ℕ) → HasComma operation operand → AtMost 6 (body_reading operation operand)
-unfolding plain_terms decimal_operand octal_operand
+unfolding plain_terms
 body_comma (op.OfOrder order) operand comma = absurd (true≢false (sym comma.0))
 body_comma op.Org operand comma = at_most_mapped 6 body.Org (plain_terms operand) (one_comma operand _ comma.1)
 body_comma op.Equ operand comma = at_most_mapped 6 body.Equ (plain_terms operand) (one_comma operand _ comma.1)
+body_comma op.Syn operand comma = at_most_mapped 6 body.Equ (plain_terms operand) (one_comma operand _ comma.1)
 body_comma op.Bss operand comma = at_most_mapped 6 body.Bss (plain_terms operand) (one_comma operand _ comma.1)
-body_comma op.Dec operand comma = at_most_mapped 6 body.Dec (decimal_operand operand) (one_comma operand _ comma.1)
-body_comma op.Oct operand comma = at_most_mapped 6 body.Oct (octal_operand operand) (one_comma operand _ comma.1)
+body_comma op.Bes operand comma = at_most_mapped 6 body.Bes (plain_terms operand) (one_comma operand _ comma.1)
+body_comma op.Dec operand comma = absurd (true≢false (sym comma.0))
+body_comma op.Oct operand comma = absurd (true≢false (sym comma.0))
 body_comma op.End operand comma = absurd (true≢false (sym comma.0))
 
 -- no terms are read of an operand that writes none
@@ -102,29 +107,39 @@ body_no_expression (op.OfOrder order) operand is =
 body_no_expression op.Org operand is =
     at_most_mapped 7 body.Org (plain_terms operand) (one_none 7 operand (expression_reading operand) BadExpression (omega arith) (omega arith) (no_terms operand (λ terms written. is.1 (body.Org terms) (refl, (operand, refl, written)))))
 body_no_expression op.Equ operand is =
-    at_most_mapped 7 body.Equ (plain_terms operand) (one_none 7 operand (expression_reading operand) BadExpression (omega arith) (omega arith) (no_terms operand (λ terms written. is.1 (body.Equ terms) (refl, (operand, refl, written)))))
+    at_most_mapped 7 body.Equ (plain_terms operand) (one_none 7 operand (expression_reading operand) BadExpression (omega arith) (omega arith) (no_terms operand (λ terms written. is.1 (body.Equ terms) (inl refl, (operand, refl, written)))))
+body_no_expression op.Syn operand is =
+    at_most_mapped 7 body.Equ (plain_terms operand) (one_none 7 operand (expression_reading operand) BadExpression (omega arith) (omega arith) (no_terms operand (λ terms written. is.1 (body.Equ terms) (inr refl, (operand, refl, written)))))
 body_no_expression op.Bss operand is =
     at_most_mapped 7 body.Bss (plain_terms operand) (one_none 7 operand (expression_reading operand) BadExpression (omega arith) (omega arith) (no_terms operand (λ terms written. is.1 (body.Bss terms) (refl, (operand, refl, written)))))
+body_no_expression op.Bes operand is =
+    at_most_mapped 7 body.Bes (plain_terms operand) (one_none 7 operand (expression_reading operand) BadExpression (omega arith) (omega arith) (no_terms operand (λ terms written. is.1 (body.Bes terms) (refl, (operand, refl, written)))))
 body_no_expression op.Dec operand is = absurd (true≢false (sym is.0))
 body_no_expression op.Oct operand is = absurd (true≢false (sym is.0))
 body_no_expression op.End operand is = absurd (true≢false (sym is.0))
 
+-- an operand that must be there, of which nothing is read
+some_none : {T : Type 0} (number : ℕ) (operand : List ℕ) (found : Option T) (fault : CardFault) → 5 ≤ number → fault_number fault ≤ number → found ≡ None → AtMost number (some_operand operand (ok_or found fault))
+some_none number operand found fault much less none =
+    at_most_checked number (nat_lt 0 (length operand)) MissingOperand (ok_or found fault) much (λ some. at_most_none number found fault less none)
+
 body_no_decimal : (operation : Operation) (operand : List ℕ) → IsNoDecimal operation operand → AtMost 8 (body_reading operation operand)
-unfolding decimal_operand
+unfolding decimal_operands
 body_no_decimal operation operand is =
+    let none = none_found (decimal_spelling.Spells is.1) (decimal.reading is.1) (decimal_laws.reading-spells is.1) is.3 in
     rw (is.0) (
-    at_most_mapped 8 body.Dec (decimal_operand operand) (
-    one_none 8 operand (decimal.reading operand) BadDecimal (omega arith) (omega arith)
-    (none_found (decimal_spelling.Spells operand) (decimal.reading operand) (decimal_laws.reading-spells operand) is.1)
+    at_most_mapped 8 body.Dec (decimal_operands operand) (
+    some_none 8 operand (list_reading decimal.reading [] operand) BadDecimal (omega arith) (omega arith) (fails_list decimal.reading operand is.1 is.2 none)
     )
     )
 
 body_no_octal : (operation : Operation) (operand : List ℕ) → IsNoOctal operation operand → AtMost 9 (body_reading operation operand)
-unfolding octal_operand
+unfolding octal_operands
 body_no_octal operation operand is =
+    let none = none_found (IsOctalOperand is.1) (octal_reading is.1) (octal_spells is.1) is.3 in
     rw (is.0) (
-    at_most_mapped 9 body.Oct (octal_operand operand) (
-    one_none 9 operand (octal_reading operand) BadOctal (omega arith) (omega arith) (none_found (IsOctalOperand operand) (octal_reading operand) (octal_spells operand) is.1)
+    at_most_mapped 9 body.Oct (octal_operands operand) (
+    some_none 9 operand (list_reading octal_reading [] operand) BadOctal (omega arith) (omega arith) (fails_list octal_reading operand is.1 is.2 none)
     )
     )
 
@@ -145,7 +160,7 @@ fields_at_most number symbol operation operand much most =
 
 symbol_not_fits : (symbol : List ℕ) (fields : List (List ℕ)) → IsBadSymbol symbol fields → fits_symbol symbol (first_field fields) ≡ false
 symbol_not_fits symbol fields (inl bad) = rw (some_not_zero symbol bad.0) (false_from_ne_true (is_symbol symbol) (λ is. bad.1 (is_symbol-IsSymbol symbol is)))
-symbol_not_fits symbol fields (inr equ) = rw (equ.0, equ.2) refl
+symbol_not_fits symbol fields (inr value) = rw (value.0, value.4, value_named value.1 value.2) refl
 
 symbol_at_most : (symbol operand : List ℕ) (fields : List (List ℕ)) → IsBadSymbol symbol fields → AtMost 3 (fields_reading symbol (first_field fields) operand)
 unfolding fields_reading

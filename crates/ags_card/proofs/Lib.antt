@@ -5,6 +5,7 @@ pub mod ExpressionLaws
 pub mod FieldLemmas
 pub mod LeastFaultLaws
 pub mod LimitLaws
+pub mod ListLaws
 pub mod NumberLemmas
 pub mod OperandLaws
 pub mod OperationLemmas

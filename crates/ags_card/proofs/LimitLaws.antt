@@ -2,12 +2,15 @@
 --
 -- The lemmas that the crates above may cite, each of them behind a clause of `reading_laws.rt`: card_limits,
 -- card_symbol, equ_has_symbol, comment_no_symbol and bare_order.
-use Rattle.std.proofs.Common.{◌≡◌, ℕ, ◌+◌, ◌*◌, ◌^◌, ◌<◌, ◌≤◌, Bool, true, false, List, [], ◌∷◌, ◌++◌, length, Option, Some, None, unwrap_or, refl, sym, ap, ◌∙◌, inl, inr, arith}
+use Rattle.std.proofs.Common.{◌≡◌, ℕ, ◌+◌, ◌*◌, ◌^◌, ◌<◌, ◌≤◌, Bool, true, false, List, [], ◌∷◌, ◌++◌, length, Option, Some, None, unwrap_or, refl, sym, ap, ◌∙◌, ◌⊎◌, inl, inr, arith}
 use Rattle.std.specs.Prelude.{All, IfSome, IsSome, Ok, neg_ℤ, pos}
+use Rattle.std.proofs.lemmas.Bool.{true≢false}
 use Rattle.std.proofs.lemmas.List.{length-append}
 use Rattle.std.proofs.lemmas.List.Elements.{All-nil, All-cons}
 use Rattle.ags_text.proofs.NumberLaws.{number_below}
 use Rattle.ags_word.proofs.WordLaws.{wrap_below}
+use Rattle.ags_decimal.specs.Decimal.{IsWithinLimits}
+use Rattle.ags_decimal.specs.Spelling.{Spells}
 use Rattle.ags_isa.specs.declared.orders.Order.{Order}
 use Rattle.ags_card.specs.declared.cards.Card.{Card}
 use Rattle.ags_card.specs.declared.cards.Body.{Body}
@@ -17,7 +20,7 @@ use Rattle.ags_card.specs.declared.operations.Operation.TheVariants as op
 use Rattle.ags_card.specs.declared.terms.Atom.{Atom}
 use Rattle.ags_card.specs.declared.terms.Atom.TheVariants.{Number, Here, Symbol}
 use Rattle.ags_card.specs.declared.terms.Term.{Term}
-use Rattle.ags_card.specs.Operation.{operation_name, is_bare}
+use Rattle.ags_card.specs.Operation.{operation_name, gives_value, is_bare}
 use Rattle.ags_card.specs.Symbol.{IsSymbol}
 use Rattle.ags_card.specs.Term.{HasSmallNumber, AreTerms, zero_terms}
 use Rattle.ags_card.specs.Limit.{KeepsLimits}
@@ -26,6 +29,8 @@ use Rattle.ags_card.specs.Reading.{operand_field, reading}
 use Rattle.ags_card.proofs.NumberLemmas.{small_decimal}
 use Rattle.ags_card.proofs.TermLemmas.{operand_short}
 use Rattle.ags_card.proofs.ExpressionLaws.{atom_some}
+use Rattle.ags_card.proofs.ListLaws.{list_few, list_some, list_each}
+use Rattle.ags_card.proofs.OperandLaws.{decimal_length, octal_some}
 use Rattle.ags_card.proofs.FieldLemmas.{fields_read}
 use Rattle.ags_card.proofs.CardLaws.{reading-spells}
 
@@ -87,8 +92,13 @@ body_limits (body.Order order terms indexed) operation operands short is = order
 body_limits (body.Org terms) operation operands short is = terms_of is.1.0 terms (short is.1.0 is.1.1) is.1.2
 body_limits (body.Equ terms) operation operands short is = terms_of is.1.0 terms (short is.1.0 is.1.1) is.1.2
 body_limits (body.Bss terms) operation operands short is = terms_of is.1.0 terms (short is.1.0 is.1.1) is.1.2
-body_limits (body.Dec number) operation operands short is = is.1.2.limits
-body_limits (body.Oct word) operation operands short is = octal_word is.1.0 word is.1.2
+body_limits (body.Bes terms) operation operands short is = terms_of is.1.0 terms (short is.1.0 is.1.1) is.1.2
+body_limits (body.Dec numbers) operation operands short is =
+    let few = list_few Spells decimal_length numbers is.1.0 is.1.2 in
+    (record { some = list_some Spells numbers is.1.0 is.1.2; most = omega (arith, few, short is.1.0 is.1.1) }, list_each Spells IsWithinLimits (λ text number spells. spells.limits) numbers is.1.0 is.1.2)
+body_limits (body.Oct words) operation operands short is =
+    let few = list_few IsOctalOperand octal_some words is.1.0 is.1.2 in
+    (record { some = list_some IsOctalOperand words is.1.0 is.1.2; most = omega (arith, few, short is.1.0 is.1.1) }, list_each IsOctalOperand (λ word. word < 2 ^ 18) octal_word words is.1.0 is.1.2)
 body_limits body.End operation operands short is = tt
 
 -- the operand of a card is no longer than its line
@@ -117,16 +127,21 @@ card_symbol line card is =
       | inr writes ↦ symbol_is card.symbol writes.operation writes.fits
     ]
 
-equ_symbol : (symbol : Option (List ℕ)) (operation : Operation) → FitsSymbol symbol operation → operation ≡ op.Equ → IsSome symbol
-equ_symbol None operation fits is = absurd (fits is)
+equ_symbol : (symbol : Option (List ℕ)) (operation : Operation) → FitsSymbol symbol operation → gives_value operation ≡ true → IsSome symbol
+equ_symbol None operation fits is = absurd (true≢false (sym is ∙ fits))
 equ_symbol (Some symbol) operation fits is = refl
 
 pub equ_has_symbol : (line : List ℕ) (card : Card) (terms : List Term) → reading line ≡ Ok card → card.body ≡ body.Equ terms → IsSome card.symbol
 equ_has_symbol line card terms is asks =
     elim ((reading-spells line card is).states) [
       | inl comment ↦ let both : body.Equ terms ≡ body.Comment = sym asks ∙ ap (λ (c : Card). c.body) comment.0 in absurd (cc)
-      | inr writes ↦ let written = rw asks at writes.written in equ_symbol card.symbol writes.operation writes.fits written.0
+      | inr writes ↦ let written = rw asks at writes.written in equ_symbol card.symbol writes.operation writes.fits (gives writes.operation written.0)
     ]
+
+  where
+    gives : (operation : Operation) → (operation ≡ op.Equ) ⊎ (operation ≡ op.Syn) → gives_value operation ≡ true
+    gives operation (inl equ) = rw equ refl
+    gives operation (inr syn) = rw syn refl
 
 pub comment_no_symbol : (line : List ℕ) (card : Card) → reading line ≡ Ok card → card.body ≡ body.Comment → card.symbol ≡ None
 comment_no_symbol line card is asks =

@@ -14,15 +14,12 @@ use Rattle.ags_decimal.specs.Reading.{reading, reading_before_scale, front_at, r
 use Rattle.ags_decimal.specs.Spelling.{is_digit, are_digits, IsSign, IsMarked, IsPointed, Spells}
 use Rattle.ags_decimal.proofs.SpellingLaws.{reading-spells, spelled-reading}
 use Rattle.ags_card.specs.declared.terms.Term.{Term}
-use Rattle.ags_card.specs.Spelling.{IsExpression, IsOrderOperand, signed_word, IsOctalOperand}
-use Rattle.ags_card.specs.Reading.{expression_reading, is_indexed, without_index, order_terms, plain_terms, decimal_operand, octal_reading, octal_operand}
+use Rattle.ags_card.specs.Spelling.{IsExpression, IsOrderOperand, signed_word, IsOctalOperand, IsList}
+use Rattle.ags_card.specs.Reading.{expression_reading, is_indexed, without_index, order_terms, plain_terms, decimal_operands, octal_reading, octal_operands, list_reading}
 use Rattle.ags_card.proofs.ByteLemmas.{list_all-join, list_all-weaken, first_by, is_not, octal_bytes, sign_front, BeginsUnsigned, starts_with_minus-signed, without_leading_sign-signed}
 use Rattle.ags_card.proofs.ExpressionLaws.{expression_spelled, expression_read, expression_no_comma, expression_some}
+use Rattle.ags_card.proofs.ListLaws.{is_no_comma, list_spelled, list_read, list_length}
 use Rattle.ags_card.proofs.ResultLemmas.{checked_ok, ok_or_ok, option_map_some}
-
--- no comma
-abbrev pub is_no_comma : ℕ → Bool
-is_no_comma b = not (b == 44)
 
 -- ---- the mark of the index
 
@@ -152,23 +149,28 @@ decimal_no_comma text parts is =
     let mantissa = list_all-join is_no_comma is.sign is.number sign number in
     rw (is.whole) (list_all-join is_no_comma (is.sign ++ is.number ++ is.exponent_part) is.scale_part (list_all-join is_no_comma (is.sign ++ is.number) is.exponent_part mantissa exponent) scale)
 
-decimal_some : (text : List ℕ) (parts : Parts) → reading text ≡ Some parts → 0 < length text
+pub decimal_some : (text : List ℕ) (parts : Parts) → reading text ≡ Some parts → 0 < length text
 unfolding reading reading_before_scale front_at rest_at marked_reading digits_of behind_sign
 decimal_some [] parts is = let none : ◌≡◌ {A = Option Parts} None (Some parts) = is in absurd (cc)
 decimal_some (b ∷ text) parts is = omega arith
 
-pub decimal_spelled : (operand : List ℕ) (parts : Parts) → decimal_operand operand ≡ Ok parts → (0 < length operand) × Spells operand parts
-unfolding decimal_operand
-decimal_spelled operand parts is =
-    let there = checked_ok (nat_lt 0 (length operand)) _ _ parts is in
-    let alone = checked_ok (list_all is_no_comma operand) _ _ parts there.1 in
-    (ltb-true 0 (length operand) there.0, reading-spells operand parts (ok_or_ok (reading operand) _ parts alone.1))
+pub decimal_finds : (text : List ℕ) (parts : Parts) → Spells text parts → reading text ≡ Some parts
+decimal_finds text parts is = spelled-reading text parts is
 
-pub decimal_read : (operand : List ℕ) (parts : Parts) → Spells operand parts → decimal_operand operand ≡ Ok parts
-unfolding decimal_operand
-decimal_read operand parts is =
-    let found = spelled-reading operand parts is in
-    rw (some_length operand (decimal_some operand parts found), decimal_no_comma operand parts is, found) refl
+pub decimal_length : (text : List ℕ) (parts : Parts) → Spells text parts → 0 < length text
+decimal_length text parts is = decimal_some text parts (spelled-reading text parts is)
+
+pub decimal_spelled : (operand : List ℕ) (numbers : List Parts) → decimal_operands operand ≡ Ok numbers → (0 < length operand) × IsList Spells operand numbers
+unfolding decimal_operands
+decimal_spelled operand numbers is =
+    let there = checked_ok (nat_lt 0 (length operand)) _ _ numbers is in
+    (ltb-true 0 (length operand) there.0, list_spelled reading Spells reading-spells operand numbers (ok_or_ok (list_reading reading [] operand) _ numbers there.1))
+
+pub decimal_read : (operand : List ℕ) (numbers : List Parts) → IsList Spells operand numbers → decimal_operands operand ≡ Ok numbers
+unfolding decimal_operands
+decimal_read operand numbers is =
+    let some = list_length Spells decimal_length numbers operand is in
+    rw (some_length operand some, list_read reading Spells decimal_finds decimal_no_comma numbers operand is) refl
 
 -- ---- octal numbers
 
@@ -188,7 +190,7 @@ octal_spells text word is =
       word_is = found.made;
     }
 
-octal_found : (text : List ℕ) (word : ℕ) → IsOctalOperand text word → octal_reading text ≡ Some word
+pub octal_found : (text : List ℕ) (word : ℕ) → IsOctalOperand text word → octal_reading text ≡ Some word
 unfolding octal_reading
 octal_found text word is =
     let bytes = octal_bytes is.digits is.is_octal.digits.1 in
@@ -203,16 +205,21 @@ octal_no_comma : (text : List ℕ) (word : ℕ) → IsOctalOperand text word →
 octal_no_comma text word is =
     rw (is.whole) (list_all-join is_no_comma is.sign is.digits (sign_no_comma is.negative is.sign is.is_sign) (digits_no_comma is.digits (octal_bytes is.digits is.is_octal.digits.1)))
 
-octal_some : (text : List ℕ) (word : ℕ) → IsOctalOperand text word → 0 < length text
+pub octal_some : (text : List ℕ) (word : ℕ) → IsOctalOperand text word → 0 < length text
 octal_some text word is = let long = length-append is.sign is.digits in rw (is.whole) (omega (arith, long, is.is_octal.digits.0))
 
-pub octal_spelled : (operand : List ℕ) (word : ℕ) → octal_operand operand ≡ Ok word → (0 < length operand) × IsOctalOperand operand word
-unfolding octal_operand
-octal_spelled operand word is =
-    let there = checked_ok (nat_lt 0 (length operand)) _ _ word is in
-    let alone = checked_ok (list_all is_no_comma operand) _ _ word there.1 in
-    (ltb-true 0 (length operand) there.0, octal_spells operand word (ok_or_ok (octal_reading operand) _ word alone.1))
+pub octal_spelled : (operand words : List ℕ) → octal_operands operand ≡ Ok words → (0 < length operand) × IsList IsOctalOperand operand words
+unfolding octal_operands
+octal_spelled operand words is =
+    let there = checked_ok (nat_lt 0 (length operand)) _ _ words is in
+    (ltb-true 0 (length operand) there.0, list_spelled octal_reading IsOctalOperand octal_spells operand words (ok_or_ok (list_reading octal_reading [] operand) _ words there.1))
 
-pub octal_read : (operand : List ℕ) (word : ℕ) → IsOctalOperand operand word → octal_operand operand ≡ Ok word
-unfolding octal_operand
-octal_read operand word is = rw (some_length operand (octal_some operand word is), octal_no_comma operand word is, octal_found operand word is) refl
+pub octal_read : (operand words : List ℕ) → IsList IsOctalOperand operand words → octal_operands operand ≡ Ok words
+unfolding octal_operands
+octal_read operand words is =
+    let some = list_length IsOctalOperand octal_some words operand is in
+    rw (some_length operand some, list_read octal_reading IsOctalOperand octal_found octal_no_comma words operand is) refl
+
+-- no text of nothing is an octal number
+pub octal_there : (text : List ℕ) (word : ℕ) → octal_reading text ≡ Some word → 0 < length text
+octal_there text word is = octal_some text word (octal_spells text word is)

@@ -1,16 +1,17 @@
 -- Operations and their names.
-use Rattle.std.proofs.Common.{◌≡◌, ℕ, ◌<◌, length, Bool, true, List, [], ◌∷◌, Option, Some, None, refl, sym, ap, ◌∙◌, nat_eq, inl, inr}
+use Rattle.std.proofs.Common.{◌≡◌, ℕ, ◌<◌, length, Bool, true, false, not, List, [], ◌∷◌, Option, Some, None, refl, sym, ap, ◌∙◌, nat_eq, codes, inl, inr}
 use Rattle.std.specs.Prelude.{IfSome}
 use Rattle.std.specs.List.{find}
 use Rattle.std.specs.Cmp.Lexicographic.{pointwise, same_text}
-use Rattle.std.proofs.lemmas.Bool.{cases_Bool}
+use Rattle.std.proofs.lemmas.Bool.{cases_Bool, or_from, true≢false, false_from_ne_true}
 use Rattle.ags_text.proofs.Deciding.{same_answer}
 use Rattle.ags_isa.specs.declared.orders.Order.{Order}
 use Rattle.ags_isa.specs.declared.orders.Order.TheVariants.{Abs, Add, Adz, Als, Axt, Cla, Clz, Com, Dly, Dvp, Inp, Ldq, Lls, Lrs, Mpr, Mpy, Mpz, Out, Sto, Stq, Sub, Suz, Tix, Tmi, Tov, Tra, Tsq}
 use Rattle.ags_isa.specs.Order.{order_name}
 use Rattle.ags_card.specs.declared.operations.Operation.{Operation}
 use Rattle.ags_card.specs.declared.operations.Operation.TheVariants as op
-use Rattle.ags_card.specs.Operation.{operation_name, operation_named, all_operations}
+use Rattle.ags_card.specs.Operation.{operation_name, operation_named, all_operations, gives_value}
+use Rattle.ags_card.specs.Reading.{names_value}
 use Rattle.ags_card.proofs.ByteLemmas.{list_cases}
 
 -- what is found passes the test
@@ -64,7 +65,9 @@ unfolding operation_named
 name_named (op.OfOrder order) = order_named_name order
 name_named op.Org = refl
 name_named op.Equ = refl
+name_named op.Syn = refl
 name_named op.Bss = refl
+name_named op.Bes = refl
 name_named op.Dec = refl
 name_named op.Oct = refl
 name_named op.End = refl
@@ -86,3 +89,34 @@ pub named : (text : List ℕ) (result : Option Operation) → IfSome result (λ 
 named text result found only =
     same_answer (λ operation. operation_name operation ≡ text) result (operation_named text) found only (named_name text)
     (λ operation is. ap operation_named (sym is) ∙ name_named operation)
+
+-- ---- the operations that give a value
+
+-- two operations of one name are one
+pub same_name : (operation other : Operation) → pointwise nat_eq (operation_name operation) (operation_name other) ≡ true → operation ≡ other
+same_name operation other is =
+    let name : operation_name operation ≡ operation_name other = same_text (operation_name operation) (operation_name other) (sym is) in
+    let found : Some operation ≡ Some other = sym (name_named operation) ∙ ap operation_named name ∙ name_named other in
+    (cc)
+
+-- their names are EQU and SYN
+pub value_named : (operation : Operation) → gives_value operation ≡ true → names_value (operation_name operation) ≡ true
+value_named (op.OfOrder order) is = absurd (true≢false (sym is))
+value_named op.Org is = absurd (true≢false (sym is))
+value_named op.Equ is = refl
+value_named op.Syn is = refl
+value_named op.Bss is = absurd (true≢false (sym is))
+value_named op.Bes is = absurd (true≢false (sym is))
+value_named op.Dec is = absurd (true≢false (sym is))
+value_named op.Oct is = absurd (true≢false (sym is))
+value_named op.End is = absurd (true≢false (sym is))
+
+-- and no other one's is
+pub other_named : (operation : Operation) → gives_value operation ≡ false → names_value (operation_name operation) ≡ false
+other_named operation other =
+    or_from (pointwise nat_eq (operation_name operation) (codes "EQU")) (pointwise nat_eq (operation_name operation) (codes "SYN"))
+    (false_from_ne_true (pointwise nat_eq (operation_name operation) (codes "EQU")) (λ is. true≢false (sym (ap gives_value (same_name operation op.Equ is)) ∙ other)))
+    (false_from_ne_true (pointwise nat_eq (operation_name operation) (codes "SYN")) (λ is. true≢false (sym (ap gives_value (same_name operation op.Syn is)) ∙ other)))
+
+pub not_value : (operation : Operation) → not (names_value (operation_name operation)) ≡ true → gives_value operation ≡ false
+not_value operation is = false_from_ne_true (gives_value operation) (λ gives. true≢false (sym is ∙ ap not (value_named operation gives)))

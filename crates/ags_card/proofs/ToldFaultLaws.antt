@@ -4,10 +4,11 @@ use Rattle.std.specs.Prelude.{nat_lt, Result, Ok, Err}
 use Rattle.std.specs.Cmp.Lexicographic.{pointwise, same_text}
 use Rattle.std.specs.List.{list_all}
 use Rattle.std.specs.Option.{ok_or}
-use Rattle.std.proofs.lemmas.Bool.{cases_Bool, ltb-false, ltb-true, true≢false}
+use Rattle.std.proofs.lemmas.Bool.{cases_Bool, or_cases, ltb-false, ltb-true, true≢false}
 use Rattle.std.proofs.lemmas.Bool.Decides.{nat_tests}
 use Rattle.ags_text.specs.Field.{AreFields}
 use Rattle.ags_decimal.specs.Reading as decimal
+use Rattle.ags_decimal.specs.Spelling as decimal_spelling
 use Rattle.ags_isa.specs.declared.orders.Order.{Order}
 use Rattle.ags_card.specs.declared.cards.Card.{Card}
 use Rattle.ags_card.specs.declared.cards.Body.{Body}
@@ -16,15 +17,16 @@ use Rattle.ags_card.specs.declared.cards.CardFault.{CardFault}
 use Rattle.ags_card.specs.declared.cards.CardFault.TheVariants.{BadByte, LongCard, BadSymbol, UnknownOperation, MissingOperand, ExtraOperand, BadExpression, BadDecimal, BadOctal}
 use Rattle.ags_card.specs.declared.operations.Operation.{Operation}
 use Rattle.ags_card.specs.declared.operations.Operation.TheVariants as op
-use Rattle.ags_card.specs.Operation.{operation_name, operation_named, is_bare, takes_operand, takes_one, takes_expression}
+use Rattle.ags_card.specs.Operation.{operation_name, operation_named, gives_value, is_bare, takes_operand, takes_one, takes_expression}
 use Rattle.ags_card.specs.Symbol.{is_symbol}
-use Rattle.ags_card.specs.Spelling.{is_allowed, comment_card, Holds, IsWritten, IsComment, IsFaulty, IsBadSymbol, HasNoOperation, HasOperand, HasComma, IsNoExpression, IsNoDecimal, IsNoOctal, HasFault}
-use Rattle.ags_card.specs.Reading.{checked, mapped, one_operand, expression_reading, is_indexed, without_index, order_terms, plain_terms, decimal_operand, octal_reading, octal_operand, body_reading, fits_symbol, symbol_of, operation_reading, fields_reading, symbol_field, operation_field, operand_field, is_comment, reading}
+use Rattle.ags_card.specs.Spelling.{is_allowed, comment_card, Holds, IsWritten, IsComment, IsFaulty, IsBadSymbol, IsOctalOperand, HasNoOperation, HasOperand, HasComma, IsNoExpression, IsNoDecimal, IsNoOctal, HasFault}
+use Rattle.ags_card.specs.Reading.{checked, mapped, some_operand, one_operand, expression_reading, is_indexed, without_index, order_terms, plain_terms, decimal_operands, octal_reading, octal_operands, list_reading, names_value, body_reading, fits_symbol, symbol_of, operation_reading, fields_reading, symbol_field, operation_field, operand_field, is_comment, reading}
 use Rattle.ags_card.proofs.ByteLemmas.{some_fails}
 use Rattle.ags_card.proofs.SymbolLemmas.{IsSymbol-is_symbol}
 use Rattle.ags_card.proofs.OperationLemmas.{named_name, name_named, name_some}
 use Rattle.ags_card.proofs.ResultLemmas.{checked_err, mapped_err, ok_or_err}
-use Rattle.ags_card.proofs.OperandLaws.{is_no_comma}
+use Rattle.ags_card.proofs.ListLaws.{is_no_comma, list_fails}
+use Rattle.ags_card.proofs.OperandLaws.{decimal_finds, octal_found}
 use Rattle.ags_card.proofs.FieldLemmas.{CardFields, AreRead, card_fields, first_field, second_field, cut_read}
 use Rattle.ags_card.proofs.BodyLaws.{body_read}
 use Rattle.ags_card.proofs.CardLaws.{first_some, is_comment_from, empty_of_length}
@@ -115,18 +117,35 @@ unfolding plain_terms
 plain_fault operation operand told takes one expression is failed =
     one_body operation operand (expression_reading operand) BadExpression told takes one failed (λ some last. (some, (expression, no_body operation operand told is)))
 
+-- the fault of an operand that must be there, where the other fault is known
+list_body : {T : Type 0} (operation : Operation) (operand : List ℕ) (found : Option T) (last told : CardFault) → takes_operand operation ≡ true → some_operand operand (ok_or found last) ≡ Err told
+    → ((0 < length operand) → found ≡ None → BodyFault operation operand last) → BodyFault operation operand told
+list_body operation operand found last told takes is bad =
+    elim (checked_err (nat_lt 0 (length operand)) MissingOperand (ok_or found last) told is) [
+      | inl missing ↦ rw (missing.1) (takes, no_operand operand missing.0)
+      | inr there ↦ let told_is = ok_or_err found last told there.1 in rw (told_is.1) (bad (ltb-true 0 (length operand) there.0) told_is.0)
+    ]
+
+-- what is none of these can't be written
+none_written : {X : Type 0} (found : Option X) (Is : X → Type 0) → ((x : X) → Is x → found ≡ Some x) → found ≡ None → (x : X) → Is x → ⊥
+none_written found Is finds none x is = let both : ◌≡◌ {A = Option _} None (Some x) = sym none ∙ finds x is in absurd (cc)
+
 body_fault : (operation : Operation) (operand : List ℕ) (told : CardFault) → body_reading operation operand ≡ Err told → BodyFault operation operand told
-unfolding decimal_operand octal_operand
+unfolding decimal_operands octal_operands
 body_fault (op.OfOrder order) operand told is = order_fault order operand told is
 body_fault op.Org operand told is = plain_fault op.Org operand told refl refl refl is (mapped_err body.Org (plain_terms operand) told is)
 body_fault op.Equ operand told is = plain_fault op.Equ operand told refl refl refl is (mapped_err body.Equ (plain_terms operand) told is)
+body_fault op.Syn operand told is = plain_fault op.Syn operand told refl refl refl is (mapped_err body.Equ (plain_terms operand) told is)
 body_fault op.Bss operand told is = plain_fault op.Bss operand told refl refl refl is (mapped_err body.Bss (plain_terms operand) told is)
+body_fault op.Bes operand told is = plain_fault op.Bes operand told refl refl refl is (mapped_err body.Bes (plain_terms operand) told is)
 body_fault op.Dec operand told is =
-    one_body op.Dec operand (decimal.reading operand) BadDecimal told refl refl (mapped_err body.Dec (decimal_operand operand) told is)
-    (λ some last. (some, (refl, λ number spells. no_body op.Dec operand told is (body.Dec number) (refl, (operand, refl, spells)))))
+    list_body op.Dec operand (list_reading decimal.reading [] operand) BadDecimal told refl (mapped_err body.Dec (decimal_operands operand) told is) (λ some none.
+    let fails = list_fails decimal.reading operand none in
+    (some, (refl, fails.part, fails.stands, none_written (decimal.reading fails.part) (decimal_spelling.Spells fails.part) (decimal_finds fails.part) fails.none)))
 body_fault op.Oct operand told is =
-    one_body op.Oct operand (octal_reading operand) BadOctal told refl refl (mapped_err body.Oct (octal_operand operand) told is)
-    (λ some last. (some, (refl, λ word spells. no_body op.Oct operand told is (body.Oct word) (refl, (operand, refl, spells)))))
+    list_body op.Oct operand (list_reading octal_reading [] operand) BadOctal told refl (mapped_err body.Oct (octal_operands operand) told is) (λ some none.
+    let fails = list_fails octal_reading operand none in
+    (some, (refl, fails.part, fails.stands, none_written (octal_reading fails.part) (IsOctalOperand fails.part) (octal_found fails.part) fails.none)))
 body_fault op.End operand told is = let both : ◌≡◌ {A = Result Body CardFault} (Ok body.End) (Err told) = is in absurd (cc)
 
 -- ---- what is told of a line
@@ -208,15 +227,22 @@ bad_symbol : (symbol operation : List ℕ) (fields : List (List ℕ)) → operat
 bad_symbol symbol operation fields first fails =
     elim (cases_Bool (length symbol == 0)) [
       | inl none ↦
-          let equ : pointwise nat_eq operation (codes "EQU") ≡ true = not_false (pointwise nat_eq operation (codes "EQU")) (rw none at fails) in
-          let name : operation ≡ codes "EQU" = same_text operation (codes "EQU") (sym equ) in
-          let begins = first_some (codes "EQU") fields (omega arith) (sym first ∙ name) in
-          inr (empty_of_length symbol none, begins.others, begins.fields_are)
+          let value : names_value operation ≡ true = not_false (names_value operation) (rw none at fails) in
+          elim (or_cases (pointwise nat_eq operation (codes "EQU")) (pointwise nat_eq operation (codes "SYN")) value) [
+            | inl equ ↦ inr (named op.Equ refl (empty_of_length symbol none) (same_text operation (codes "EQU") (sym equ)))
+            | inr syn ↦ inr (named op.Syn refl (empty_of_length symbol none) (same_text operation (codes "SYN") (sym syn)))
+          ]
       | inr some ↦
           let no : is_symbol symbol ≡ false = rw some at fails in
           inl (length_some symbol some, λ is. true≢false (sym (IsSymbol-is_symbol symbol is) ∙ no))
     ]
   where
+    named : (of : Operation) → gives_value of ≡ true → symbol ≡ [] → operation ≡ operation_name of
+        → (symbol ≡ []) × (of : Operation) × (gives_value of ≡ true) × (others : List (List ℕ)) × (fields ≡ operation_name of ∷ others)
+    named of gives empty name =
+        let begins = first_some (operation_name of) fields (name_some of) (sym first ∙ name) in
+        (empty, of, gives, begins.others, begins.fields_are)
+
     not_false : (b : Bool) → not b ≡ false → b ≡ true
     not_false true is = refl
     not_false false is = sym is

@@ -1,6 +1,7 @@
 -- what the public contracts cite
 pub mod Symbol
 pub mod Term
+pub mod Constant
 pub mod Operation
 pub mod Spelling
 pub mod Reading

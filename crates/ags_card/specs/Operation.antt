@@ -13,14 +13,16 @@ abbrev pub operation_name : Operation → List ℕ
 operation_name (op.OfOrder order) = order_name order
 operation_name op.Org = codes "ORG"
 operation_name op.Equ = codes "EQU"
+operation_name op.Syn = codes "SYN"
 operation_name op.Bss = codes "BSS"
+operation_name op.Bes = codes "BES"
 operation_name op.Dec = codes "DEC"
 operation_name op.Oct = codes "OCT"
 operation_name op.End = codes "END"
 
--- all of them: the six that are no orders, and the 27 orders
+-- all of them: the eight that are no orders, and the 27 orders
 abbrev pub all_operations : List Operation
-all_operations = op.Org ∷ op.Equ ∷ op.Bss ∷ op.Dec ∷ op.Oct ∷ op.End ∷ map op.OfOrder all_orders
+all_operations = op.Org ∷ op.Equ ∷ op.Syn ∷ op.Bss ∷ op.Bes ∷ op.Dec ∷ op.Oct ∷ op.End ∷ map op.OfOrder all_orders
 
 -- the operation of a name, and nothing for a text that is no name
 unfoldable pub operation_named : List ℕ → Option Operation
@@ -35,7 +37,9 @@ abbrev pub takes_operand : Operation → Bool
 takes_operand (op.OfOrder order) = not (is_bare order)
 takes_operand op.Org = true
 takes_operand op.Equ = true
+takes_operand op.Syn = true
 takes_operand op.Bss = true
+takes_operand op.Bes = true
 takes_operand op.Dec = true
 takes_operand op.Oct = true
 takes_operand op.End = false
@@ -45,7 +49,9 @@ abbrev pub takes_expression : Operation → Bool
 takes_expression (op.OfOrder order) = not (is_bare order)
 takes_expression op.Org = true
 takes_expression op.Equ = true
+takes_expression op.Syn = true
 takes_expression op.Bss = true
+takes_expression op.Bes = true
 takes_expression op.Dec = false
 takes_expression op.Oct = false
 takes_expression op.End = false
@@ -55,7 +61,21 @@ abbrev pub takes_one : Operation → Bool
 takes_one (op.OfOrder order) = false
 takes_one op.Org = true
 takes_one op.Equ = true
+takes_one op.Syn = true
 takes_one op.Bss = true
-takes_one op.Dec = true
-takes_one op.Oct = true
+takes_one op.Bes = true
+takes_one op.Dec = false
+takes_one op.Oct = false
 takes_one op.End = false
+
+-- whether it gives its card's symbol a value, and so needs one
+abbrev pub gives_value : Operation → Bool
+gives_value (op.OfOrder order) = false
+gives_value op.Org = false
+gives_value op.Equ = true
+gives_value op.Syn = true
+gives_value op.Bss = false
+gives_value op.Bes = false
+gives_value op.Dec = false
+gives_value op.Oct = false
+gives_value op.End = false

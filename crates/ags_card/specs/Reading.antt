@@ -87,17 +87,28 @@ order_terms operand = some_operand operand (ok_or (expression_reading (without_i
 unfoldable pub plain_terms : List ℕ → Result (List Term) CardFault
 plain_terms operand = one_operand operand (ok_or (expression_reading operand) BadExpression)
 
--- the decimal of an operand
-unfoldable pub decimal_operand : List ℕ → Result Parts CardFault
-decimal_operand operand = one_operand operand (ok_or (decimal.reading operand) BadDecimal)
-
 -- the word that an octal number with a sign or without writes
 unfoldable pub octal_reading : List ℕ → Option ℕ
 octal_reading text = option_map (signed_word (starts_with_minus text)) (number_of 8 6 (without_leading_sign text))
 
--- the word of an operand
-unfoldable pub octal_operand : List ℕ → Result ℕ CardFault
-octal_operand operand = one_operand operand (ok_or (octal_reading operand) BadOctal)
+-- an element before others, where all are some
+abbrev pub with_item : {X : Type 0} → Option X → Option (List X) → Option (List X)
+with_item (Some x) (Some xs) = Some (x ∷ xs)
+with_item (Some x) None = None
+with_item None xs = None
+
+-- what the texts between commas are read as, behind the bytes of a first one, where each of them is something
+unfoldable pub list_reading : {X : Type 0} → (List ℕ → Option X) → (before text : List ℕ) → Option (List X)
+list_reading read before [] = with_item (read before) (Some [])
+list_reading read before (b ∷ text) = if b == 44 then with_item (read before) (list_reading read [] text) else list_reading read (before ++ b ∷ []) text
+
+-- the decimals of an operand
+unfoldable pub decimal_operands : List ℕ → Result (List Parts) CardFault
+decimal_operands operand = some_operand operand (ok_or (list_reading decimal.reading [] operand) BadDecimal)
+
+-- the words of an operand
+unfoldable pub octal_operands : List ℕ → Result (List ℕ) CardFault
+octal_operands operand = some_operand operand (ok_or (list_reading octal_reading [] operand) BadOctal)
 
 -- ---- cards
 
@@ -107,14 +118,20 @@ body_reading (op.OfOrder order) operand =
     if is_bare order then Ok (body.Order order zero_terms false) else mapped (λ terms. body.Order order terms (is_indexed operand)) (order_terms operand)
 body_reading op.Org operand = mapped body.Org (plain_terms operand)
 body_reading op.Equ operand = mapped body.Equ (plain_terms operand)
+body_reading op.Syn operand = mapped body.Equ (plain_terms operand)
 body_reading op.Bss operand = mapped body.Bss (plain_terms operand)
-body_reading op.Dec operand = mapped body.Dec (decimal_operand operand)
-body_reading op.Oct operand = mapped body.Oct (octal_operand operand)
+body_reading op.Bes operand = mapped body.Bes (plain_terms operand)
+body_reading op.Dec operand = mapped body.Dec (decimal_operands operand)
+body_reading op.Oct operand = mapped body.Oct (octal_operands operand)
 body_reading op.End operand = Ok body.End
 
--- what stands in the symbol field fits the operation: a symbol, or nothing where the operation is not EQU
+-- whether a text is the name of EQU or SYN
+abbrev pub names_value : List ℕ → Bool
+names_value operation = pointwise nat_eq operation (codes "EQU") || pointwise nat_eq operation (codes "SYN")
+
+-- what stands in the symbol field fits the operation: a symbol, or nothing where the operation is not EQU or SYN
 abbrev pub fits_symbol : (symbol operation : List ℕ) → Bool
-fits_symbol symbol operation = if length symbol == 0 then not (pointwise nat_eq operation (codes "EQU")) else is_symbol symbol
+fits_symbol symbol operation = if length symbol == 0 then not (names_value operation) else is_symbol symbol
 
 -- the symbol of a symbol field
 abbrev pub symbol_of : List ℕ → Option (List ℕ)

@@ -17,7 +17,7 @@ use Rattle.ags_card.specs.declared.operations.Operation.TheVariants as op
 use Rattle.ags_card.specs.declared.terms.Atom.{Atom}
 use Rattle.ags_card.specs.declared.terms.Atom.TheVariants.{Number, Here, Symbol}
 use Rattle.ags_card.specs.declared.terms.Term.{Term}
-use Rattle.ags_card.specs.Operation.{operation_name, is_bare, takes_operand, takes_expression, takes_one}
+use Rattle.ags_card.specs.Operation.{operation_name, gives_value, is_bare, takes_operand, takes_expression, takes_one}
 use Rattle.ags_card.specs.Symbol.{IsSymbol}
 use Rattle.ags_card.specs.Term.{zero_terms}
 
@@ -67,7 +67,7 @@ IsOrderOperand terms indexed operand = (expression : List ℕ) × (operand ≡ e
 abbrev pub signed_word : (negative : Bool) → ℕ → ℕ
 signed_word negative number = if negative then wrap (neg_ℤ (pos number)) else number
 
--- the operand of OCT: a sign or none, and one to six octal digits
+-- an operand of OCT: a sign or none, and one to six octal digits
 pub record IsOctalOperand (operand : List ℕ) (word : ℕ) : Type 0 where
   pub negative : Bool
   pub sign : List ℕ
@@ -77,6 +77,12 @@ pub record IsOctalOperand (operand : List ℕ) (word : ℕ) : Type 0 where
   pub is_sign : decimal.IsSign negative sign
   pub is_octal : IsOctal 6 digits number
   pub word_is : word ≡ signed_word negative number
+
+-- elements with a comma between each two
+abbrev pub IsList : {X : Type 0} → (List ℕ → X → Type 0) → List ℕ → List X → Type 0
+IsList Is text [] = ⊥
+IsList Is text (x ∷ []) = Is text x
+IsList Is text (x ∷ next ∷ xs) = (first : List ℕ) × (behind : List ℕ) × (text ≡ first ++ 44 ∷ behind) × Is first x × IsList Is behind (next ∷ xs)
 
 -- there is one operand, and this holds of it
 abbrev pub IsOne : (List ℕ → Type 0) → List (List ℕ) → Type 0
@@ -92,10 +98,11 @@ abbrev pub IsWritten : Body → Operation → List (List ℕ) → Type 0
 IsWritten body.Comment operation operands = ⊥
 IsWritten (body.Order order terms indexed) operation operands = (operation ≡ op.OfOrder order) × IsOrder (is_bare order) terms indexed operands
 IsWritten (body.Org terms) operation operands = (operation ≡ op.Org) × IsOne (λ operand. IsExpression operand terms) operands
-IsWritten (body.Equ terms) operation operands = (operation ≡ op.Equ) × IsOne (λ operand. IsExpression operand terms) operands
+IsWritten (body.Equ terms) operation operands = ((operation ≡ op.Equ) ⊎ (operation ≡ op.Syn)) × IsOne (λ operand. IsExpression operand terms) operands
 IsWritten (body.Bss terms) operation operands = (operation ≡ op.Bss) × IsOne (λ operand. IsExpression operand terms) operands
-IsWritten (body.Dec number) operation operands = (operation ≡ op.Dec) × IsOne (λ operand. decimal.Spells operand number) operands
-IsWritten (body.Oct word) operation operands = (operation ≡ op.Oct) × IsOne (λ operand. IsOctalOperand operand word) operands
+IsWritten (body.Bes terms) operation operands = (operation ≡ op.Bes) × IsOne (λ operand. IsExpression operand terms) operands
+IsWritten (body.Dec numbers) operation operands = (operation ≡ op.Dec) × IsOne (λ operand. IsList decimal.Spells operand numbers) operands
+IsWritten (body.Oct words) operation operands = (operation ≡ op.Oct) × IsOne (λ operand. IsList IsOctalOperand operand words) operands
 IsWritten body.End operation operands = (operation ≡ op.End) × (operands ≡ [])
 
 -- ---- lines
@@ -117,10 +124,10 @@ IsComment line = AreBlanks line ⊎ (slice_index line 0 ≡ 42)
 abbrev pub comment_card : Card
 comment_card = record { symbol = None; body = body.Comment }
 
--- a card's symbol is one, and an EQU has one
+-- a card's symbol is one, and an EQU or a SYN has one
 abbrev pub FitsSymbol : Option (List ℕ) → Operation → Type 0
 FitsSymbol (Some symbol) operation = IsSymbol symbol
-FitsSymbol None operation = operation ≢ op.Equ
+FitsSymbol None operation = gives_value operation ≡ false
 
 -- the line has the card's symbol or none, its operation and its operands, and any remark behind them
 pub record WritesCard (line : List ℕ) (card : Card) : Type 0 where
@@ -147,9 +154,10 @@ pub record IsFaulty (Is : List ℕ → List (List ℕ) → Type 0) (line : List 
   pub has : HasCardFields line symbol fields
   pub is : Is symbol fields
 
--- the symbol field is no symbol, or it is empty and the operation is EQU
+-- the symbol field is no symbol, or it is empty and the operation is EQU or SYN
 abbrev pub IsBadSymbol : List ℕ → List (List ℕ) → Type 0
-IsBadSymbol symbol fields = ((0 < length symbol) × (IsSymbol symbol → ⊥)) ⊎ ((symbol ≡ []) × (others : List (List ℕ)) × (fields ≡ codes "EQU" ∷ others))
+IsBadSymbol symbol fields = ((0 < length symbol) × (IsSymbol symbol → ⊥))
+    ⊎ ((symbol ≡ []) × (operation : Operation) × (gives_value operation ≡ true) × (others : List (List ℕ)) × (fields ≡ operation_name operation ∷ others))
 
 -- the operation is missing, or it is none of the names
 abbrev pub HasNoOperation : List ℕ → List (List ℕ) → Type 0
@@ -167,21 +175,30 @@ pub record HasOperand (Is : Operation → List ℕ → Type 0) (symbol : List �
   pub are : fields ≡ operation_name operation ∷ operand ∷ remark
   pub is : Is operation operand
 
--- a comma stands in the operand of ORG, EQU, BSS, DEC or OCT
+-- a comma stands in the operand of ORG, EQU, SYN, BSS or BES
 abbrev pub HasComma : Operation → List ℕ → Type 0
 HasComma operation operand = (takes_one operation ≡ true) × Holds (λ b. b == 44) operand
 
--- no terms are written by the operand of an order, ORG, EQU or BSS
+-- no terms are written by the operand of an order, ORG, EQU, SYN, BSS or BES
 abbrev pub IsNoExpression : Operation → List ℕ → Type 0
 IsNoExpression operation operand = (takes_expression operation ≡ true) × ((asked : Body) → IsWritten asked operation (operand ∷ []) → ⊥)
 
--- no decimal is written by the operand of DEC
-abbrev pub IsNoDecimal : Operation → List ℕ → Type 0
-IsNoDecimal operation operand = (operation ≡ op.Dec) × ((number : Parts) → decimal.Spells operand number → ⊥)
+-- what stands in the text between two commas, or before the first or behind the last
+pub record IsPart (text part : List ℕ) : Type 0 where
+  pub front : List ℕ
+  pub behind : List ℕ
+  pub whole : text ≡ front ++ (part ++ behind)
+  pub begins : (front ≡ []) ⊎ ((before : List ℕ) × (front ≡ before ++ 44 ∷ []))
+  pub ends : (behind ≡ []) ⊎ ((after : List ℕ) × (behind ≡ 44 ∷ after))
+  pub alone : IsTrue (list_all (λ b. not (b == 44)) part)
 
--- no word is written by the operand of OCT
+-- some operand of a DEC, an empty one too, is no decimal
+abbrev pub IsNoDecimal : Operation → List ℕ → Type 0
+IsNoDecimal operation operand = (operation ≡ op.Dec) × (part : List ℕ) × IsPart operand part × ((number : Parts) → decimal.Spells part number → ⊥)
+
+-- some operand of an OCT, an empty one too, is no octal number
 abbrev pub IsNoOctal : Operation → List ℕ → Type 0
-IsNoOctal operation operand = (operation ≡ op.Oct) × ((word : ℕ) → IsOctalOperand operand word → ⊥)
+IsNoOctal operation operand = (operation ≡ op.Oct) × (part : List ℕ) × IsPart operand part × ((word : ℕ) → IsOctalOperand part word → ⊥)
 
 -- the line has the fault
 abbrev pub HasFault : List ℕ → CardFault → Type 0

@@ -1,10 +1,12 @@
 //! Cards, and the faults of a line that is none.
 
+ghost use Rattle.std.specs.Prelude.{◌≡◌};
+ghost use Rattle.ags_card.specs.Spelling.{comment_card};
+
+use crate::lists::{DecList, OctList};
 use crate::names::Name;
 use crate::terms::Terms;
-use ags_decimal::Decimal;
 use ags_isa::Order;
-use ags_word::Word;
 
 /// What a card asks for (docs/SOURCE.md, Cards).
 #[derive(Drop)]
@@ -22,14 +24,16 @@ pub enum Body {
     },
     /// That the place be set to this.
     Org(Terms),
-    /// That the card's symbol have this value.
+    /// That the card's symbol have this value: an EQU or a SYN.
     Equ(Terms),
     /// That the place be moved by this.
     Bss(Terms),
-    /// The word of a decimal number.
-    Dec(Decimal),
-    /// This word.
-    Oct(Word),
+    /// That the place be moved by this, and that the card's symbol have the new place.
+    Bes(Terms),
+    /// The words of decimal numbers, one behind the other.
+    Dec(DecList),
+    /// These words, one behind the other.
+    Oct(OctList),
     /// That the source end.
     End,
 }
@@ -43,6 +47,18 @@ pub struct Card {
     pub body: Body,
 }
 
+impl Card {
+    /// The card of a comment.
+    pub fn comment() -> Card
+        ensures { result ≡ comment_card }
+    {
+        Card {
+            symbol: None,
+            body: Body::Comment,
+        }
+    }
+}
+
 /// Why a line is no card (docs/SOURCE.md, Faults). Of several, the first of this list is told.
 #[derive(Clone, Copy, Debug, PartialEq, Eq)]
 pub enum CardFault {
@@ -50,18 +66,18 @@ pub enum CardFault {
     BadByte,
     /// There are more than 120 bytes.
     LongCard,
-    /// The symbol field is no symbol, or an EQU has none.
+    /// The symbol field is no symbol, or an EQU or a SYN has none.
     BadSymbol,
     /// The operation is missing, or is none of the names.
     UnknownOperation,
     /// An operation that takes an operand has none.
     MissingOperand,
-    /// A comma stands in the operand of ORG, EQU, BSS, DEC or OCT.
+    /// A comma stands in the operand of ORG, EQU, SYN, BSS or BES.
     ExtraOperand,
-    /// The operand of an order, ORG, EQU or BSS is no expression.
+    /// The operand of an order, ORG, EQU, SYN, BSS or BES is no expression.
     BadExpression,
-    /// The operand of DEC is no decimal number, or one out of its limits.
+    /// Some operand of DEC, an empty one too, is no decimal number, or one out of its limits.
     BadDecimal,
-    /// The operand of OCT is no octal number.
+    /// Some operand of OCT, an empty one too, is no octal number.
     BadOctal,
 }

@@ -1,14 +1,15 @@
 //! Expressions: the terms of a text, each with its sign.
 
-ghost use Rattle.std.specs.Prelude.{◌≡◌, [], ◌+◌, ◌*◌, ◌^◌, ◌<◌, ◌≤◌, ◌==◌, length, position, IfSome, Some};
+ghost use Rattle.std.specs.Prelude.{◌≡◌, [], ◌+◌, ◌*◌, ◌^◌, ◌<◌, ◌≤◌, ◌==◌, length, position, IfSome, Some, None, OnOk, IfErr};
 ghost use Rattle.std.specs.List.{position_or_len};
 ghost use Rattle.std.specs.Str.Parse.{starts_with_minus, without_leading_sign};
 ghost use Rattle.ags_text.specs.Numeral.{number_of};
 ghost use Rattle.ags_card.specs.Reading.{atom_reading, is_sign, terms_reading, expression_reading};
-ghost use Rattle.ags_card.specs.Term.{HasSmallNumber};
+ghost use Rattle.ags_card.specs.Term.{AreTerms, HasSmallNumber};
 
+use crate::cards::CardFault;
 use crate::names::Name;
-use crate::terms::{Atom, MOST_TERMS, Term, Terms};
+use crate::terms::{Atom, MOST_TERMS, Term};
 use ags_text::read_octal;
 use arrayvec::ArrayVec;
 
@@ -83,33 +84,45 @@ pub(crate) fn behind_sign(text: &[u8]) -> &[u8]
     }
 }
 
-/// The terms of a text, whose first term has that sign.
-fn read_terms(minus: bool, text: &[u8]) -> Option<Terms>
-    requires { length text.now ≤ 120 }
-    ensures { result ≡ terms_reading minus [] text.now }
+/// Fills an empty list with the terms of a text, whose first term has that sign.
+fn read_terms(
+    minus: bool,
+    text: &[u8],
+    terms: &mut ArrayVec<Term, MOST_TERMS>,
+) -> Result<(), CardFault>
+    requires short { length text.now ≤ 120 }
+    requires empty { terms.old.items ≡ [] }
+    ensures read { OnOk result (terms_reading minus [] text.now ≡ Some terms.new.items) }
+    ensures terms { OnOk result (AreTerms terms.new.items) }
+    ensures fault { IfErr result (λ fault. (terms_reading minus [] text.now ≡ None) × (fault ≡ CardFault.BadExpression)) }
 {
-    let mut terms: ArrayVec<Term, MOST_TERMS> = ArrayVec::new();
     let mut minus = minus;
     let mut rest = text;
     loop {
         let (front, behind) = rest.split_at(front_len(rest));
         let Some(atom) = read_atom(front) else {
-            return None;
+            return Err(CardFault::BadExpression);
         };
         terms.push(Term { minus, atom });
         if behind.is_empty() {
-            return Some(Terms::of(terms));
+            return Ok(());
         }
         minus = begins_with_minus(behind);
         rest = &behind[1..];
     }
 }
 
-/// The terms of an expression, and nothing for any other text (docs/SOURCE.md, Expressions).
+/// Fills an empty list with the terms of an expression, which another text is none (docs/SOURCE.md, Expressions).
 #[tactic(auto, unfolding(crate::specs::Reading::expression_reading))]
-pub(crate) fn read_expression(text: &[u8]) -> Option<Terms>
-    requires { length text.now ≤ 120 }
-    ensures { result ≡ expression_reading text.now }
+pub(crate) fn read_expression(
+    text: &[u8],
+    terms: &mut ArrayVec<Term, MOST_TERMS>,
+) -> Result<(), CardFault>
+    requires short { length text.now ≤ 120 }
+    requires empty { terms.old.items ≡ [] }
+    ensures read { OnOk result (expression_reading text.now ≡ Some terms.new.items) }
+    ensures terms { OnOk result (AreTerms terms.new.items) }
+    ensures fault { IfErr result (λ fault. (expression_reading text.now ≡ None) × (fault ≡ CardFault.BadExpression)) }
 {
-    read_terms(begins_with_minus(text), behind_sign(text))
+    read_terms(begins_with_minus(text), behind_sign(text), terms)
 }

@@ -2,10 +2,12 @@
 //! definition in `specs/`, and laws say that it is the spelling of cards, both ways. No call takes memory.
 #![tactic(auto)]
 
+mod bodies;
 mod cards;
 mod expressions;
 mod fields;
 mod laws;
+mod lists;
 mod names;
 mod operands;
 mod operations;
@@ -15,8 +17,9 @@ mod terms;
 
 pub use cards::{Body, Card, CardFault};
 pub use laws::symbols_are_capitals_and_digits;
+pub use lists::{DecList, MOST_CONSTANTS, OctList};
 pub use names::Name;
-pub use reading::{is_comment_card, read_card};
+pub use reading::{is_comment_card, read_card, read_card_into};
 pub use reading_laws::{
     cards_keep_to_their_form, each_line_is_a_card_or_has_a_fault, lines_spell_what_is_read,
 };

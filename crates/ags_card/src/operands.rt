@@ -1,13 +1,13 @@
 //! The operands of operations, each as what its card asks for.
 
-ghost use Rattle.std.specs.Prelude.{◌≡◌, ◌≤◌, ◌==◌, not, length};
+ghost use Rattle.std.specs.Prelude.{◌≡◌, ◌≤◌, ◌==◌, not, length, Ok, Err, OnOk, IfErr};
 ghost use Rattle.std.specs.List.{list_all};
-ghost use Rattle.ags_card.specs.Reading.{is_indexed, without_index, order_terms, plain_terms, decimal_operand, octal_reading, octal_operand};
+ghost use Rattle.ags_card.specs.Reading.{is_indexed, without_index, order_terms, plain_terms, decimal_operands, octal_reading, octal_operands};
 
 use crate::cards::CardFault;
-use crate::expressions::{begins_with_minus, behind_sign, read_expression};
+use crate::expressions::{begins_with_minus, behind_sign};
+use crate::lists::{DecList, OctList};
 use crate::terms::Terms;
-use ags_decimal::Decimal;
 use ags_text::read_octal;
 use ags_word::Word;
 
@@ -38,26 +38,25 @@ fn without_index(operand: &[u8]) -> &[u8]
     }
 }
 
-/// The terms of an order's operand.
+/// Reads the terms of an order's operand in place of others.
 #[tactic(auto, unfolding(crate::specs::Reading::order_terms))]
-pub(crate) fn read_order_operand(operand: &[u8]) -> Result<Terms, CardFault>
+pub(crate) fn read_order_operand(operand: &[u8], terms: &mut Terms) -> Result<(), CardFault>
     requires { length operand.now ≤ 120 }
-    ensures { result ≡ order_terms operand.now }
+    ensures read { OnOk result (order_terms operand.now ≡ Ok terms.new) }
+    ensures fault { IfErr result (λ fault. order_terms operand.now ≡ Err fault) }
 {
     if operand.is_empty() {
         return Err(CardFault::MissingOperand);
     }
-    match read_expression(without_index(operand)) {
-        Some(terms) => Ok(terms),
-        None => Err(CardFault::BadExpression),
-    }
+    terms.read(without_index(operand))
 }
 
-/// The terms of the operand of ORG, EQU or BSS.
+/// Reads the terms of the operand of ORG, EQU, SYN, BSS or BES in place of others.
 #[tactic(auto, unfolding(crate::specs::Reading::plain_terms))]
-pub(crate) fn read_plain_operand(operand: &[u8]) -> Result<Terms, CardFault>
+pub(crate) fn read_plain_operand(operand: &[u8], terms: &mut Terms) -> Result<(), CardFault>
     requires { length operand.now ≤ 120 }
-    ensures { result ≡ plain_terms operand.now }
+    ensures read { OnOk result (plain_terms operand.now ≡ Ok terms.new) }
+    ensures fault { IfErr result (λ fault. plain_terms operand.now ≡ Err fault) }
 {
     if operand.is_empty() {
         return Err(CardFault::MissingOperand);
@@ -65,32 +64,12 @@ pub(crate) fn read_plain_operand(operand: &[u8]) -> Result<Terms, CardFault>
     if !has_no_comma(operand) {
         return Err(CardFault::ExtraOperand);
     }
-    match read_expression(operand) {
-        Some(terms) => Ok(terms),
-        None => Err(CardFault::BadExpression),
-    }
-}
-
-/// The decimal of the operand of DEC.
-#[tactic(auto, unfolding(crate::specs::Reading::decimal_operand))]
-pub(crate) fn read_decimal_operand(operand: &[u8]) -> Result<Decimal, CardFault>
-    ensures { result ≡ decimal_operand operand.now }
-{
-    if operand.is_empty() {
-        return Err(CardFault::MissingOperand);
-    }
-    if !has_no_comma(operand) {
-        return Err(CardFault::ExtraOperand);
-    }
-    match ags_decimal::read(operand) {
-        Some(number) => Ok(number),
-        None => Err(CardFault::BadDecimal),
-    }
+    terms.read(operand)
 }
 
 /// The word of an octal number with a sign or without.
 #[tactic(auto, unfolding(crate::specs::Reading::octal_reading))]
-fn read_signed_octal(text: &[u8]) -> Option<Word>
+pub(crate) fn read_signed_octal(text: &[u8]) -> Option<Word>
     ensures { result ≡ octal_reading text.now }
 {
     let Some(number) = read_octal(behind_sign(text)) else {
@@ -104,19 +83,28 @@ fn read_signed_octal(text: &[u8]) -> Option<Word>
     }
 }
 
-/// The word of the operand of OCT.
-#[tactic(auto, unfolding(crate::specs::Reading::octal_operand))]
-pub(crate) fn read_octal_operand(operand: &[u8]) -> Result<Word, CardFault>
-    ensures { result ≡ octal_operand operand.now }
+/// Reads the decimals of the operand of DEC in place of others.
+#[tactic(auto, unfolding(crate::specs::Reading::decimal_operands))]
+pub(crate) fn read_decimal_operands(operand: &[u8], numbers: &mut DecList) -> Result<(), CardFault>
+    requires { length operand.now ≤ 120 }
+    ensures read { OnOk result (decimal_operands operand.now ≡ Ok numbers.new) }
+    ensures fault { IfErr result (λ fault. decimal_operands operand.now ≡ Err fault) }
 {
     if operand.is_empty() {
         return Err(CardFault::MissingOperand);
     }
-    if !has_no_comma(operand) {
-        return Err(CardFault::ExtraOperand);
+    numbers.read(operand)
+}
+
+/// Reads the words of the operand of OCT in place of others.
+#[tactic(auto, unfolding(crate::specs::Reading::octal_operands))]
+pub(crate) fn read_octal_operands(operand: &[u8], words: &mut OctList) -> Result<(), CardFault>
+    requires { length operand.now ≤ 120 }
+    ensures read { OnOk result (octal_operands operand.now ≡ Ok words.new) }
+    ensures fault { IfErr result (λ fault. octal_operands operand.now ≡ Err fault) }
+{
+    if operand.is_empty() {
+        return Err(CardFault::MissingOperand);
     }
-    match read_signed_octal(operand) {
-        Some(word) => Ok(word),
-        None => Err(CardFault::BadOctal),
-    }
+    words.read(operand)
 }

@@ -15,11 +15,15 @@ pub(crate) enum Operation {
     Org,
     /// A symbol is given a value.
     Equ,
-    /// The place is moved.
+    /// Another name of EQU.
+    Syn,
+    /// The place is moved, behind its symbol.
     Bss,
-    /// A decimal number.
+    /// The place is moved, before its symbol.
+    Bes,
+    /// Decimal numbers.
     Dec,
-    /// An octal number.
+    /// Octal numbers.
     Oct,
     /// The source ends.
     End,
@@ -40,7 +44,9 @@ fn operation_of(text: &[u8]) -> Option<Operation>
     match text {
         b"ORG" => Some(Operation::Org),
         b"EQU" => Some(Operation::Equ),
+        b"SYN" => Some(Operation::Syn),
         b"BSS" => Some(Operation::Bss),
+        b"BES" => Some(Operation::Bes),
         b"DEC" => Some(Operation::Dec),
         b"OCT" => Some(Operation::Oct),
         b"END" => Some(Operation::End),

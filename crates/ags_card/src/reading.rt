@@ -1,21 +1,16 @@
 //! From a line to its card or its fault (docs/SOURCE.md, Cards).
 
-ghost use Rattle.std.specs.Prelude.{◌≡◌, ◌≤◌, ◌==◌, ◌&&◌, length, codes, nat_eq, nat_lt, true, Ok};
+ghost use Rattle.std.specs.Prelude.{◌≡◌, ◌≤◌, ◌==◌, ◌&&◌, length, codes, nat_eq, nat_lt, true, Ok, Err, OnOk, IfErr};
 ghost use Rattle.std.specs.List.{list_all};
 ghost use Rattle.std.specs.Cmp.Lexicographic.{pointwise};
 ghost use Rattle.ags_card.specs.Spelling.{comment_card, is_allowed};
-ghost use Rattle.ags_card.specs.Reading.{is_comment, fits_symbol, body_reading, fields_reading, reading};
-ghost use Rattle.ags_card.specs.declared.operations.Operation.TheVariants.{OfOrder};
+ghost use Rattle.ags_card.specs.Reading.{is_comment, fits_symbol, fields_reading, reading};
 
-use crate::cards::{Body, Card, CardFault};
+use crate::bodies::read_body;
+use crate::cards::{Card, CardFault};
 use crate::fields::split_fields;
 use crate::names::{Name, is_symbol};
-use crate::operands::{
-    is_indexed, read_decimal_operand, read_octal_operand, read_order_operand, read_plain_operand,
-};
-use crate::operations::{Operation, is_bare, operation_named};
-use crate::terms::Terms;
-use ags_isa::Order;
+use crate::operations::operation_named;
 use ags_text::are_blanks;
 
 /// The most bytes of a card.
@@ -54,58 +49,35 @@ fn is_equ(operation: &[u8]) -> bool
     operation == b"EQU".as_slice()
 }
 
-/// Whether what stands in the symbol field fits the operation: a symbol, or nothing where the operation isn't EQU.
+/// Whether a text is the name of SYN.
+fn is_syn(operation: &[u8]) -> bool
+    ensures { result ≡ pointwise nat_eq operation.now (codes "SYN") }
+{
+    operation == b"SYN".as_slice()
+}
+
+/// Whether what stands in the symbol field fits the operation: a symbol, or nothing where the operation isn't EQU or SYN.
 fn fits_symbol(symbol: &[u8], operation: &[u8]) -> bool
     ensures { result ≡ fits_symbol symbol.now operation.now }
 {
     if symbol.is_empty() {
-        !is_equ(operation)
+        !(is_equ(operation) || is_syn(operation))
     } else {
         is_symbol(symbol)
     }
 }
 
-/// What the card of an order asks for.
-fn order_body(order: Order, operand: &[u8]) -> Result<Body, CardFault>
-    requires { length operand.now ≤ 120 }
-    ensures { result ≡ body_reading (OfOrder order) operand.now }
-{
-    if is_bare(order) {
-        return Ok(Body::Order {
-            order,
-            terms: Terms::zero(),
-            indexed: false,
-        });
-    }
-    let terms = read_order_operand(operand)?;
-    Ok(Body::Order {
-        order,
-        terms,
-        indexed: is_indexed(operand),
-    })
-}
-
-/// What a card asks for with an operation and an operand.
-fn read_body(operation: Operation, operand: &[u8]) -> Result<Body, CardFault>
-    requires { length operand.now ≤ 120 }
-    ensures { result ≡ body_reading operation operand.now }
-{
-    match operation {
-        Operation::OfOrder(order) => order_body(order, operand),
-        Operation::Org => Ok(Body::Org(read_plain_operand(operand)?)),
-        Operation::Equ => Ok(Body::Equ(read_plain_operand(operand)?)),
-        Operation::Bss => Ok(Body::Bss(read_plain_operand(operand)?)),
-        Operation::Dec => Ok(Body::Dec(read_decimal_operand(operand)?)),
-        Operation::Oct => Ok(Body::Oct(read_octal_operand(operand)?)),
-        Operation::End => Ok(Body::End),
-    }
-}
-
-/// The card of three fields.
+/// Reads the card of three fields in place of another.
 #[tactic(auto, unfolding(crate::specs::Reading::fields_reading))]
-fn read_fields(symbol: &[u8], operation: &[u8], operand: &[u8]) -> Result<Card, CardFault>
+fn read_fields(
+    card: &mut Card,
+    symbol: &[u8],
+    operation: &[u8],
+    operand: &[u8],
+) -> Result<(), CardFault>
     requires { length operand.now ≤ 120 }
-    ensures { result ≡ fields_reading symbol.now operation.now operand.now }
+    ensures read { OnOk result (fields_reading symbol.now operation.now operand.now ≡ Ok card.new) }
+    ensures fault { IfErr result (λ fault. fields_reading symbol.now operation.now operand.now ≡ Err fault) }
 {
     if !fits_symbol(symbol, operation) {
         return Err(CardFault::BadSymbol);
@@ -113,17 +85,16 @@ fn read_fields(symbol: &[u8], operation: &[u8], operand: &[u8]) -> Result<Card, 
     let Some(operation) = operation_named(operation) else {
         return Err(CardFault::UnknownOperation);
     };
-    let body = read_body(operation, operand)?;
-    Ok(Card {
-        symbol: Name::of(symbol),
-        body,
-    })
+    card.symbol = Name::of(symbol);
+    read_body(&mut card.body, operation, operand)
 }
 
-/// The card that a line is, or the first of its faults: no line has a fault before the one that is told.
+/// Reads the card that a line is in place of another, or finds the first of its faults, and the card then says nothing of the line.
+/// Whoever reads many lines needs room for one card so, and cards of one kind are not moved.
 #[tactic(auto, unfolding(crate::specs::Reading::reading))]
-pub fn read_card(line: &[u8]) -> Result<Card, CardFault>
-    ensures { result ≡ reading line.now }
+pub fn read_card_into(card: &mut Card, line: &[u8]) -> Result<(), CardFault>
+    ensures read { OnOk result (reading line.now ≡ Ok card.new) }
+    ensures fault { IfErr result (λ fault. reading line.now ≡ Err fault) }
 {
     if !are_allowed(line) {
         return Err(CardFault::BadByte);
@@ -132,11 +103,20 @@ pub fn read_card(line: &[u8]) -> Result<Card, CardFault>
         return Err(CardFault::LongCard);
     }
     if is_comment(line) {
-        return Ok(Card {
-            symbol: None,
-            body: Body::Comment,
-        });
+        *card = Card::comment();
+        return Ok(());
     }
     let fields = split_fields(line);
-    read_fields(fields.symbol, fields.operation, fields.operand)
+    read_fields(card, fields.symbol, fields.operation, fields.operand)
+}
+
+/// The card that a line is, or the first of its faults: no line has a fault before the one that is told.
+pub fn read_card(line: &[u8]) -> Result<Card, CardFault>
+    ensures { result ≡ reading line.now }
+{
+    let mut card = Card::comment();
+    match read_card_into(&mut card, line) {
+        Ok(()) => Ok(card),
+        Err(fault) => Err(fault),
+    }
 }

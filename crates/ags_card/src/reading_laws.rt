@@ -29,7 +29,7 @@ pub fn each_line_is_a_card_or_has_a_fault()
 {}
 
 /// What holds of each card that is read: its symbol is one, an EQU has one and a comment has none; its terms, its
-/// decimal and its word keep their limits; ABS and COM have the one term 0 and no index.
+/// decimals and its words keep their limits; ABS and COM have the one term 0 and no index.
 pub fn cards_keep_to_their_form()
     ensures limits { (line : List ℕ) (card : Card) → reading line ≡ Ok card → KeepsLimits card.body }
     ensures symbol { (line : List ℕ) (card : Card) → reading line ≡ Ok card → IfSome card.symbol IsSymbol }

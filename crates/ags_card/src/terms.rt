@@ -1,8 +1,11 @@
 //! The terms of an expression.
 
-ghost use Rattle.std.specs.Prelude.{◌≡◌};
+ghost use Rattle.std.specs.Prelude.{◌≡◌, ◌≤◌, length, Some, None, OnOk, IfErr};
+ghost use Rattle.ags_card.specs.Reading.{expression_reading};
 ghost use Rattle.ags_card.specs.Term.{AreTerms, zero_terms};
 
+use crate::cards::CardFault;
+use crate::expressions::read_expression;
 use crate::names::Name;
 use arrayvec::ArrayVec;
 use std::marker::Model;
@@ -58,12 +61,20 @@ impl Terms {
         self.items.as_slice()
     }
 
-    /// The terms of a list that has some, and not too many.
-    pub(crate) fn of(items: ArrayVec<Term, MOST_TERMS>) -> Terms
-        requires { AreTerms items.items }
-        ensures { result ≡ items.items }
+    /// Reads the terms of an expression in place of these, which are the one term 0 where the text is none.
+    pub(crate) fn read(&mut self, text: &[u8]) -> Result<(), CardFault>
+        requires { length text.now ≤ 120 }
+        ensures read { OnOk result (expression_reading text.now ≡ Some self.new) }
+        ensures fault { IfErr result (λ fault. (expression_reading text.now ≡ None) × (fault ≡ CardFault.BadExpression)) }
     {
-        Terms { items }
+        self.items.clear();
+        match read_expression(text, &mut self.items) {
+            Ok(()) => Ok(()),
+            Err(fault) => {
+                *self = Terms::zero();
+                Err(fault)
+            }
+        }
     }
 
     /// The one term 0.

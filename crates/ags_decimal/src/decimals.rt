@@ -16,10 +16,10 @@ use std::marker::Model;
 /// a scale from -30 to 60.
 #[derive(Clone, Copy, PartialEq, Eq)]
 pub struct Decimal {
-    negative: bool,
     digits: u64,
     power: i8,
     scale: i8,
+    negative: bool,
 }
 
 impl Model for Decimal {
@@ -32,6 +32,18 @@ impl Model for Decimal {
     ghost invariant = { λ d. IsWithinLimits (record { negative = d.negative; digits = d.digits; power = d.power; scale = d.scale }) };
 
     ghost inverse = { λ p. record { negative = p.negative; digits = p.digits; power = p.power; scale = p.scale } };
+}
+
+impl Default for Decimal {
+    /// The number 0, with the scale that a number has where none is written.
+    fn default() -> Decimal {
+        Decimal {
+            digits: 0,
+            power: 0,
+            scale: 17,
+            negative: false,
+        }
+    }
 }
 
 impl Decimal {

@@ -5,7 +5,7 @@ use Rattle.std.specs.List.{All}
 use Rattle.std.proofs.lemmas.List.Elements.{All-nil, All-cons, All-head, All-tail}
 use Rattle.ags_text.specs.Line.{LineAt, lines_of}
 use Rattle.ags_card.specs.declared.cards.Body.{Body}
-use Rattle.ags_card.specs.declared.cards.Body.TheVariants.{Comment, Order, Org, Equ, Bss, Dec, Oct, End}
+use Rattle.ags_card.specs.declared.cards.Body.TheVariants.{Comment, Order, Org, Equ, Bss, Bes, Dec, Oct, End}
 use Rattle.ags_card.specs.declared.cards.Card.{Card}
 use Rattle.ags_card.specs.declared.cards.CardFault.{CardFault}
 use Rattle.ags_card.specs.Reading.{reading}
@@ -19,8 +19,9 @@ end_body (Order order terms indexed) is = absurd (true≢false (sym is))
 end_body (Org terms) is = absurd (true≢false (sym is))
 end_body (Equ terms) is = absurd (true≢false (sym is))
 end_body (Bss terms) is = absurd (true≢false (sym is))
-end_body (Dec decimal) is = absurd (true≢false (sym is))
-end_body (Oct word) is = absurd (true≢false (sym is))
+end_body (Bes terms) is = absurd (true≢false (sym is))
+end_body (Dec numbers) is = absurd (true≢false (sym is))
+end_body (Oct words) is = absurd (true≢false (sym is))
 end_body End is = refl
 
 read_end : (line : LineAt) → ends (reading line.bytes) ≡ true → ReadsAsEnd line

@@ -1,21 +1,21 @@
 -- The lines of a source's cards, and the places of their words. The crates above cite `lines_of_cards_follow`, behind the law
 -- `card_lines_follow`, and `words_within`, behind `words_stand_in_the_memory`; and, as tools for a loop over the lines,
 -- `deck-nil`, `deck_left`, `ends_so` and `follow_deck`.
-use Rattle.std.proofs.Common.{◌≡◌, ℕ, ◌+◌, ◌<◌, Bool, true, false, cond, List, [], ◌∷◌, length, Option, Some, None, refl, subst, All, arith}
+use Rattle.std.proofs.Common.{◌≡◌, ℕ, zero, suc, ◌+◌, ◌<◌, ◌≤◌, Bool, true, false, cond, List, [], ◌∷◌, length, Option, Some, None, refl, subst, All, arith}
 use Rattle.std.proofs.lemmas.List.Elements.{All-cons}
 use Rattle.std.specs.Prelude.{Ok, nat_lt, IfSome}
-use Rattle.std.proofs.lemmas.Bool.{ltb-true}
+use Rattle.std.proofs.lemmas.Bool.{leb-true, lt-ltb}
 use Rattle.ags_text.specs.Fault.{or_later, first_fault}
 use Rattle.ags_text.specs.Line.{LineAt, Follow, lines_of}
 use Rattle.ags_text.proofs.FollowLemmas.{lines_follow}
 use Rattle.ags_card.specs.declared.cards.Body.{Body}
-use Rattle.ags_card.specs.declared.cards.Body.TheVariants.{Comment, Order, Org, Equ, Bss, Dec, Oct, End}
+use Rattle.ags_card.specs.declared.cards.Body.TheVariants.{Comment, Order, Org, Equ, Bss, Bes, Dec, Oct, End}
 use Rattle.ags_card.specs.declared.cards.Card.{Card}
 use Rattle.ags_card.specs.Reading.{reading}
 use Rattle.ags_symbol.specs.Symbol.{Entry}
 use Rattle.ags_places.specs.declared.source_error.SourceKind.{SourceKind}
 use Rattle.ags_places.specs.Deck.{is_end, ends, deck, card_lines, cards}
-use Rattle.ags_places.specs.Fault.{twice, unless, or_else, body_fault, place_fault, early_fault, first_card_fault, first_place_fault}
+use Rattle.ags_places.specs.Fault.{twice, unless, holds_words, or_else, body_fault, place_fault, early_fault, first_card_fault, first_place_fault}
 use Rattle.ags_places.specs.Place.{Fits, early, place, place_of_word, places_after, places}
 
 -- ---- the lines of a deck
@@ -51,12 +51,17 @@ lines_of_cards_follow text = follow_deck text 0 (lines_of text) (lines_follow te
 
 -- ---- places of words
 
-unless_within : (at : ℕ) → unless (nat_lt at 4096) ≡ None → at < 4096
-unless_within at none = by (nat_lt at 4096) refl none
+words_hold : (at many : ℕ) → unless (holds_words at many) ≡ None → at + many ≤ 4096
+words_hold at many none = by (holds_words at many) refl none
   where
-    by : (b : Bool) → nat_lt at 4096 ≡ b → unless b ≡ None → at < 4096
-    by true is none = ltb-true at 4096 is
+    by : (b : Bool) → holds_words at many ≡ b → unless b ≡ None → at + many ≤ 4096
+    by true is none = leb-true (at + many) 4096 is
     by false is none = absurd cc
+
+-- the place of the first of so many words
+first_within : (at many : ℕ) → at + many ≤ 4096 → IfSome (cond (nat_lt 0 many) (Some at) None) (λ place. place < 4096)
+first_within at zero most = tt
+first_within at (suc many) most = let some : nat_lt 0 (suc many) ≡ true = lt-ltb 0 (suc many) (omega arith) in rw some (omega (arith, most))
 
 -- the symbol's fault is none, nor is the body's
 body_faultless : (first later : Option SourceKind) → or_else first later ≡ None → later ≡ None
@@ -65,12 +70,13 @@ body_faultless (Some kind) later none = absurd cc
 
 word_within : (E : List Entry) (at : ℕ) (body : Body) → body_fault E at body ≡ None → IfSome (place_of_word at body) (λ place. place < 4096)
 word_within E at Comment none = tt
-word_within E at (Order order terms indexed) none = unless_within at none
+word_within E at (Order order terms indexed) none = first_within at 1 (words_hold at 1 none)
 word_within E at (Org terms) none = tt
 word_within E at (Equ terms) none = tt
 word_within E at (Bss terms) none = tt
-word_within E at (Dec decimal) none = unless_within at none
-word_within E at (Oct word) none = unless_within at none
+word_within E at (Bes terms) none = tt
+word_within E at (Dec numbers) none = first_within at (length numbers) (words_hold at (length numbers) none)
+word_within E at (Oct words) none = first_within at (length words) (words_hold at (length words) none)
 word_within E at End none = tt
 
 -- of all cards

@@ -1,18 +1,18 @@
 -- What is wrong with what a card asks for, in the phase of places: what is told is so, and what is so is told. The crates above cite
 -- `outside` and `outside_fails`.
-use Rattle.std.proofs.Common.{◌≡◌, ℕ, ◌<◌, Bool, true, false, ◌&&◌, List, [], Option, Some, None, refl, sym, ap, ◌∙◌, ◌⊎◌, inl, inr, arith}
-use Rattle.std.specs.Prelude.{nat_lt, ℤ, pos, neg_ℤ, ◌+ℤ◌, ◌<ℤ◌}
+use Rattle.std.proofs.Common.{◌≡◌, ℕ, ◌+◌, ◌<◌, length, Bool, true, false, ◌&&◌, List, [], Option, Some, None, refl, sym, ap, ◌∙◌, ◌⊎◌, inl, inr, arith}
+use Rattle.std.specs.Prelude.{nat_le, ℤ, pos, neg_ℤ, ◌+ℤ◌, ◌<ℤ◌}
 use Rattle.std.specs.Int.RustNames.{int_le}
 use Rattle.std.proofs.lemmas.Bool.Decides.{nat_tests}
 use Rattle.std.proofs.lemmas.Int.{ints}
 use Rattle.ags_card.specs.declared.cards.Body.{Body}
-use Rattle.ags_card.specs.declared.cards.Body.TheVariants.{Comment, Order, Org, Equ, Bss, Dec, Oct, End}
+use Rattle.ags_card.specs.declared.cards.Body.TheVariants.{Comment, Order, Org, Equ, Bss, Bes, Dec, Oct, End}
 use Rattle.ags_card.specs.declared.terms.Term.{Term}
 use Rattle.ags_symbol.specs.Symbol.{Entry, NamesUnknown, sum_of}
 use Rattle.ags_symbol.proofs.SumLemmas.{sum_none, unknown_none}
 use Rattle.ags_places.specs.declared.source_error.SourceKind.{SourceKind}
 use Rattle.ags_places.specs.declared.source_error.SourceKind.TheVariants.{UndefinedEarly, PlaceRange}
-use Rattle.ags_places.specs.Fault.{body_fault, fits_behind, is_place, is_value, operand_fault, unless}
+use Rattle.ags_places.specs.Fault.{body_fault, fits_behind, holds_words, is_place, is_value, operand_fault, unless}
 use Rattle.ags_places.specs.Faulty.{IsOutOfRange, placing_terms}
 
 -- ---- tests of limits
@@ -55,20 +55,20 @@ operand_told : (within : ℤ → Bool) (sum : Option ℤ) (kind : SourceKind) �
 operand_told within None kind is = let same : UndefinedEarly ≡ kind = cc in inl (sym same, refl)
 operand_told within (Some value) kind is = let parts = unless_told (within value) kind is in inr (parts.0, value, refl, parts.1)
 
-beyond : (at : ℕ) → nat_lt at 4096 ≡ false → 4095 < at
-beyond at is = grind (arith, nat_tests)
+beyond : (at many : ℕ) → holds_words at many ≡ false → 4096 < at + many
+beyond at many is = grind (arith, nat_tests)
 
-not_within : (at : ℕ) → 4095 < at → nat_lt at 4096 ≡ false
-not_within at is = grind (arith, nat_tests)
+not_within : (at many : ℕ) → 4096 < at + many → holds_words at many ≡ false
+not_within at many is = grind (arith, nat_tests)
 
 module _ (E : List Entry) (at : ℕ) where
   -- what is wrong with a body: a symbol without a pair, or a place or a value out of its limits
   BodyTold : Body → SourceKind → Type 0
   BodyTold body kind = ((kind ≡ UndefinedEarly) × NamesUnknown E (placing_terms body)) ⊎ ((kind ≡ PlaceRange) × IsOutOfRange E at body)
 
-  word_told : (body : Body) (kind : SourceKind) → unless (nat_lt at 4096) ≡ Some kind → (4095 < at → IsOutOfRange E at body) → BodyTold body kind
+  words_told : (many : ℕ) (body : Body) (kind : SourceKind) → unless (holds_words at many) ≡ Some kind → (4096 < at + many → IsOutOfRange E at body) → BodyTold body kind
   unfolding BodyTold
-  word_told body kind is out = let parts = unless_told (nat_lt at 4096) kind is in inr (parts.0, out (beyond at parts.1))
+  words_told many body kind is out = let parts = unless_told (holds_words at many) kind is in inr (parts.0, out (beyond at many parts.1))
 
   terms_told : (terms : List Term) (body : Body) (within : ℤ → Bool) (kind : SourceKind) → placing_terms body ≡ terms → operand_fault within (sum_of E at terms) ≡ Some kind
       → ((value : ℤ) → sum_of E at terms ≡ Some value → within value ≡ false → IsOutOfRange E at body) → BodyTold body kind
@@ -82,13 +82,15 @@ module _ (E : List Entry) (at : ℕ) where
       → ((kind ≡ UndefinedEarly) × NamesUnknown E (placing_terms body)) ⊎ ((kind ≡ PlaceRange) × IsOutOfRange E at body)
   unfolding BodyTold
   body_told Comment kind is = absurd cc
-  body_told (Order order terms indexed) kind is = word_told (Order order terms indexed) kind is (λ out. out)
+  body_told (Order order terms indexed) kind is = words_told 1 (Order order terms indexed) kind is (λ out. omega (arith, out))
   body_told (Org terms) kind is = terms_told terms (Org terms) is_place kind refl is (λ value sum test. (value, sum, outside (pos 0) value value (pos 4095) test))
   body_told (Equ terms) kind is = terms_told terms (Equ terms) is_value kind refl is (λ value sum test. (value, sum, outside (neg_ℤ (pos 262143)) value value (pos 262143) test))
   body_told (Bss terms) kind is =
       terms_told terms (Bss terms) (fits_behind at) kind refl is (λ value sum test. (value, sum, outside (pos 0) value (pos at +ℤ value) (pos 4096) test))
-  body_told (Dec decimal) kind is = word_told (Dec decimal) kind is (λ out. out)
-  body_told (Oct word) kind is = word_told (Oct word) kind is (λ out. out)
+  body_told (Bes terms) kind is =
+      terms_told terms (Bes terms) (fits_behind at) kind refl is (λ value sum test. (value, sum, outside (pos 0) value (pos at +ℤ value) (pos 4096) test))
+  body_told (Dec numbers) kind is = words_told (length numbers) (Dec numbers) kind is (λ out. out)
+  body_told (Oct words) kind is = words_told (length words) (Oct words) kind is (λ out. out)
   body_told End kind is = absurd cc
 
   -- and what is wrong is told
@@ -98,12 +100,13 @@ module _ (E : List Entry) (at : ℕ) where
 
   pub range_told : (body : Body) → IsOutOfRange E at body → body_fault E at body ≡ Some PlaceRange
   range_told Comment is = absurd is
-  range_told (Order order terms indexed) is = ap unless (not_within at is)
+  range_told (Order order terms indexed) is = ap unless (not_within at 1 (omega (arith, is)))
   range_told (Org terms) (value, sum, out) = operand_tells terms is_place value sum (outside_fails (pos 0) value value (pos 4095) out)
   range_told (Equ terms) (value, sum, out) = operand_tells terms is_value value sum (outside_fails (neg_ℤ (pos 262143)) value value (pos 262143) out)
   range_told (Bss terms) (value, sum, out) = operand_tells terms (fits_behind at) value sum (outside_fails (pos 0) value (pos at +ℤ value) (pos 4096) out)
-  range_told (Dec decimal) is = ap unless (not_within at is)
-  range_told (Oct word) is = ap unless (not_within at is)
+  range_told (Bes terms) (value, sum, out) = operand_tells terms (fits_behind at) value sum (outside_fails (pos 0) value (pos at +ℤ value) (pos 4096) out)
+  range_told (Dec numbers) is = ap unless (not_within at (length numbers) is)
+  range_told (Oct words) is = ap unless (not_within at (length words) is)
   range_told End is = absurd is
 
   nothing_unknown : NamesUnknown E [] → ⊥
@@ -115,6 +118,7 @@ module _ (E : List Entry) (at : ℕ) where
   unknown_told (Org terms) is = ap (operand_fault is_place) (unknown_none E at terms is)
   unknown_told (Equ terms) is = ap (operand_fault is_value) (unknown_none E at terms is)
   unknown_told (Bss terms) is = ap (operand_fault (fits_behind at)) (unknown_none E at terms is)
-  unknown_told (Dec decimal) is = absurd (nothing_unknown is)
-  unknown_told (Oct word) is = absurd (nothing_unknown is)
+  unknown_told (Bes terms) is = ap (operand_fault (fits_behind at)) (unknown_none E at terms is)
+  unknown_told (Dec numbers) is = absurd (nothing_unknown is)
+  unknown_told (Oct words) is = absurd (nothing_unknown is)
   unknown_told End is = absurd (nothing_unknown is)

@@ -4,7 +4,7 @@ use Rattle.std.specs.Prelude.{◌||◌, unsigned_abs}
 use Rattle.std.specs.List.{list_any}
 use Rattle.std.proofs.lemmas.List.{append-nil}
 use Rattle.ags_card.specs.declared.cards.Body.{Body}
-use Rattle.ags_card.specs.declared.cards.Body.TheVariants.{Comment, Order, Org, Equ, Bss, Dec, Oct, End}
+use Rattle.ags_card.specs.declared.cards.Body.TheVariants.{Comment, Order, Org, Equ, Bss, Bes, Dec, Oct, End}
 use Rattle.ags_card.specs.declared.cards.Card.{Card}
 use Rattle.ags_card.specs.declared.terms.Term.{Term}
 use Rattle.ags_symbol.specs.Symbol.{Entry}
@@ -17,8 +17,9 @@ moved E at (Order order terms indexed) plain = refl
 moved E at (Org terms) plain = absurd cc
 moved E at (Equ terms) plain = omega arith
 moved E at (Bss terms) plain = refl
-moved E at (Dec decimal) plain = refl
-moved E at (Oct word) plain = refl
+moved E at (Bes terms) plain = refl
+moved E at (Dec numbers) plain = refl
+moved E at (Oct words) plain = refl
 moved E at End plain = omega arith
 
 neither : (a b : Bool) → (a || b) ≡ false → (a ≡ false) × (b ≡ false)

@@ -3,7 +3,7 @@ use Rattle.std.specs.Prelude.{◌≡◌, ◌⊎◌, ℕ, Bool, true, false, if�
 use Rattle.std.specs.List.{All}
 use Rattle.ags_text.specs.Line.{LineAt, lines_of}
 use Rattle.ags_card.specs.declared.cards.Body.{Body}
-use Rattle.ags_card.specs.declared.cards.Body.TheVariants.{Comment, Order, Org, Equ, Bss, Dec, Oct, End}
+use Rattle.ags_card.specs.declared.cards.Body.TheVariants.{Comment, Order, Org, Equ, Bss, Bes, Dec, Oct, End}
 use Rattle.ags_card.specs.declared.cards.Card.{Card}
 use Rattle.ags_card.specs.declared.cards.CardFault.{CardFault}
 use Rattle.ags_card.specs.Reading.{reading}
@@ -15,8 +15,9 @@ is_end (Order order terms indexed) = false
 is_end (Org terms) = false
 is_end (Equ terms) = false
 is_end (Bss terms) = false
-is_end (Dec decimal) = false
-is_end (Oct word) = false
+is_end (Bes terms) = false
+is_end (Dec numbers) = false
+is_end (Oct words) = false
 is_end End = true
 
 -- whether a line is a card that ends the deck; a faulty line is none

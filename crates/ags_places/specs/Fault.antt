@@ -1,8 +1,8 @@
 -- What is wrong with the cards of a source, up to the phase of places.
-use Rattle.std.specs.Prelude.{ℕ, Bool, ◌&&◌, if◌then◌else◌, nat_lt, List, [], length, Option, Some, None, option_map, Result, Ok, Err, ℤ, pos, neg_ℤ, ◌+ℤ◌, int_le}
+use Rattle.std.specs.Prelude.{ℕ, ◌+◌, Bool, ◌&&◌, if◌then◌else◌, nat_le, List, [], length, Option, Some, None, option_map, Result, Ok, Err, ℤ, pos, neg_ℤ, ◌+ℤ◌, int_le}
 use Rattle.ags_text.specs.Fault.{first_fault}
 use Rattle.ags_card.specs.declared.cards.Body.{Body}
-use Rattle.ags_card.specs.declared.cards.Body.TheVariants.{Comment, Order, Org, Equ, Bss, Dec, Oct, End}
+use Rattle.ags_card.specs.declared.cards.Body.TheVariants.{Comment, Order, Org, Equ, Bss, Bes, Dec, Oct, End}
 use Rattle.ags_card.specs.declared.cards.Card.{Card}
 use Rattle.ags_card.specs.declared.cards.CardFault.{CardFault}
 use Rattle.ags_card.specs.declared.cards.CardFault.TheVariants as card
@@ -56,19 +56,24 @@ is_place value = int_le (pos 0) value && int_le value (pos 4095)
 abbrev pub is_value : ℤ → Bool
 is_value value = int_le (neg_ℤ value_limit) value && int_le value value_limit
 
--- a BSS goes forward, to the memory's end at most
+-- a BSS or a BES goes forward, to the memory's end at most
 abbrev pub fits_behind : ℕ → ℤ → Bool
 fits_behind at value = int_le (pos 0) value && int_le (pos at +ℤ value) (pos 4096)
+
+-- the memory has so many words from the place on
+abbrev pub holds_words : (at many : ℕ) → Bool
+holds_words at many = nat_le (at + many) 4096
 
 -- what is wrong with what a card asks for
 abbrev pub body_fault : List Entry → ℕ → Body → Option SourceKind
 body_fault early at Comment = None
-body_fault early at (Order order terms indexed) = unless (nat_lt at 4096)
+body_fault early at (Order order terms indexed) = unless (holds_words at 1)
 body_fault early at (Org terms) = operand_fault is_place (sum_of early at terms)
 body_fault early at (Equ terms) = operand_fault is_value (sum_of early at terms)
 body_fault early at (Bss terms) = operand_fault (fits_behind at) (sum_of early at terms)
-body_fault early at (Dec decimal) = unless (nat_lt at 4096)
-body_fault early at (Oct word) = unless (nat_lt at 4096)
+body_fault early at (Bes terms) = operand_fault (fits_behind at) (sum_of early at terms)
+body_fault early at (Dec numbers) = unless (holds_words at (length numbers))
+body_fault early at (Oct words) = unless (holds_words at (length words))
 body_fault early at End = None
 
 -- the first of two faults

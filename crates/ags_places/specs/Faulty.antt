@@ -4,7 +4,7 @@ use Rattle.std.specs.Prelude.{◌≡◌, ◌⊎◌, ℕ, ◌+◌, ◌<◌, List,
 use Rattle.std.specs.List.{Contains}
 use Rattle.ags_text.specs.Line.{LineAt}
 use Rattle.ags_card.specs.declared.cards.Body.{Body}
-use Rattle.ags_card.specs.declared.cards.Body.TheVariants.{Comment, Order, Org, Equ, Bss, Dec, Oct, End}
+use Rattle.ags_card.specs.declared.cards.Body.TheVariants.{Comment, Order, Org, Equ, Bss, Bes, Dec, Oct, End}
 use Rattle.ags_card.specs.declared.cards.Card.{Card}
 use Rattle.ags_card.specs.declared.cards.CardFault.{CardFault}
 use Rattle.ags_card.specs.declared.terms.Atom.TheVariants.{Symbol}
@@ -67,15 +67,16 @@ IsBefore before number card earlier = (later : List Card) × (before ≡ later +
 abbrev pub DefinesBefore : (before : List Card) (number : ℕ) (name : List ℕ) → Type 0
 DefinesBefore before number name = (card : Card) × (earlier : List Card) × IsBefore before number card earlier × (card.symbol ≡ Some name)
 
--- the operand of an ORG, an EQU or a BSS
+-- the operand of an ORG, an EQU, a BSS or a BES
 abbrev pub placing_terms : Body → List Term
 placing_terms Comment = []
 placing_terms (Order order terms indexed) = []
 placing_terms (Org terms) = terms
 placing_terms (Equ terms) = terms
 placing_terms (Bss terms) = terms
-placing_terms (Dec decimal) = []
-placing_terms (Oct word) = []
+placing_terms (Bes terms) = terms
+placing_terms (Dec numbers) = []
+placing_terms (Oct words) = []
 placing_terms End = []
 
 -- one of the terms is a symbol that no earlier card defines
@@ -87,16 +88,17 @@ UsesUndefined before terms = (term : Term) × (name : List ℕ) × Contains term
 abbrev pub ComesOutside : List Entry → ℕ → List Term → (least most : ℤ) → Type 0
 ComesOutside symbols at terms least most = (value : ℤ) × (sum_of symbols at terms ≡ Some value) × ((value <ℤ least) ⊎ (most <ℤ value))
 
--- A place or a value is out of its limits: the place of a word, the place that an ORG sets, the value of an EQU, or a BSS that goes
--- back or beyond the memory's end.
+-- A place or a value is out of its limits: the place of an order's word, or of the last word of a DEC or an OCT, the place that an
+-- ORG sets, the value of an EQU, or a BSS or a BES that goes back or beyond the memory's end.
 abbrev pub IsOutOfRange : List Entry → ℕ → Body → Type 0
 IsOutOfRange symbols at Comment = ⊥
 IsOutOfRange symbols at (Order order terms indexed) = 4095 < at
 IsOutOfRange symbols at (Org terms) = ComesOutside symbols at terms (pos 0) (pos 4095)
 IsOutOfRange symbols at (Equ terms) = ComesOutside symbols at terms (neg_ℤ (pos 262143)) (pos 262143)
 IsOutOfRange symbols at (Bss terms) = (value : ℤ) × (sum_of symbols at terms ≡ Some value) × ((value <ℤ pos 0) ⊎ (pos 4096 <ℤ (pos at +ℤ value)))
-IsOutOfRange symbols at (Dec decimal) = 4095 < at
-IsOutOfRange symbols at (Oct word) = 4095 < at
+IsOutOfRange symbols at (Bes terms) = (value : ℤ) × (sum_of symbols at terms ≡ Some value) × ((value <ℤ pos 0) ⊎ (pos 4096 <ℤ (pos at +ℤ value)))
+IsOutOfRange symbols at (Dec numbers) = 4096 < at + length numbers
+IsOutOfRange symbols at (Oct words) = 4096 < at + length words
 IsOutOfRange symbols at End = ⊥
 
 -- the card has a fault of that kind, where S fits the cards: operands are taken over the pairs of the cards before it

@@ -5,24 +5,25 @@ use Rattle.ags_symbol.specs.Symbol.{Entry}
 use Rattle.ags_places.specs.declared.placed.Placed.{Placed}
 use Rattle.ags_places.specs.declared.source_error.SourceError.{SourceError}
 use Rattle.ags_places.specs.Deck.{card_lines, cards}
-use Rattle.ags_places.specs.Place.{Fits, places}
+use Rattle.ags_places.specs.Place.{Fits, counts, places}
 use Rattle.ags_places.specs.Fault.{early_fault, first_place_fault}
 
--- a card before its word is made: the span of its line, and the place of its word, where it has one
-abbrev pub placed_at : LineAt → Option ℕ → Placed
-placed_at line at = record { start = line.start; end = line.start + length line.bytes; place = at; word = 0 }
+-- a card as it is placed: the span of its line, the place of its first word, where it has some, and how many it has
+abbrev pub placed_at : LineAt → (at : Option ℕ) → (many : ℕ) → Placed
+placed_at line at many = record { start = line.start; end = line.start + length line.bytes; place = at; count = many }
 
--- each line's card so, where there are as many places as lines
-abbrev pub placed_cards : List LineAt → List (Option ℕ) → List Placed
-placed_cards [] places = []
-placed_cards (line ∷ lines) [] = []
-placed_cards (line ∷ lines) (at ∷ places) = placed_at line at ∷ placed_cards lines places
+-- each line's card so, where there are as many places and counts as lines
+abbrev pub placed_cards : List LineAt → (places : List (Option ℕ)) → (counts : List ℕ) → List Placed
+placed_cards [] places counts = []
+placed_cards (line ∷ lines) [] counts = []
+placed_cards (line ∷ lines) (at ∷ places) [] = []
+placed_cards (line ∷ lines) (at ∷ places) (many ∷ counts) = placed_at line at many ∷ placed_cards lines places counts
 
 -- The text is a source without a fault up to the phase of places, S is what its symbols stand for, and these are its cards.
 pub record IsPlaced (text : List ℕ) (placed : List Placed) (S : List Entry) : Type 0 where
   pub fits : Fits S (cards text)
   pub faultless : early_fault S text ≡ None
-  pub cards_are : placed ≡ placed_cards (card_lines text) (places S (cards text))
+  pub cards_are : placed ≡ placed_cards (card_lines text) (places S (cards text)) (counts (cards text))
 
 -- the first fault of the phase of places is this one
 pub record IsFirstPlaceFault (text : List ℕ) (error : SourceError) : Type 0 where

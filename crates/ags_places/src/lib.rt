@@ -13,7 +13,7 @@ pub use laws::{
     one_list_of_pairs_fits, places_are_sums, source_ends_at_its_first_end,
     words_stand_in_the_memory,
 };
-pub use placed::{Placed, place_of_word};
+pub use placed::{Placed, count_of, place_of_word};
 pub use placing::{Stop, place_card};
 pub use reading::{SOURCE_LIMIT, is_end, kind_of};
 pub use source_error::{AssembleError, SourceError, SourceKind};

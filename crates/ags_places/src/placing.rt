@@ -1,9 +1,9 @@
 //! What a card does at its place (docs/SOURCE.md, Places).
 
-ghost use Rattle.std.specs.Prelude.{◌≡◌, ◌+◌, ◌≤◌, ◌++◌, pos, None, Some, OnOk, IfOk, IfErr, nat_lt};
+ghost use Rattle.std.specs.Prelude.{◌≡◌, ◌+◌, ◌≤◌, ◌++◌, pos, None, Some, OnOk, IfOk, IfErr};
 ghost use Rattle.ags_symbol.specs.Symbol.{IsValue, sum_of};
 ghost use Rattle.ags_places.specs.Effect.{IsEffect, IsStop};
-ghost use Rattle.ags_places.specs.Fault.{body_fault, twice, or_else, place_fault_at, unless};
+ghost use Rattle.ags_places.specs.Fault.{body_fault, twice, or_else, holds_words, place_fault_at, unless};
 ghost use Rattle.ags_places.specs.Place.{pair_of, place_after, symbol_value};
 
 use crate::source_error::SourceKind;
@@ -45,20 +45,22 @@ fn stay(place: u16) -> Effect
     }
 }
 
-/// A card with a word.
-fn place_word(place: u16) -> Result<Effect, SourceKind>
-    requires { place ≤ 4096 }
-    ensures faultless { OnOk result (unless (nat_lt place 4096) ≡ None) }
+/// A card with so many words.
+fn place_words(place: u16, count: u16) -> Result<Effect, SourceKind>
+    requires place { place ≤ 4096 }
+    requires count { count ≤ 64 }
+    ensures faultless { OnOk result (unless (holds_words place count) ≡ None) }
     ensures value { IfOk result (λ effect. effect.value ≡ pos place) }
-    ensures next { IfOk result (λ effect. effect.next ≡ place + 1) }
+    ensures next { IfOk result (λ effect. effect.next ≡ place + count) }
     ensures is_value { IfOk result (λ effect. IsValue effect.value) }
     ensures small { IfOk result (λ effect. effect.next ≤ 4096) }
-    ensures fault { IfErr result (λ kind. unless (nat_lt place 4096) ≡ Some kind) }
+    ensures fault { IfErr result (λ kind. unless (holds_words place count) ≡ Some kind) }
 {
-    if place < LOCATIONS {
+    let next = place + count;
+    if next <= LOCATIONS {
         Ok(Effect {
             value: i32::from(place),
-            next: place + 1,
+            next,
         })
     } else {
         Err(SourceKind::PlaceRange)
@@ -119,6 +121,21 @@ fn move_place(symbols: &Symbols, place: u16, terms: &Terms) -> Result<Effect, So
     Ok(Effect { value, next })
 }
 
+/// A BES.
+fn move_before(symbols: &Symbols, place: u16, terms: &Terms) -> Result<Effect, SourceKind>
+    requires { place ≤ 4096 }
+    ensures effect { IfOk result (IsEffect symbols.now place (Body.Bes terms.now)) }
+    ensures fault { IfErr result (λ kind. body_fault symbols.now place (Body.Bes terms.now) ≡ Some kind) }
+{
+    let size = read_operand(symbols, place, terms)?;
+    if size < 0 || size > i32::from(LOCATIONS) - i32::from(place) {
+        return Err(SourceKind::PlaceRange);
+    }
+    let next = place + size as u16;
+    let value = i32::from(next);
+    Ok(Effect { value, next })
+}
+
 /// What a card does at its place.
 fn effect_of(symbols: &Symbols, place: u16, body: &Body) -> Result<Effect, SourceKind>
     requires { place ≤ 4096 }
@@ -127,10 +144,13 @@ fn effect_of(symbols: &Symbols, place: u16, body: &Body) -> Result<Effect, Sourc
 {
     match body {
         Body::Comment | Body::End => Ok(stay(place)),
-        Body::Order { .. } | Body::Dec(_) | Body::Oct(_) => place_word(place),
+        Body::Order { .. } => place_words(place, 1),
+        Body::Dec(numbers) => place_words(place, numbers.items().len() as u16),
+        Body::Oct(words) => place_words(place, words.items().len() as u16),
         Body::Org(terms) => set_place(symbols, place, terms),
         Body::Equ(terms) => give_value(symbols, place, terms),
         Body::Bss(terms) => move_place(symbols, place, terms),
+        Body::Bes(terms) => move_before(symbols, place, terms),
     }
 }
 

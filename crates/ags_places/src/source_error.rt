@@ -14,26 +14,26 @@ pub enum SourceKind {
     BadByte,
     /// Number 2: the card has more than 120 bytes.
     LongCard,
-    /// Number 3: the symbol field is no symbol, or an EQU has none.
+    /// Number 3: the symbol field is no symbol, or an EQU or a SYN has none.
     BadSymbol,
     /// Number 4: the operation is missing, or is none of the names.
     UnknownOperation,
     /// Number 5: an operation that takes an operand has none.
     MissingOperand,
-    /// Number 6: the operand of an ORG, EQU, BSS, DEC or OCT has a comma.
+    /// Number 6: the operand of an ORG, EQU, SYN, BSS or BES has a comma.
     ExtraOperand,
     /// Number 7: the operand is no expression.
     BadExpression,
-    /// Number 8: the operand of a DEC is no decimal.
+    /// Number 8: some operand of a DEC, an empty one too, is no decimal.
     BadDecimal,
-    /// Number 9: the operand of an OCT is no octal number.
+    /// Number 9: some operand of an OCT, an empty one too, is no octal number.
     BadOctal,
     /// Number 10: an earlier card, `first`, defines the symbol.
     SymbolTwice {
         /// The earlier card's number, counted from 1.
         first: u32,
     },
-    /// Number 11: an ORG, EQU or BSS uses a symbol that no earlier card defines.
+    /// Number 11: an ORG, EQU, SYN, BSS or BES uses a symbol that no earlier card defines.
     UndefinedEarly,
     /// Number 12: a place or a value is out of its limits.
     PlaceRange,
@@ -44,9 +44,9 @@ pub enum SourceKind {
         /// What the operand comes to.
         value: i32,
     },
-    /// Number 15: the value of a DEC is no word's.
+    /// Number 15: some value of a DEC is no word's.
     ValueRange,
-    /// Number 16: an earlier card, `first`, has its word at that place.
+    /// Number 16: an earlier card has a word at one of the card's places; `first` has one at the least such place.
     PlaceTwice {
         /// The earlier card's number, counted from 1.
         first: u32,

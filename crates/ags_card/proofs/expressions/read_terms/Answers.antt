@@ -1,23 +1,25 @@
-use Rattle.std.proofs.Common.{◌≡◌, Some, [], length, ap, length-drop, arith}
+use Rattle.std.proofs.Common.{◌≡◌, Some, [], length, refl, sym, ap, length-drop, arith}
 use Rattle.std.proofs.lemmas.List.Elements.{All-push}
 use Rattle.ags_card.specs.Reading.{atom_reading, terms_reading}
 use Rattle.ags_card.specs.Term.{HasSmallNumber}
 use Rattle.ags_card.proofs.TermLemmas.{read_none, read_last, read_more, none_empty, not_empty, is_empty, behind_first}
 use Rattle.ags_card.proofs.expressions.read_terms.Goals as goal
 
-pub returns-in_default : goal.returns-in_default
-returns-in_default c =
-    let l = c.loop-atom in
-    read_none l.terms.items l.minus l.rest.now c.split_at.result.0.now c.split_at.result.1.now (terms_reading c.args.minus [] c.args.text.now) l.invariant.whole
-    (rw c.front_len.ensures.place at c.split_at.ensures.front) (rw c.front_len.ensures.place at c.split_at.ensures.back) (cc (c.read_atom.ensures.same, c.in_default.is))
+pub returns-in_default-clause-fault : goal.returns-in_default-clause-fault
+returns-in_default-clause-fault c =
+    let l = c.loop-atom in (
+      sym (read_none l.terms.items l.minus l.rest.now c.split_at.result.0.now c.split_at.result.1.now (terms_reading c.args.minus [] c.args.text.now) l.invariant.whole
+          (rw c.front_len.ensures.place at c.split_at.ensures.front) (rw c.front_len.ensures.place at c.split_at.ensures.back) (cc (c.read_atom.ensures.same, c.in_default.is))),
+      refl,
+    )
 
-pub returns-then-is_empty : goal.returns-then-is_empty
-returns-then-is_empty c =
+pub returns-then-is_empty-clause-read : goal.returns-then-is_empty-clause-read
+returns-then-is_empty-clause-read c =
     let l = c.loop-atom in
     let behind = c.split_at.result.1.now in
-    rw (c.of.ensures, c.push.ensures.items) (
-    read_last l.terms.items l.minus l.rest.now c.split_at.result.0.now behind c.in-Some.atom (terms_reading c.args.minus [] c.args.text.now) l.invariant.whole
-    (rw c.front_len.ensures.place at c.split_at.ensures.front) (rw c.front_len.ensures.place at c.split_at.ensures.back) (cc (c.read_atom.ensures.same, c.in-Some.is)) (is_empty behind c.is_empty.result c.is_empty.ensures c.if-is_empty.true)
+    rw c.push.ensures.items (
+    sym (read_last l.terms.items l.minus l.rest.now c.split_at.result.0.now behind c.in-Some.atom (terms_reading c.args.minus [] c.args.text.now) l.invariant.whole
+    (rw c.front_len.ensures.place at c.split_at.ensures.front) (rw c.front_len.ensures.place at c.split_at.ensures.back) (cc (c.read_atom.ensures.same, c.in-Some.is)) (is_empty behind c.is_empty.result c.is_empty.ensures c.if-is_empty.true))
     )
 
 pub loop-atom-preserved : goal.loop-atom-preserved

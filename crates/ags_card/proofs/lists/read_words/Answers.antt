@@ -1,0 +1,43 @@
+use Rattle.std.proofs.Common.{◌≡◌, ◌<◌, ◌∙◌, Some, None, [], length, take, refl, sym, ap, length-drop, arith}
+use Rattle.std.proofs.lemmas.List.{take_more_set}
+use Rattle.ags_card.specs.Reading.{list_reading, octal_reading}
+use Rattle.ags_card.proofs.ListLaws.{list_none, list_last, list_more}
+use Rattle.ags_card.proofs.OperandLaws.{octal_there}
+use Rattle.ags_card.proofs.TermLemmas.{not_empty, is_empty, behind_first}
+use Rattle.ags_card.proofs.lists.read_words.Goals as goal
+
+pub returns-in_default-clause-fault : goal.returns-in_default-clause-fault
+returns-in_default-clause-fault c =
+    let l = c.loop-word in
+    (
+      list_none octal_reading (take l.count l.words) l.rest.now c.split_at.result.0.now c.split_at.result.1.now (list_reading octal_reading [] c.args.text.now) l.invariant.whole
+      (rw c.comma_place.ensures.place at c.split_at.ensures.front) (rw c.comma_place.ensures.place at c.split_at.ensures.back) (cc (c.read_signed_octal.ensures, c.in_default.is)),
+      refl,
+    )
+
+pub returns-then-is_empty-clause-read : goal.returns-then-is_empty-clause-read
+returns-then-is_empty-clause-read c =
+    let l = c.loop-word in
+    let behind = c.split_at.result.1.now in
+    let room : l.count < length l.words = omega arith in
+    rw (take_more_set l.words l.count c.in-Some.word room) (
+    list_last octal_reading (take l.count l.words) l.rest.now c.split_at.result.0.now behind c.in-Some.word (list_reading octal_reading [] c.args.text.now) l.invariant.whole
+    (rw c.comma_place.ensures.place at c.split_at.ensures.front) (rw c.comma_place.ensures.place at c.split_at.ensures.back) (cc (c.read_signed_octal.ensures, c.in-Some.is)) (is_empty behind c.is_empty.result c.is_empty.ensures c.if-is_empty.true)
+    )
+
+pub loop-word-preserved : goal.loop-word-preserved
+loop-word-preserved c =
+    let l = c.loop-word in
+    let front = c.split_at.result.0.now in
+    let behind = c.split_at.result.1.now in
+    let room : l.count < length l.words = omega arith in
+    let some : octal_reading front ≡ Some c.in-Some.word = (cc (c.read_signed_octal.ensures, c.in-Some.is)) in
+    let more = not_empty behind c.is_empty.result c.is_empty.ensures c.if-is_empty.false in
+    let tail = behind_first behind in
+    let whole = list_more octal_reading (take l.count l.words) l.rest.now front behind c.in-Some.word (list_reading octal_reading [] c.args.text.now) l.invariant.whole
+    (rw c.comma_place.ensures.place at c.split_at.ensures.front) (rw c.comma_place.ensures.place at c.split_at.ensures.back) some more in
+    record {
+      whole = rw (take_more_set l.words l.count c.in-Some.word room, tail) whole;
+      most = omega arith;
+      room = omega (arith, ap length tail, length-drop 1 behind, octal_there front c.in-Some.word some, c.split_at.ensures.front_len, c.split_at.ensures.back_len, c.comma_place.ensures.within, l.invariant.room);
+    }

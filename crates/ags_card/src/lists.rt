@@ -1,0 +1,188 @@
+//! The constants of DEC and OCT: lists of them.
+
+ghost use Rattle.std.specs.Prelude.{◌≡◌, ◌≤◌, ◌==◌, [], ◌∷◌, length, position, take, Some, None, OnOk, IfOk, IfErr};
+ghost use Rattle.std.specs.List.{position_or_len};
+ghost use Rattle.ags_decimal.specs.Reading as decimal;
+ghost use Rattle.ags_card.specs.Constant.{AreConstants};
+ghost use Rattle.ags_card.specs.Reading.{list_reading, octal_reading};
+
+use crate::cards::CardFault;
+use crate::operands::read_signed_octal;
+use ags_decimal::Decimal;
+use ags_word::Word;
+use arrayvec::ArrayVec;
+use std::marker::Model;
+
+/// How many constants a card has at most.
+pub const MOST_CONSTANTS: usize = 64;
+
+/// The words of an OCT, of which there are 1 to 64.
+#[derive(Drop)]
+pub struct OctList {
+    /// The words, and further ones behind them.
+    words: [Word; MOST_CONSTANTS],
+    /// How many of them are the list's.
+    count: usize,
+}
+
+impl Model for OctList {
+    ghost use Rattle.std.specs.Prelude.{ℕ, ◌≤◌, List, take};
+    ghost use Rattle.ags_card.specs.Constant.{AreConstants};
+
+    ghost Value = { List ℕ };
+
+    ghost view = { λ list. take list.count list.words };
+
+    ghost invariant = { λ list. AreConstants (take list.count list.words) × (list.count ≤ 64) };
+}
+
+/// The decimals of a DEC, of which there are 1 to 64.
+#[derive(Drop)]
+pub struct DecList {
+    items: ArrayVec<Decimal, MOST_CONSTANTS>,
+}
+
+impl Model for DecList {
+    ghost use Rattle.std.specs.Prelude.{List};
+    ghost use Rattle.ags_decimal.specs.Decimal.{Parts};
+    ghost use Rattle.ags_card.specs.Constant.{AreConstants};
+
+    ghost Value = { List Parts };
+
+    ghost view = { λ list. list.items.items };
+
+    ghost invariant = { λ list. AreConstants list.items.items };
+}
+
+/// Where the first comma stands.
+fn first_comma(text: &[u8]) -> Option<usize>
+    ensures { result ≡ position (λ b. b == 44) text.now }
+{
+    text.iter().position(|byte| *byte == b',')
+}
+
+/// How long the front of a text is before its first comma.
+fn comma_place(text: &[u8]) -> usize
+    ensures place { result ≡ position_or_len (λ b. b == 44) text.now }
+    ensures within { result ≤ length text.now }
+{
+    first_comma(text).unwrap_or(text.len())
+}
+
+/// Puts the words of the octal numbers between a text's commas at the front of a list, and tells how many they are.
+fn read_words(text: &[u8], words: &mut [Word]) -> Result<usize, CardFault>
+    requires short { length text.now ≤ 120 }
+    requires room { length words.old ≡ 64 }
+    ensures read { IfOk result (λ count. list_reading octal_reading [] text.now ≡ Some (take count words.new)) }
+    ensures constants { IfOk result (λ count. AreConstants (take count words.new) × (count ≤ 64)) }
+    ensures fault { IfErr result (λ fault. (list_reading octal_reading [] text.now ≡ None) × (fault ≡ CardFault.BadOctal)) }
+{
+    let mut count = 0;
+    let mut rest = text;
+    loop {
+        let (front, behind) = rest.split_at(comma_place(rest));
+        let Some(word) = read_signed_octal(front) else {
+            return Err(CardFault::BadOctal);
+        };
+        words[count] = word;
+        count += 1;
+        if behind.is_empty() {
+            return Ok(count);
+        }
+        rest = &behind[1..];
+    }
+}
+
+impl OctList {
+    /// The words in order.
+    pub fn items(&self) -> &[Word]
+        ensures same { result.now ≡ self.now }
+        ensures constants { AreConstants result.now }
+    {
+        &self.words[..self.count]
+    }
+
+    /// The one word 0.
+    pub(crate) fn zero() -> OctList {
+        OctList {
+            words: [Word::ZERO; MOST_CONSTANTS],
+            count: 1,
+        }
+    }
+
+    /// Reads the words of an operand in place of these, which are the one word 0 where some number of it is none.
+    pub(crate) fn read(&mut self, operand: &[u8]) -> Result<(), CardFault>
+        requires { length operand.now ≤ 120 }
+        ensures read { OnOk result (list_reading octal_reading [] operand.now ≡ Some self.new) }
+        ensures fault { IfErr result (λ fault. (list_reading octal_reading [] operand.now ≡ None) × (fault ≡ CardFault.BadOctal)) }
+    {
+        match read_words(operand, &mut self.words) {
+            Ok(count) => {
+                self.count = count;
+                Ok(())
+            }
+            Err(fault) => {
+                *self = OctList::zero();
+                Err(fault)
+            }
+        }
+    }
+}
+
+/// Fills an empty list with the decimals between a text's commas.
+fn read_decimals(
+    text: &[u8],
+    numbers: &mut ArrayVec<Decimal, MOST_CONSTANTS>,
+) -> Result<(), CardFault>
+    requires short { length text.now ≤ 120 }
+    requires empty { numbers.old.items ≡ [] }
+    ensures read { OnOk result (list_reading decimal.reading [] text.now ≡ Some numbers.new.items) }
+    ensures constants { OnOk result (AreConstants numbers.new.items) }
+    ensures fault { IfErr result (λ fault. (list_reading decimal.reading [] text.now ≡ None) × (fault ≡ CardFault.BadDecimal)) }
+{
+    let mut rest = text;
+    loop {
+        let (front, behind) = rest.split_at(comma_place(rest));
+        let Some(number) = ags_decimal::read(front) else {
+            return Err(CardFault::BadDecimal);
+        };
+        numbers.push(number);
+        if behind.is_empty() {
+            return Ok(());
+        }
+        rest = &behind[1..];
+    }
+}
+
+impl DecList {
+    /// The decimals in order.
+    pub fn items(&self) -> &[Decimal]
+        ensures same { result.now ≡ self.now }
+        ensures constants { AreConstants result.now }
+    {
+        self.items.as_slice()
+    }
+
+    /// The one number 0.
+    pub(crate) fn zero() -> DecList {
+        let mut items: ArrayVec<Decimal, MOST_CONSTANTS> = ArrayVec::new();
+        items.push(Decimal::default());
+        DecList { items }
+    }
+
+    /// Reads the decimals of an operand in place of these, which are the one number 0 where some number of it is none.
+    pub(crate) fn read(&mut self, operand: &[u8]) -> Result<(), CardFault>
+        requires { length operand.now ≤ 120 }
+        ensures read { OnOk result (list_reading decimal.reading [] operand.now ≡ Some self.new) }
+        ensures fault { IfErr result (λ fault. (list_reading decimal.reading [] operand.now ≡ None) × (fault ≡ CardFault.BadDecimal)) }
+    {
+        self.items.clear();
+        match read_decimals(operand, &mut self.items) {
+            Ok(()) => Ok(()),
+            Err(fault) => {
+                *self = DecList::zero();
+                Err(fault)
+            }
+        }
+    }
+}
