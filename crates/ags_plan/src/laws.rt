@@ -8,16 +8,16 @@ ghost use Rattle.ags_plan.specs.Outcome.{AbsentExactly, Ends, EndsExactly, LongE
 ghost use Rattle.ags_plan.specs.Plan.{End, Plan, Read, Take, WorkAt};
 ghost use Rattle.ags_plan.specs.Walk.{Agrees, EndsAt, LeadsTo, Tells, Told};
 
-use crate::program::Program;
+use crate::program::Loader;
 
 /// Whatever a shelf tells, each command line has an answer.
-pub fn each_command_line_has_an_answer<P: Program>()
+pub fn each_command_line_has_an_answer<P: Loader>()
     ensures { (told : Told) (arguments : List (List ℕ))
         → (text : List ℕ) × (status : P.Status) × IsAnswer P.definition told (P.plan_of arguments) text status }
 {}
 
 /// Where a shelf tells each file that is fetched, a command line has one answer.
-pub fn command_lines_have_one_answer<P: Program>()
+pub fn command_lines_have_one_answer<P: Loader>()
     ensures { (told : Told) (arguments : List (List ℕ)) (text other : List ℕ) (status ended : P.Status)
         → TellsFiles P.definition told (P.plan_of arguments)
         → IsAnswer P.definition told (P.plan_of arguments) text status → IsAnswer P.definition told (P.plan_of arguments) other ended
@@ -25,7 +25,7 @@ pub fn command_lines_have_one_answer<P: Program>()
 {}
 
 /// What a run's content says of each status: when it comes, and what was printed then.
-pub fn content_decides<P: Program>()
+pub fn content_decides<P: Loader>()
     ensures exactly { (told : Told) (arguments : List (List ℕ)) (old new : Option (List ℕ)) (result : P.Status)
         → Ends P.definition (IsAnswer P.definition told (P.plan_of arguments)) old new result → TellsFiles P.definition told (P.plan_of arguments)
         → (text : List ℕ) (status : P.Status) → IsAnswer P.definition told (P.plan_of arguments) text status
@@ -46,7 +46,7 @@ pub fn content_decides<P: Program>()
 
 /// A plan is loaded file by file: where its first file isn't loaded, that is how the walk ends, and where it is, the rest of the
 /// plan goes on from its value. The same holds of bytes that the program makes itself, which no shelf is asked for.
-pub fn plans_are_loaded_file_by_file<P: Program>()
+pub fn plans_are_loaded_file_by_file<P: Loader>()
     ensures stops { (told : Told) (kind : P.definition.Kind) (name : List ℕ) (next : P.definition.Value kind → Plan P.definition)
         (why : Option (End P.definition)) → LoadsFile P.definition told kind name (Err why) → Loads P.definition told (Read kind name next) (Err why) }
     ensures goes_on { (told : Told) (kind : P.definition.Kind) (name : List ℕ) (next : P.definition.Value kind → Plan P.definition)
@@ -64,7 +64,7 @@ pub fn plans_are_loaded_file_by_file<P: Program>()
 
 /// A walk ends in a work exactly where it comes past all files to it, over files that agree with what the shelf tells, and over
 /// told files.
-pub fn walks_lead_to_their_works<P: Program>()
+pub fn walks_lead_to_their_works<P: Loader>()
     ensures agrees { (told : Told) (plan : Plan P.definition) (work : P.definition.Work)
         → EndsAt P.definition Agrees told plan (WorkAt work) ↔ LeadsTo P.definition Agrees told plan work }
     ensures tells { (told : Told) (plan : Plan P.definition) (work : P.definition.Work)

@@ -1,8 +1,9 @@
 //! One walk for every command. A program's commands are values of one type; a command's plan (`specs/Plan.antt`) says
 //! which file is wanted next, what the bytes so far ask for, and what is answered when a file is absent or too long.
-//! `run` walks the plan of whatever command the arguments ask for, and its contract says, once for all commands, what
-//! is printed, which status the process leaves with and what each answer of the surroundings leads to. A program gives
-//! its own part by the trait `Program`: its definitions, and for each what its own functions prove. It stands on
+//! `load_or_say` walks the plan of whatever command the arguments ask for, and either hands its work over or says why it
+//! can't, and `run` does the work behind that; their contracts say, once for all commands, what is printed, which status
+//! the process leaves with and what each answer of the surroundings leads to. A program gives its own part by the traits
+//! `Loader` and `Program`: its definitions, and for each what its own functions prove. It stands on
 //! `ags_outside` for files and output.
 #![tactic(auto)]
 
@@ -20,6 +21,6 @@ pub use laws::{
     plans_are_loaded_file_by_file, walks_lead_to_their_works,
 };
 pub use loading::{fetch_file, fetch_file_into};
-pub use program::Program;
-pub use running::run;
+pub use program::{Loader, Program};
+pub use running::{do_work, load_or_say, run};
 pub use unloaded::Unloaded;

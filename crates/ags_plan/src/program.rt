@@ -1,4 +1,4 @@
-//! What a program is to the walk along its plans.
+//! What a program is to the walk along its plans: how it loads what a command line asks for, and how it does it.
 
 ghost use Rattle.std.specs.Prelude.{◌≡◌, ℕ, List, IfOk, map};
 ghost use Rattle.std.specs.Result.{result_map_both};
@@ -15,8 +15,9 @@ use crate::unloaded::Unloaded;
 use ags_outside::{SendError, Shelf, Sink};
 use std::alloc::{AllocError, Global};
 
-/// A program of commands: what its command lines ask for, how their files are loaded, and how the work is done.
-pub trait Program {
+/// What loads the command lines of a program: what they ask for, how their files are loaded, and what is said where they aren't.
+/// Whatever is done with what was loaded is no part of it, so that a program whose work takes more than a sink loads by it too.
+pub trait Loader {
     /// How its runs end.
     type Status: Copy;
 
@@ -68,16 +69,19 @@ pub trait Program {
         ensures faults { HasCause (S.faults shelf.old) (S.faults shelf.new) (is_read_fault result) }
         ensures absences { HasCause (S.absences shelf.old) (S.absences shelf.new) (is_absence result) };
 
-    /// Does a work that was loaded.
-    fn perform<K: Sink>(
-        alloc: Global,
-        work: &Self::Work,
-        out: &mut K,
-    ) -> Result<Self::Status, SendError>
-        requires { ready work.now }
-        ensures performs { Says definition (WorkAt (work_of work.now)) (K.told out.old) (K.told out.new) result }
-        ensures faults { HasCause (K.faults out.old) (K.faults out.new) (is_write_fault result) };
-
     /// Its definition is lawful.
     ghost lawful: { IsLawful definition plan_of };
+}
+
+/// A program of commands, which does what it loaded into a sink and needs nothing else for it.
+pub trait Program: Loader {
+    /// Does a work that was loaded, which is its own from then on.
+    fn perform<K: Sink>(
+        alloc: Global,
+        work: Self::Work,
+        out: &mut K,
+    ) -> Result<Self::Status, SendError>
+        requires { Self.ready work }
+        ensures performs { Says Self.definition (WorkAt (Self.work_of work)) (K.told out.old) (K.told out.new) result }
+        ensures faults { HasCause (K.faults out.old) (K.faults out.new) (is_write_fault result) };
 }

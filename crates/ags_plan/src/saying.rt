@@ -9,7 +9,7 @@ ghost use Rattle.ags_plan.specs.Plan.{absent_line, long_line};
 ghost use Rattle.ags_plan.specs.Saying.{SaysWhy, settled};
 
 use crate::causes::Stop;
-use crate::program::Program;
+use crate::program::Loader;
 use crate::unloaded::Unloaded;
 use ags_outside::{SendError, Sink, send};
 use std::alloc::{AllocError, Global};
@@ -49,7 +49,7 @@ fn say<T: Copy, K: Sink>(
 }
 
 /// Says why the files of a command line weren't loaded.
-pub(crate) fn say_unloaded<P: Program, K: Sink>(
+pub(crate) fn say_unloaded<P: Loader, K: Sink>(
     alloc: Global,
     why: Unloaded<'_, P::Refusal>,
     out: &mut K,
@@ -75,7 +75,7 @@ pub(crate) fn say_unloaded<P: Program, K: Sink>(
 }
 
 /// The status of a run by what its last part came to.
-pub(crate) fn settle<P: Program>(ended: Result<P::Status, SendError>) -> P::Status
+pub(crate) fn settle<P: Loader>(ended: Result<P::Status, SendError>) -> P::Status
     ensures { result ≡ settled P.definition ended }
 {
     match ended {

@@ -23,7 +23,7 @@ use Rattle.ags_verdict.specs.declared.verdicts.Verdict.TheVariants.{Certified, R
 use Rattle.ags_ports.specs.declared.machines.Machine.{Machine}
 use Rattle.ags_program.specs.declared.status.Status.{Status}
 use Rattle.ags_program.specs.Files.{Kind, MachineFile, Source, Listing, Certificate, Script, Refuses}
-use Rattle.ags_top.specs.Outcome.{IsDeclaredOn, IsAcceptedPlayOn, SafeWhereCertifiedIsWritten}
+use Rattle.ags_top.specs.Outcome.{Call, IsDeclaredOn, IsAcceptedPlayOn, SafeWhereCertifiedIsWritten}
 use Rattle.ags_program.specs.Program.{program, plan_of}
 use Rattle.ags_program.specs.Text.{certificate_fault_line, certified_word, fault_line, listing_fault_line, machine_fault_line, script_fault_line, verdict_line}
 use Rattle.ags_program.specs.Work.{Work, Makes}
@@ -138,12 +138,12 @@ module _ (Answer : (text : List ℕ) → Status → Type 0) (old new : Option (L
   taken WriteFault status ends = of_prefix ends
   taken Memory status ends = of_prefix ends
 
-pub safe_where_certified_is_written : (told : Told) (arguments : List (List ℕ)) (old new : Option (List ℕ)) (result : Status)
-    → Ends program (IsAnswer program told (plan_of arguments)) old new result → SafeWhereCertifiedIsWritten told arguments old new
-safe_where_certified_is_written told arguments old new result ends source script certificate source_bytes script_bytes certificate_bytes held behind machine_file asked known also too holds took =
-    let (text, status, answer, begins, front) = taken (IsAnswer program told (plan_of arguments)) old new held behind holds took (program.cause result) result ends in
-    let (work, found, makes) = certified_work told (plan_of arguments) status answer.end text answer.ends answer.comes begins in
-    let (machine, machine_is, valid, way) = way_asked told arguments old new result ends machine_file (Guard source script certificate) work asked found in
-    let guarded = guarded_told told machine source script certificate source_bytes script_bytes certificate_bytes text status work known also too way makes in
+pub safe_where_certified_is_written : (call : Call) → Ends program (IsAnswer program call.told (plan_of call.arguments)) call.old call.new call.result
+    → SafeWhereCertifiedIsWritten call
+safe_where_certified_is_written call ends source script certificate source_bytes script_bytes certificate_bytes held behind machine_file asked known also too holds took =
+    let (text, status, answer, begins, front) = taken (IsAnswer program call.told (plan_of call.arguments)) call.old call.new held behind holds took (program.cause call.result) call.result ends in
+    let (work, found, makes) = certified_work call.told (plan_of call.arguments) status answer.end text answer.ends answer.comes begins in
+    let (machine, machine_is, valid, way) = way_asked call ends machine_file (Guard source script certificate) work asked found in
+    let guarded = guarded_told call.told machine source script certificate source_bytes script_bytes certificate_bytes text status work known also too way makes in
     let declared = declared_of machine source_bytes script_bytes certificate_bytes text status valid guarded in
     (machine, machine_is, (text, status, safe_of_declared machine source_bytes script_bytes certificate_bytes text status begins declared, front))

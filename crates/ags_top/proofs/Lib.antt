@@ -6,4 +6,5 @@ pub mod GuardLemmas
 pub mod ListedLemmas
 pub mod MainLemmas
 pub mod PlayLemmas
+pub mod PromiseLemmas
 pub mod WriteLemmas

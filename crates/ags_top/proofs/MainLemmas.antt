@@ -45,7 +45,7 @@ use Rattle.ags_top.proofs.DeclaredLemmas.{guarded_told, declared_of}
 use Rattle.ags_program.specs.declared.status.Status.{Status}
 use Rattle.ags_program.specs.declared.status.Status.TheVariants.{Done, No, BadMachine, BadSource, BadWords, BadCert, BadText}
 use Rattle.ags_program.specs.Files.{Kind, MachineFile, Source, Listing, Certificate, Script, limit_of, Refuses, refused_status}
-use Rattle.ags_top.specs.Outcome.{EndsWith, IsMachineOf, WritesWhatIsDefined, IsComparedOn, ComparesWhatIsDefined, IsJudgedOn, JudgesWhatIsDefined, IsCertifiedOn, CertifiesWhatIsSafe, TellsMachine, TellsAccepted, CertifiesAccepted, BadCertExactly, IsOneImage, EqualsWhatIsDefined, IsShownOn, PlaysWhatIsDefined, IsGuardedOn, GuardsWhatIsDefined, IsDeclaredOn, PlaysWhatIsDeclared, DoneAlways, NoExactly, BadWordsExactly, FindsFault, BadMachineExactly, BadSourceExactly, BadTextExactly}
+use Rattle.ags_top.specs.Outcome.{Call, EndsWith, IsMachineOf, WritesWhatIsDefined, IsComparedOn, ComparesWhatIsDefined, IsJudgedOn, JudgesWhatIsDefined, IsCertifiedOn, CertifiesWhatIsSafe, TellsMachine, TellsAccepted, CertifiesAccepted, BadCertExactly, IsOneImage, EqualsWhatIsDefined, IsShownOn, PlaysWhatIsDefined, IsGuardedOn, GuardsWhatIsDefined, IsDeclaredOn, PlaysWhatIsDeclared, DoneAlways, NoExactly, BadWordsExactly, FindsFault, BadMachineExactly, BadSourceExactly, BadTextExactly}
 use Rattle.ags_program.specs.Program.{program, command_plan, plan_on, asked_plan, plan_of}
 use Rattle.ags_top.specs.ProgramLaws.{IsWorkStatus, comes_to_no_form, lawful_program, not_refused_work}
 use Rattle.ags_program.specs.Text.{words_line, certificate_fault_line, fault_line, listing_fault_line, machine_fault_line, script_fault_line, verdict_line}
@@ -224,24 +224,24 @@ no_form_work (GuardScript machine defined stated commands) text makes = absurd (
     never (Certified rows cases) played = never_met played.met played.status_is
     never (Refused refusal) played = let is = played.1 in absurd cc
 
-module _ (told : Told) (arguments : List (List ℕ)) (old new : Option (List ℕ)) (result : Status) (ends : Ends program (IsAnswer program told (plan_of arguments)) old new result) where
+module _ (call : Call) (ends : Ends program (IsAnswer program call.told (plan_of call.arguments)) call.old call.new call.result) where
   -- what a run with that status answered
-  answer_with : (status : Status) → result ≡ status → Ends program (IsAnswer program told (plan_of arguments)) old new status
-  answer_with status is = subst (λ (s : Status). Ends program (IsAnswer program told (plan_of arguments)) old new s) is ends
+  answer_with : (status : Status) → call.result ≡ status → Ends program (IsAnswer program call.told (plan_of call.arguments)) call.old call.new status
+  answer_with status is = subst (λ (s : Status). Ends program (IsAnswer program call.told (plan_of call.arguments)) call.old call.new s) is ends
 
   -- the machine of a command line that these arguments are, and the way to the work in which they end
-  pub way_asked : (machine_file : Option (List ℕ)) (command : Command) (work : Work) → arguments ≡ line_arguments (record { command = command; machine = machine_file })
-      → EndsAt program Agrees told (plan_of arguments) (WorkAt work)
-      → (machine : Machine) × IsMachineOf told machine_file machine × IsMachine machine × LeadsTo program Agrees told (command_plan machine command) work
+  pub way_asked : (machine_file : Option (List ℕ)) (command : Command) (work : Work) → call.arguments ≡ line_arguments (record { command = command; machine = machine_file })
+      → EndsAt program Agrees call.told (plan_of call.arguments) (WorkAt work)
+      → (machine : Machine) × IsMachineOf call.told machine_file machine × IsMachine machine × LeadsTo program Agrees call.told (command_plan machine command) work
   way_asked machine_file command work asked found =
       let line : CommandLine = record { command = command; machine = machine_file } in
-      let ends_so : EndsAt program Agrees told (asked_plan (Some line)) (WorkAt work) =
-      subst (λ (a : Option CommandLine). EndsAt program Agrees told (asked_plan a) (WorkAt work)) (ap line_of asked ∙ line_of-line_arguments line) found in
-      way_of_command told machine_file command work (way_to_work program Agrees told (asked_plan (Some line)) work ends_so)
+      let ends_so : EndsAt program Agrees call.told (asked_plan (Some line)) (WorkAt work) =
+      subst (λ (a : Option CommandLine). EndsAt program Agrees call.told (asked_plan a) (WorkAt work)) (ap line_of asked ∙ line_of-line_arguments line) found in
+      way_of_command call.told machine_file command work (way_to_work program Agrees call.told (asked_plan (Some line)) work ends_so)
 
   -- with the status of a work there was an answer
-  answered : (status : Status) → IsWorkStatus status → Ends program (IsAnswer program told (plan_of arguments)) old new status
-      → Answered (IsAnswer program told (plan_of arguments)) old new status
+  answered : (status : Status) → IsWorkStatus status → Ends program (IsAnswer program call.told (plan_of call.arguments)) call.old call.new status
+      → Answered (IsAnswer program call.told (plan_of call.arguments)) call.old call.new status
   unfolding IsWorkStatus
   answered Done answers so = so
   answered No answers so = so
@@ -249,153 +249,153 @@ module _ (told : Told) (arguments : List (List ℕ)) (old new : Option (List ℕ
   answered _ answers so = absurd answers
 
   -- the work of a run that ended with the status of one
-  ended_with : (status : Status) → IsWorkStatus status → Answered (IsAnswer program told (plan_of arguments)) old new status
-      → (text : List ℕ) × (work : Work) × EndsAt program Agrees told (plan_of arguments) (WorkAt work) × Makes work text status × (new ≡ appended old text)
+  ended_with : (status : Status) → IsWorkStatus status → Answered (IsAnswer program call.told (plan_of call.arguments)) call.old call.new status
+      → (text : List ℕ) × (work : Work) × EndsAt program Agrees call.told (plan_of call.arguments) (WorkAt work) × Makes work text status × (call.new ≡ appended call.old text)
   ended_with status answers so =
-      let (work, found, makes) = answered_work told (plan_of arguments) status so.answer.end so.text answers so.answer.ends so.answer.comes in
+      let (work, found, makes) = answered_work call.told (plan_of call.arguments) status so.answer.end so.text answers so.answer.ends so.answer.comes in
       (so.text, work, found, makes, so.sent)
 
   -- the work of a run that ends with the status of one, the machine of its command line, and the way there
-  work_with : (status : Status) (machine_file : Option (List ℕ)) (command : Command) → IsWorkStatus status → result ≡ status
-      → arguments ≡ line_arguments (record { command = command; machine = machine_file })
-      → (machine : Machine) × IsMachineOf told machine_file machine × IsMachine machine
-      × ((text : List ℕ) × (work : Work) × LeadsTo program Agrees told (command_plan machine command) work × Makes work text status × (new ≡ appended old text))
+  work_with : (status : Status) (machine_file : Option (List ℕ)) (command : Command) → IsWorkStatus status → call.result ≡ status
+      → call.arguments ≡ line_arguments (record { command = command; machine = machine_file })
+      → (machine : Machine) × IsMachineOf call.told machine_file machine × IsMachine machine
+      × ((text : List ℕ) × (work : Work) × LeadsTo program Agrees call.told (command_plan machine command) work × Makes work text status × (call.new ≡ appended call.old text))
   work_with status machine_file command answers is asked =
       let (text, work, found, makes, sent) = ended_with status answers (answered status answers (answer_with status is)) in
       let (machine, machine_is, valid, way) = way_asked machine_file command work asked found in
       (machine, machine_is, valid, (text, work, way, makes, sent))
 
   -- the same of a run that ends with Done or with No: what comes of its work, over the machine of its command line
-  work_of_either : (machine_file : Option (List ℕ)) (command : Command) (Comes : Machine → (text : List ℕ) → Status → Type 0) → (result ≡ Done) ⊎ (result ≡ No)
-      → arguments ≡ line_arguments (record { command = command; machine = machine_file })
-      → ((machine : Machine) (text : List ℕ) (status : Status) (work : Work) → IsMachine machine → LeadsTo program Agrees told (command_plan machine command) work → Makes work text status
+  work_of_either : (machine_file : Option (List ℕ)) (command : Command) (Comes : Machine → (text : List ℕ) → Status → Type 0) → (call.result ≡ Done) ⊎ (call.result ≡ No)
+      → call.arguments ≡ line_arguments (record { command = command; machine = machine_file })
+      → ((machine : Machine) (text : List ℕ) (status : Status) (work : Work) → IsMachine machine → LeadsTo program Agrees call.told (command_plan machine command) work → Makes work text status
       → Comes machine text status)
-      → (machine : Machine) × IsMachineOf told machine_file machine × ((text : List ℕ) × Comes machine text result × (new ≡ appended old text))
+      → (machine : Machine) × IsMachineOf call.told machine_file machine × ((text : List ℕ) × Comes machine text call.result × (call.new ≡ appended call.old text))
   unfolding IsWorkStatus
   work_of_either machine_file command Comes is asked comes = elim is [
     | inl done ↦ with_status Done tt done
     | inr refused ↦ with_status No tt refused
   ]
     where
-      with_status : (status : Status) → IsWorkStatus status → result ≡ status
-          → (machine : Machine) × IsMachineOf told machine_file machine × ((text : List ℕ) × Comes machine text result × (new ≡ appended old text))
+      with_status : (status : Status) → IsWorkStatus status → call.result ≡ status
+          → (machine : Machine) × IsMachineOf call.told machine_file machine × ((text : List ℕ) × Comes machine text call.result × (call.new ≡ appended call.old text))
       with_status status answers ended =
           let (machine, machine_is, valid, (text, work, way, makes, sent)) = work_with status machine_file command answers ended asked in
           (machine, machine_is, (text, subst (Comes machine text) (sym ended) (comes machine text status work valid way makes), sent))
 
   -- what the sink took where it tells
-  took : (held text : List ℕ) → old ≡ Some held → new ≡ appended old text → new ≡ Some (held ++ text)
+  took : (held text : List ℕ) → call.old ≡ Some held → call.new ≡ appended call.old text → call.new ≡ Some (held ++ text)
   took held text holds sent = sent ∙ ap (λ (o : Option (List ℕ)). appended o text) holds
 
-  pub writes_what_is_defined : (what : SourceText) → WritesWhatIsDefined what told arguments old new result
+  pub writes_what_is_defined : (what : SourceText) → WritesWhatIsDefined what call
   unfolding IsWorkStatus
   writes_what_is_defined what name bytes held machine_file is asked known holds =
       let (machine, machine_is, valid, (text, work, way, makes, sent)) = work_with Done machine_file (Write what name) tt is asked in
-      let (defined, defines, text_is) = text_told told machine what name bytes text work known way makes in
+      let (defined, defines, text_is) = text_told call.told machine what name bytes text work known way makes in
       (machine, machine_is, (defined, defines, (text, text_is, took held text holds sent)))
 
-  pub compares_what_is_defined : ComparesWhatIsDefined told arguments old new result
+  pub compares_what_is_defined : ComparesWhatIsDefined call
   compares_what_is_defined source listing source_bytes listing_bytes held machine_file is asked known too holds =
       let (machine, machine_is, (text, compared, sent)) =
       work_of_either machine_file (Compare source listing) (λ machine text status. IsComparedOn machine source_bytes listing_bytes text status) is asked
-      (λ machine text status work valid way makes. comparison_told told machine source listing source_bytes listing_bytes text status work known too way makes) in
+      (λ machine text status work valid way makes. comparison_told call.told machine source listing source_bytes listing_bytes text status work known too way makes) in
       (machine, machine_is, (text, compared, took held text holds sent))
 
-  pub equals_what_is_defined : EqualsWhatIsDefined told arguments result
+  pub equals_what_is_defined : EqualsWhatIsDefined call
   unfolding IsWorkStatus
   equals_what_is_defined source listing source_bytes listing_bytes machine_file is asked known too =
       let (machine, machine_is, valid, (text, work, way, makes, sent)) = work_with Done machine_file (Compare source listing) tt is asked in
-      (machine, machine_is, one_image_of machine source_bytes listing_bytes text (comparison_told told machine source listing source_bytes listing_bytes text Done work known too way makes))
+      (machine, machine_is, one_image_of machine source_bytes listing_bytes text (comparison_told call.told machine source listing source_bytes listing_bytes text Done work known too way makes))
 
-  pub judges_what_is_defined : JudgesWhatIsDefined told arguments old new result
+  pub judges_what_is_defined : JudgesWhatIsDefined call
   judges_what_is_defined source certificate source_bytes certificate_bytes held machine_file is asked known too holds =
       let (machine, machine_is, (text, judged, sent)) =
       work_of_either machine_file (Certify source certificate) (λ machine text status. IsJudgedOn machine source_bytes certificate_bytes text status) is asked
-      (λ machine text status work valid way makes. judgement_told told machine source certificate source_bytes certificate_bytes text status work known too way makes) in
+      (λ machine text status work valid way makes. judgement_told call.told machine source certificate source_bytes certificate_bytes text status work known too way makes) in
       (machine, machine_is, (text, judged, took held text holds sent))
 
-  pub certifies_what_is_safe : CertifiesWhatIsSafe told arguments old new result
+  pub certifies_what_is_safe : CertifiesWhatIsSafe call
   unfolding IsWorkStatus
   certifies_what_is_safe source certificate source_bytes certificate_bytes machine_file is asked known too =
       let (machine, machine_is, valid, (text, work, way, makes, sent)) = work_with Done machine_file (Certify source certificate) tt is asked in
-      let judged = judgement_told told machine source certificate source_bytes certificate_bytes text Done work known too way makes in
+      let judged = judgement_told call.told machine source certificate source_bytes certificate_bytes text Done work known too way makes in
       (machine, machine_is, (text, safe_of machine source_bytes certificate_bytes text valid judged, sent))
 
-  pub plays_what_is_defined : PlaysWhatIsDefined told arguments old new result
+  pub plays_what_is_defined : PlaysWhatIsDefined call
   unfolding IsWorkStatus
   plays_what_is_defined source script source_bytes script_bytes held machine_file is asked known too holds =
       let (machine, machine_is, valid, (text, work, way, makes, sent)) = work_with Done machine_file (Run source script) tt is asked in (
         machine,
         machine_is,
-        (text, play_told told machine source script source_bytes script_bytes text work known too way makes, took held text holds sent),
+        (text, play_told call.told machine source script source_bytes script_bytes text work known too way makes, took held text holds sent),
       )
 
-  pub guards_what_is_defined : GuardsWhatIsDefined told arguments old new result
+  pub guards_what_is_defined : GuardsWhatIsDefined call
   guards_what_is_defined source script certificate source_bytes script_bytes certificate_bytes held machine_file is asked known also too holds =
       let (machine, machine_is, (text, guarded, sent)) =
       work_of_either machine_file (Guard source script certificate) (λ machine text status. IsGuardedOn machine source_bytes script_bytes certificate_bytes text status) is asked
-      (λ machine text status work valid way makes. guarded_told told machine source script certificate source_bytes script_bytes certificate_bytes text status work known also too way makes) in
+      (λ machine text status work valid way makes. guarded_told call.told machine source script certificate source_bytes script_bytes certificate_bytes text status work known also too way makes) in
       (machine, machine_is, (text, guarded, took held text holds sent))
 
-  pub plays_what_is_declared : PlaysWhatIsDeclared told arguments old new result
+  pub plays_what_is_declared : PlaysWhatIsDeclared call
   plays_what_is_declared source script certificate source_bytes script_bytes certificate_bytes machine_file is asked known also too =
       work_of_either machine_file (Guard source script certificate) (λ machine text status. IsDeclaredOn machine source_bytes script_bytes certificate_bytes text status) is asked
       (λ machine text status work valid way makes.
       declared_of machine source_bytes script_bytes certificate_bytes text status valid
-      (guarded_told told machine source script certificate source_bytes script_bytes certificate_bytes text status work known also too way makes))
+      (guarded_told call.told machine source script certificate source_bytes script_bytes certificate_bytes text status work known also too way makes))
 
   -- what is exact of a status is so of the run's end
-  exactly_with : (text : List ℕ) (status : Status) → EndsExactly program old new result text status → EndsWith result status
+  exactly_with : (text : List ℕ) (status : Status) → EndsExactly program call.old call.new call.result text status → EndsWith call.result status
   exactly_with text status (inl so) = inl so.0
   exactly_with text status (inr stops) = inr stops
 
-  pub done_always : DoneAlways told arguments result
-  done_always work text found makes = exactly_with text Done (work_exactly program plan_of lawful_program told arguments old new result ends work text Done found makes)
+  pub done_always : DoneAlways call
+  done_always work text found makes = exactly_with text Done (work_exactly program plan_of lawful_program call.told call.arguments call.old call.new call.result ends work text Done found makes)
 
-  pub no_exactly : NoExactly told arguments old new result
+  pub no_exactly : NoExactly call
   unfolding IsWorkStatus
   no_exactly = record {
     only = λ is.
         let (text, work, found, makes, sent) = ended_with No tt (answer_with No is) in
         record { work = work; text = text; ends = found; makes = makes; sent = sent };
-    always = λ work text found makes. exactly_with text No (work_exactly program plan_of lawful_program told arguments old new result ends work text No found makes);
+    always = λ work text found makes. exactly_with text No (work_exactly program plan_of lawful_program call.told call.arguments call.old call.new call.result ends work text No found makes);
   }
 
-  pub certifies_accepted : CertifiesAccepted told arguments result
+  pub certifies_accepted : CertifiesAccepted call
   certifies_accepted source certificate machine_file machine asked machine_told tells =
       let line : CommandLine = record { command = Certify source certificate; machine = machine_file } in
       let work : Work = JudgeCertificate machine (record { bytes = tells.source_bytes; defined = tells.defined }) tells.cert in
-      let leads = line_leads told machine_file machine (Certify source certificate) work machine_told (accepted_leads told machine source certificate tells) in
-      let found : EndsAt program Tells told (plan_of arguments) (WorkAt work) =
-      subst (λ (a : Option CommandLine). EndsAt program Tells told (asked_plan a) (WorkAt work)) (sym (ap line_of asked ∙ line_of-line_arguments line))
-      (work_of_way program Tells told (asked_plan (Some line)) work leads) in
-      let (text, makes) = accepted_makes told machine source certificate tells in
-      exactly_with text Done (work_exactly program plan_of lawful_program told arguments old new result ends work text Done found makes)
+      let leads = line_leads call.told machine_file machine (Certify source certificate) work machine_told (accepted_leads call.told machine source certificate tells) in
+      let found : EndsAt program Tells call.told (plan_of call.arguments) (WorkAt work) =
+      subst (λ (a : Option CommandLine). EndsAt program Tells call.told (asked_plan a) (WorkAt work)) (sym (ap line_of asked ∙ line_of-line_arguments line))
+      (work_of_way program Tells call.told (asked_plan (Some line)) work leads) in
+      let (text, makes) = accepted_makes call.told machine source certificate tells in
+      exactly_with text Done (work_exactly program plan_of lawful_program call.told call.arguments call.old call.new call.result ends work text Done found makes)
 
-  pub bad_words_exactly : BadWordsExactly arguments old new result
+  pub bad_words_exactly : BadWordsExactly call
   unfolding IsWorkStatus
   bad_words_exactly = record {
     only = λ is.
         let (text, work, found, makes, sent) = ended_with BadWords tt (answer_with BadWords is) in
         let same = no_form_work work text makes in
-        let none : EndsAt program Agrees told (plan_of arguments) (WorkAt NoForm) = subst (λ (w : Work). EndsAt program Agrees told (plan_of arguments) (WorkAt w)) same found in
+        let none : EndsAt program Agrees call.told (plan_of call.arguments) (WorkAt NoForm) = subst (λ (w : Work). EndsAt program Agrees call.told (plan_of call.arguments) (WorkAt w)) same found in
         let made : Makes NoForm text BadWords = subst (λ (w : Work). Makes w text BadWords) same makes in
         record {
-          none = λ line asked. comes_to_no_form told line
-              (subst (λ (a : Option CommandLine). EndsAt program Agrees told (asked_plan a) (WorkAt NoForm)) (ap line_of asked ∙ line_of-line_arguments line) none);
-          sent = sent ∙ ap (appended old) made.0;
+          none = λ line asked. comes_to_no_form call.told line
+              (subst (λ (a : Option CommandLine). EndsAt program Agrees call.told (asked_plan a) (WorkAt NoForm)) (ap line_of asked ∙ line_of-line_arguments line) none);
+          sent = sent ∙ ap (appended call.old) made.0;
         };
     always = λ none. exactly_with words_line BadWords
-        (work_exactly program plan_of lawful_program told arguments old new result ends NoForm words_line BadWords (no_line (line_of arguments) refl none) (refl, refl));
+        (work_exactly program plan_of lawful_program call.told call.arguments call.old call.new call.result ends NoForm words_line BadWords (no_line (line_of call.arguments) refl none) (refl, refl));
   }
     where
-      no_line : (asked : Option CommandLine) → line_of arguments ≡ asked → AreNoForm arguments → EndsAt program Tells told (asked_plan (line_of arguments)) (WorkAt NoForm)
+      no_line : (asked : Option CommandLine) → line_of call.arguments ≡ asked → AreNoForm call.arguments → EndsAt program Tells call.told (asked_plan (line_of call.arguments)) (WorkAt NoForm)
       no_line None is none = rw is refl
-      no_line (Some line) is none = absurd (none line (line_arguments-line_of arguments line is))
+      no_line (Some line) is none = absurd (none line (line_arguments-line_of call.arguments line is))
 
   -- the file that a run refused, of a kind with that status
-  refused_file : (status : Status) → FindsRefusal program told (plan_of arguments) old new result status
-      → (kind : Kind) × (refused_status kind ≡ status) × FindsFault kind told arguments old new
+  refused_file : (status : Status) → FindsRefusal program call.told (plan_of call.arguments) call.old call.new call.result status
+      → (kind : Kind) × (refused_status kind ≡ status) × FindsFault kind call
   refused_file status found = (
     found.kind,
     found.status_is,
@@ -411,68 +411,58 @@ module _ (told : Told) (arguments : List (List ℕ)) (old new : Option (List ℕ
   )
 
   -- where the walk comes to a file with a fault, the run ends with the status of its kind
-  refused_always : (kind : Kind) (name bytes line : List ℕ) → IsGiven program Tells told (plan_of arguments) kind name bytes → length bytes ≤ limit_of kind
-      → Refuses kind bytes line → EndsWith result (refused_status kind)
+  refused_always : (kind : Kind) (name bytes line : List ℕ) → IsGiven program Tells call.told (plan_of call.arguments) kind name bytes → length bytes ≤ limit_of kind
+      → Refuses kind bytes line → EndsWith call.result (refused_status kind)
   refused_always kind name bytes line given short refuses =
-      (refused_exactly program plan_of lawful_program told arguments old new result ends kind).always name bytes line given
+      (refused_exactly program plan_of lawful_program call.told call.arguments call.old call.new call.result ends kind).always name bytes line given
       (record { short = short; refuses = refuses })
 
-  pub bad_machine_exactly : BadMachineExactly told arguments old new result
+  pub bad_machine_exactly : BadMachineExactly call
   bad_machine_exactly = record {
-    only = λ is. of_kind (refused_file BadMachine ((refused_exactly program plan_of lawful_program told arguments old new result ends MachineFile).only is));
+    only = λ is. of_kind (refused_file BadMachine ((refused_exactly program plan_of lawful_program call.told call.arguments call.old call.new call.result ends MachineFile).only is));
     always = λ name bytes error given short faulty.
         refused_always MachineFile name bytes (machine_fault_line error) given short (record { error = error; faulty = faulty; line_is = refl });
   }
     where
-      of_kind : (kind : Kind) × (refused_status kind ≡ BadMachine) × FindsFault kind told arguments old new → FindsFault MachineFile told arguments old new
+      of_kind : (kind : Kind) × (refused_status kind ≡ BadMachine) × FindsFault kind call → FindsFault MachineFile call
       of_kind (MachineFile, is, found) = found
       of_kind (Source machine, is, found) = absurd cc
       of_kind (Listing, is, found) = absurd cc
       of_kind (Certificate machine, is, found) = absurd cc
       of_kind (Script machine, is, found) = absurd cc
 
-  pub bad_source_exactly : BadSourceExactly told arguments old new result
+  pub bad_source_exactly : BadSourceExactly call
   bad_source_exactly = record {
-    only = λ is. of_kind (refused_file BadSource ((refused_exactly program plan_of lawful_program told arguments old new result ends (Source standard_machine)).only is));
+    only = λ is. of_kind (refused_file BadSource ((refused_exactly program plan_of lawful_program call.told call.arguments call.old call.new call.result ends (Source standard_machine)).only is));
     always = λ machine name bytes error given short faulty.
         refused_always (Source machine) name bytes (fault_line error) given short (record { error = error; faulty = faulty; line_is = refl });
   }
     where
-      of_kind : (kind : Kind) × (refused_status kind ≡ BadSource) × FindsFault kind told arguments old new → (machine : Machine) × FindsFault (Source machine) told arguments old new
+      of_kind : (kind : Kind) × (refused_status kind ≡ BadSource) × FindsFault kind call → (machine : Machine) × FindsFault (Source machine) call
       of_kind (Source machine, is, found) = (machine, found)
       of_kind (MachineFile, is, found) = absurd cc
       of_kind (Listing, is, found) = absurd cc
       of_kind (Certificate machine, is, found) = absurd cc
       of_kind (Script machine, is, found) = absurd cc
 
-  pub bad_cert_exactly : BadCertExactly told arguments old new result
+  pub bad_cert_exactly : BadCertExactly call
   bad_cert_exactly = record {
-    only = λ is. of_kind (refused_file BadCert ((refused_exactly program plan_of lawful_program told arguments old new result ends (Certificate standard_machine)).only is));
+    only = λ is. of_kind (refused_file BadCert ((refused_exactly program plan_of lawful_program call.told call.arguments call.old call.new call.result ends (Certificate standard_machine)).only is));
     always = λ machine name bytes line kind given short faulty.
         refused_always (Certificate machine) name bytes (certificate_fault_line (certificate.At line kind)) given short
         (record { number = line; kind = kind; faulty = faulty; line_is = refl });
   }
     where
-      of_kind : (kind : Kind) × (refused_status kind ≡ BadCert) × FindsFault kind told arguments old new → (machine : Machine) × FindsFault (Certificate machine) told arguments old new
+      of_kind : (kind : Kind) × (refused_status kind ≡ BadCert) × FindsFault kind call → (machine : Machine) × FindsFault (Certificate machine) call
       of_kind (Certificate machine, is, found) = (machine, found)
       of_kind (MachineFile, is, found) = absurd cc
       of_kind (Source machine, is, found) = absurd cc
       of_kind (Listing, is, found) = absurd cc
       of_kind (Script machine, is, found) = absurd cc
 
-  pub bad_text_exactly : BadTextExactly told arguments old new result
+  pub bad_text_exactly : BadTextExactly call
   bad_text_exactly = record {
-    only = λ is. of_kind (refused_file BadText ((refused_exactly program plan_of lawful_program told arguments old new result ends Listing).only is));
-    always = λ machine name bytes line kind given short faulty.
-        refused_always (Script machine) name bytes (script_fault_line (At line kind)) given short (record { number = line; kind = kind; faulty = faulty; line_is = refl });
-    always_listing = λ name bytes error given short faulty.
-        refused_always Listing name bytes (listing_fault_line error) given short (record { error = error; faulty = faulty; line_is = refl });
+    only = λ is. refused_file BadText ((refused_exactly program plan_of lawful_program call.told call.arguments call.old call.new call.result ends Listing).only is);
+    always = λ kind name bytes line status given short refuses.
+        subst (λ (s : Status). EndsWith call.result s) status (refused_always kind name bytes line given short refuses);
   }
-    where
-      of_kind : (kind : Kind) × (refused_status kind ≡ BadText) × FindsFault kind told arguments old new
-          → ((machine : Machine) × FindsFault (Script machine) told arguments old new) ⊎ FindsFault Listing told arguments old new
-      of_kind (Script machine, is, found) = inl (machine, found)
-      of_kind (Listing, is, found) = inr found
-      of_kind (MachineFile, is, found) = absurd cc
-      of_kind (Source machine, is, found) = absurd cc
-      of_kind (Certificate machine, is, found) = absurd cc

@@ -1,6 +1,7 @@
 -- what the public contracts cite
 pub mod Listed
 pub mod Outcome
+pub mod Promises
 -- what serves inside
 pub mod Guarding
 pub mod PlayLaws

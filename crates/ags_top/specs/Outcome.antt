@@ -43,11 +43,19 @@ use Rattle.ags_play.specs.Guard.{Outside}
 use Rattle.ags_play.specs.Played.{Met, OutsideStart, IsPlayOf}
 use Rattle.ags_program.specs.declared.status.Status.{Status}
 use Rattle.ags_program.specs.declared.status.Status.TheVariants.{Done, No, BadMachine, BadSource, BadWords, BadCert, BadText}
-use Rattle.ags_program.specs.Files.{Kind, MachineFile, Source, Listing, Certificate, Script, limit_of, Refuses}
+use Rattle.ags_program.specs.Files.{Kind, MachineFile, Source, Certificate, limit_of, Refuses, refused_status}
 use Rattle.ags_program.specs.Program.{program, plan_of}
 use Rattle.ags_program.specs.Text.{certified_word, met_line, verdict_line, words_line}
 use Rattle.ags_program.specs.Work.{Work, IsTextOf, IsComparisonOf, IsJudgementOf, IsShownBy, IsGuardedBy, met_status, Makes}
 use Rattle.ags_listing.specs.Listing.{listing}
+
+-- One call of `ags_main`: what the shelf tells, the arguments, what the sink told before and after it, and the status.
+pub record Call : Type 0 where
+  pub told : Told
+  pub arguments : List (List ℕ)
+  pub old : Option (List ℕ)
+  pub new : Option (List ℕ)
+  pub result : Status
 
 -- the run ends with that status, unless it stops
 abbrev pub EndsWith : (result status : Status) → Type 0
@@ -64,11 +72,11 @@ IsMachineOf told (Some name) machine = IsMachine machine × ((bytes : List ℕ) 
 -- Where a run that writes a text of a source is done, and the shelf and the sink tell, the sink took exactly that text of the words
 -- that the source defines, by the codes of the machine that the command line is for.
 abbrev pub WritesWhatIsDefined : (what : SourceText) (told : Told) (arguments : List (List ℕ)) (old new : Option (List ℕ)) → Status → Type 0
-WritesWhatIsDefined what told arguments old new result = (name bytes held : List ℕ) (machine_file : Option (List ℕ)) → result ≡ Done
-    → arguments ≡ line_arguments (record { command = command.Write what name; machine = machine_file }) → told name ≡ Stored bytes → old ≡ Some held
-    → (machine : Machine) × IsMachineOf told machine_file machine
+WritesWhatIsDefined what call = (name bytes held : List ℕ) (machine_file : Option (List ℕ)) → call.result ≡ Done
+    → call.arguments ≡ line_arguments (record { command = command.Write what name; machine = machine_file }) → call.told name ≡ Stored bytes → call.old ≡ Some held
+    → (machine : Machine) × IsMachineOf call.told machine_file machine
     × ((defined : CardWords) × Defines machine.codes bytes defined
-    × ((text : List ℕ) × IsTextOf what (record { bytes = bytes; defined = defined }) text × (new ≡ Some (held ++ text))))
+    × ((text : List ℕ) × IsTextOf what (record { bytes = bytes; defined = defined }) text × (call.new ≡ Some (held ++ text))))
 
 -- The source defines words, the listing has an image, and this is the text and the status of how they compare.
 pub record IsComparedOn (machine : Machine) (source listing text : List ℕ) (status : Status) : Type 0 where
@@ -81,11 +89,11 @@ pub record IsComparedOn (machine : Machine) (source listing text : List ℕ) (st
 -- Where the run of `compare` ends with Done or with No, and the shelf and the sink tell, it says how the words that the source
 -- defines compare with those of the listing: they are the same, or there is a least place where they differ.
 abbrev pub ComparesWhatIsDefined : (told : Told) (arguments : List (List ℕ)) (old new : Option (List ℕ)) → Status → Type 0
-ComparesWhatIsDefined told arguments old new result = (source listing source_bytes listing_bytes held : List ℕ) (machine_file : Option (List ℕ))
-    → (result ≡ Done) ⊎ (result ≡ No)
-    → arguments ≡ line_arguments (record { command = command.Compare source listing; machine = machine_file }) → told source ≡ Stored source_bytes → told listing ≡ Stored listing_bytes → old ≡ Some held
-    → (machine : Machine) × IsMachineOf told machine_file machine
-    × ((text : List ℕ) × IsComparedOn machine source_bytes listing_bytes text result × (new ≡ Some (held ++ text)))
+ComparesWhatIsDefined call = (source listing source_bytes listing_bytes held : List ℕ) (machine_file : Option (List ℕ))
+    → (call.result ≡ Done) ⊎ (call.result ≡ No)
+    → call.arguments ≡ line_arguments (record { command = command.Compare source listing; machine = machine_file }) → call.told source ≡ Stored source_bytes → call.told listing ≡ Stored listing_bytes → call.old ≡ Some held
+    → (machine : Machine) × IsMachineOf call.told machine_file machine
+    × ((text : List ℕ) × IsComparedOn machine source_bytes listing_bytes text call.result × (call.new ≡ Some (held ++ text)))
 
 -- One image has exactly the words that the source defines, and is what the listing reads as.
 pub record IsOneImage (machine : Machine) (source listing : List ℕ) : Type 0 where
@@ -97,9 +105,9 @@ pub record IsOneImage (machine : Machine) (source listing : List ℕ) : Type 0 w
 
 -- The headline of `compare`: where its run is done, and the shelf tells, the words that the source defines are those of the listing.
 abbrev pub EqualsWhatIsDefined : (told : Told) (arguments : List (List ℕ)) → Status → Type 0
-EqualsWhatIsDefined told arguments result = (source listing source_bytes listing_bytes : List ℕ) (machine_file : Option (List ℕ)) → result ≡ Done
-    → arguments ≡ line_arguments (record { command = command.Compare source listing; machine = machine_file }) → told source ≡ Stored source_bytes → told listing ≡ Stored listing_bytes
-    → (machine : Machine) × IsMachineOf told machine_file machine × IsOneImage machine source_bytes listing_bytes
+EqualsWhatIsDefined call = (source listing source_bytes listing_bytes : List ℕ) (machine_file : Option (List ℕ)) → call.result ≡ Done
+    → call.arguments ≡ line_arguments (record { command = command.Compare source listing; machine = machine_file }) → call.told source ≡ Stored source_bytes → call.told listing ≡ Stored listing_bytes
+    → (machine : Machine) × IsMachineOf call.told machine_file machine × IsOneImage machine source_bytes listing_bytes
 
 -- The source defines words, the text is a certificate for the machine's registers, and this is the text and the status of what comes
 -- of judging it.
@@ -113,12 +121,12 @@ pub record IsJudgedOn (machine : Machine) (source certificate text : List ℕ) (
 -- Where the run of `certify` ends with Done or with No, and the shelf and the sink tell, the sink took the listing of the words that
 -- the source defines and the verdict of the certificate for them: certified, or the first item that fails.
 abbrev pub JudgesWhatIsDefined : (told : Told) (arguments : List (List ℕ)) (old new : Option (List ℕ)) → Status → Type 0
-JudgesWhatIsDefined told arguments old new result = (source certificate source_bytes certificate_bytes held : List ℕ) (machine_file : Option (List ℕ))
-    → (result ≡ Done) ⊎ (result ≡ No)
-    → arguments ≡ line_arguments (record { command = command.Certify source certificate; machine = machine_file }) → told source ≡ Stored source_bytes
-    → told certificate ≡ Stored certificate_bytes → old ≡ Some held
-    → (machine : Machine) × IsMachineOf told machine_file machine
-    × ((text : List ℕ) × IsJudgedOn machine source_bytes certificate_bytes text result × (new ≡ Some (held ++ text)))
+JudgesWhatIsDefined call = (source certificate source_bytes certificate_bytes held : List ℕ) (machine_file : Option (List ℕ))
+    → (call.result ≡ Done) ⊎ (call.result ≡ No)
+    → call.arguments ≡ line_arguments (record { command = command.Certify source certificate; machine = machine_file }) → call.told source ≡ Stored source_bytes
+    → call.told certificate ≡ Stored certificate_bytes → call.old ≡ Some held
+    → (machine : Machine) × IsMachineOf call.told machine_file machine
+    × ((text : List ℕ) × IsJudgedOn machine source_bytes certificate_bytes text call.result × (call.new ≡ Some (held ++ text)))
 
 -- The machine's tables are valid. The text is the listing of exactly the words that the source defines, and says that the certificate
 -- is certified with the numbers of its rows and of its cases, which is its verdict; and of the image of these words every run is safe,
@@ -140,11 +148,11 @@ pub record IsCertifiedOn (machine : Machine) (source certificate text : List ℕ
 -- The headline: where the run of `certify` is done, and the shelf tells, the words that the source defines are safe in every run; and
 -- where the sink tells, it took their listing and that they are certified.
 abbrev pub CertifiesWhatIsSafe : (told : Told) (arguments : List (List ℕ)) (old new : Option (List ℕ)) → Status → Type 0
-CertifiesWhatIsSafe told arguments old new result = (source certificate source_bytes certificate_bytes : List ℕ) (machine_file : Option (List ℕ)) → result ≡ Done
-    → arguments ≡ line_arguments (record { command = command.Certify source certificate; machine = machine_file }) → told source ≡ Stored source_bytes
-    → told certificate ≡ Stored certificate_bytes
-    → (machine : Machine) × IsMachineOf told machine_file machine
-    × ((text : List ℕ) × IsCertifiedOn machine source_bytes certificate_bytes text × (new ≡ appended old text))
+CertifiesWhatIsSafe call = (source certificate source_bytes certificate_bytes : List ℕ) (machine_file : Option (List ℕ)) → call.result ≡ Done
+    → call.arguments ≡ line_arguments (record { command = command.Certify source certificate; machine = machine_file }) → call.told source ≡ Stored source_bytes
+    → call.told certificate ≡ Stored certificate_bytes
+    → (machine : Machine) × IsMachineOf call.told machine_file machine
+    × ((text : List ℕ) × IsCertifiedOn machine source_bytes certificate_bytes text × (call.new ≡ appended call.old text))
 
 -- The machine that a command line is for is told: the standard one where no file is named, and else that of the file, which is within
 -- its limit.
@@ -171,9 +179,9 @@ pub record TellsAccepted (told : Told) (machine : Machine) (source certificate :
 
 -- Completeness: an accepted certificate over told files is certified, unless the run stops.
 abbrev pub CertifiesAccepted : (told : Told) (arguments : List (List ℕ)) → Status → Type 0
-CertifiesAccepted told arguments result = (source certificate : List ℕ) (machine_file : Option (List ℕ)) (machine : Machine)
-    → arguments ≡ line_arguments (record { command = command.Certify source certificate; machine = machine_file })
-    → TellsMachine told machine_file machine → TellsAccepted told machine source certificate → EndsWith result Done
+CertifiesAccepted call = (source certificate : List ℕ) (machine_file : Option (List ℕ)) (machine : Machine)
+    → call.arguments ≡ line_arguments (record { command = command.Certify source certificate; machine = machine_file })
+    → TellsMachine call.told machine_file machine → TellsAccepted call.told machine source certificate → EndsWith call.result Done
 
 -- The source defines words, the script has commands for the machine, and the text is their play on these words.
 pub record IsShownOn (machine : Machine) (source script text : List ℕ) : Type 0 where
@@ -186,9 +194,9 @@ pub record IsShownOn (machine : Machine) (source script text : List ℕ) : Type 
 -- Where the run of `run` is done, and the shelf and the sink tell, the sink took exactly what the script's play prints on the
 -- words that the source defines, on the machine that the command line is for.
 abbrev pub PlaysWhatIsDefined : (told : Told) (arguments : List (List ℕ)) (old new : Option (List ℕ)) → Status → Type 0
-PlaysWhatIsDefined told arguments old new result = (source script source_bytes script_bytes held : List ℕ) (machine_file : Option (List ℕ)) → result ≡ Done
-    → arguments ≡ line_arguments (record { command = command.Run source script; machine = machine_file }) → told source ≡ Stored source_bytes → told script ≡ Stored script_bytes → old ≡ Some held
-    → (machine : Machine) × IsMachineOf told machine_file machine × ((text : List ℕ) × IsShownOn machine source_bytes script_bytes text × (new ≡ Some (held ++ text)))
+PlaysWhatIsDefined call = (source script source_bytes script_bytes held : List ℕ) (machine_file : Option (List ℕ)) → call.result ≡ Done
+    → call.arguments ≡ line_arguments (record { command = command.Run source script; machine = machine_file }) → call.told source ≡ Stored source_bytes → call.told script ≡ Stored script_bytes → call.old ≡ Some held
+    → (machine : Machine) × IsMachineOf call.told machine_file machine × ((text : List ℕ) × IsShownOn machine source_bytes script_bytes text × (call.new ≡ Some (held ++ text)))
 
 -- The source defines words, the certificate is one for the machine's registers, the script has commands for the machine, and this is
 -- the text and the status of the verdict and of the play under the certificate.
@@ -205,12 +213,12 @@ pub record IsGuardedOn (machine : Machine) (source script certificate text : Lis
 -- the words that the source defines, and, where it is certified, what the script's play shows on them with the certificate as its
 -- guard, and what the play met.
 abbrev pub GuardsWhatIsDefined : (told : Told) (arguments : List (List ℕ)) (old new : Option (List ℕ)) → Status → Type 0
-GuardsWhatIsDefined told arguments old new result = (source script certificate source_bytes script_bytes certificate_bytes held : List ℕ) (machine_file : Option (List ℕ))
-    → (result ≡ Done) ⊎ (result ≡ No)
-    → arguments ≡ line_arguments (record { command = command.Guard source script certificate; machine = machine_file }) → told source ≡ Stored source_bytes
-    → told script ≡ Stored script_bytes → told certificate ≡ Stored certificate_bytes → old ≡ Some held
-    → (machine : Machine) × IsMachineOf told machine_file machine
-    × ((text : List ℕ) × IsGuardedOn machine source_bytes script_bytes certificate_bytes text result × (new ≡ Some (held ++ text)))
+GuardsWhatIsDefined call = (source script certificate source_bytes script_bytes certificate_bytes held : List ℕ) (machine_file : Option (List ℕ))
+    → (call.result ≡ Done) ⊎ (call.result ≡ No)
+    → call.arguments ≡ line_arguments (record { command = command.Guard source script certificate; machine = machine_file }) → call.told source ≡ Stored source_bytes
+    → call.told script ≡ Stored script_bytes → call.told certificate ≡ Stored certificate_bytes → call.old ≡ Some held
+    → (machine : Machine) × IsMachineOf call.told machine_file machine
+    × ((text : List ℕ) × IsGuardedOn machine source_bytes script_bytes certificate_bytes text call.result × (call.new ≡ Some (held ++ text)))
 
 -- The certificate is refused by its verdict for the image: the text is the line of that, and the answer is no.
 pub record IsRefusedFor (machine : Machine) (image : List (Option ℕ)) (cert : Stated) (text : List ℕ) (status : Status) : Type 0 where
@@ -268,88 +276,87 @@ IsAcceptedPlayOn machine source script certificate text status =
 -- The actual run: where the run of `guard` ends with Done or with No, and the shelf tells, what is played is a run of the certificate,
 -- every run of which is safe, or the certificate is refused; and where the sink tells, it took what is shown of that run.
 abbrev pub PlaysWhatIsDeclared : (told : Told) (arguments : List (List ℕ)) (old new : Option (List ℕ)) → Status → Type 0
-PlaysWhatIsDeclared told arguments old new result = (source script certificate source_bytes script_bytes certificate_bytes : List ℕ) (machine_file : Option (List ℕ))
-    → (result ≡ Done) ⊎ (result ≡ No)
-    → arguments ≡ line_arguments (record { command = command.Guard source script certificate; machine = machine_file }) → told source ≡ Stored source_bytes
-    → told script ≡ Stored script_bytes → told certificate ≡ Stored certificate_bytes
-    → (machine : Machine) × IsMachineOf told machine_file machine
-    × ((text : List ℕ) × IsDeclaredOn machine source_bytes script_bytes certificate_bytes text result × (new ≡ appended old text))
+PlaysWhatIsDeclared call = (source script certificate source_bytes script_bytes certificate_bytes : List ℕ) (machine_file : Option (List ℕ))
+    → (call.result ≡ Done) ⊎ (call.result ≡ No)
+    → call.arguments ≡ line_arguments (record { command = command.Guard source script certificate; machine = machine_file }) → call.told source ≡ Stored source_bytes
+    → call.told script ≡ Stored script_bytes → call.told certificate ≡ Stored certificate_bytes
+    → (machine : Machine) × IsMachineOf call.told machine_file machine
+    × ((text : List ℕ) × IsDeclaredOn machine source_bytes script_bytes certificate_bytes text call.result × (call.new ≡ appended call.old text))
 
 -- Where the shelf and the sink tell, and what the sink took of a run of `guard` begins as the line of a certificate that is certified
 -- does, then, whatever the run ends with, the certificate is accepted for the words that the source defines, so that every run of
 -- them is safe; and what the sink took is a front, or all, of what is printed of such a play.
 abbrev pub SafeWhereCertifiedIsWritten : (told : Told) (arguments : List (List ℕ)) (old new : Option (List ℕ)) → Type 0
-SafeWhereCertifiedIsWritten told arguments old new =
+SafeWhereCertifiedIsWritten call =
     (source script certificate source_bytes script_bytes certificate_bytes held behind : List ℕ) (machine_file : Option (List ℕ))
-    → arguments ≡ line_arguments (record { command = command.Guard source script certificate; machine = machine_file }) → told source ≡ Stored source_bytes
-    → told script ≡ Stored script_bytes → told certificate ≡ Stored certificate_bytes → old ≡ Some held → new ≡ Some (held ++ (certified_word ++ behind))
-    → (machine : Machine) × IsMachineOf told machine_file machine
-    × ((text : List ℕ) × (status : Status) × IsAcceptedPlayOn machine source_bytes script_bytes certificate_bytes text status × WroteFront old new text)
+    → call.arguments ≡ line_arguments (record { command = command.Guard source script certificate; machine = machine_file }) → call.told source ≡ Stored source_bytes
+    → call.told script ≡ Stored script_bytes → call.told certificate ≡ Stored certificate_bytes → call.old ≡ Some held → call.new ≡ Some (held ++ (certified_word ++ behind))
+    → (machine : Machine) × IsMachineOf call.told machine_file machine
+    × ((text : List ℕ) × (status : Status) × IsAcceptedPlayOn machine source_bytes script_bytes certificate_bytes text status × WroteFront call.old call.new text)
 
 -- Where the walk over told files comes to a work that is done with Done, the run ends so, unless it stops: each file on the way
 -- is there, within its limit and without a fault.
 abbrev pub DoneAlways : (told : Told) (arguments : List (List ℕ)) (result : Status) → Type 0
-DoneAlways told arguments result = (work : Work) (text : List ℕ) → EndsAt program Tells told (plan_of arguments) (WorkAt work) → Makes work text Done → EndsWith result Done
+DoneAlways call = (work : Work) (text : List ℕ) → EndsAt program Tells call.told (plan_of call.arguments) (WorkAt work) → Makes work text Done → EndsWith call.result Done
 
 -- ---- status by status
 
 -- Over files that agree with what the shelf tells, the walk comes to a work whose answer is no, and the sink took its text.
-pub record AnswersNo (told : Told) (arguments : List (List ℕ)) (old new : Option (List ℕ)) : Type 0 where
+pub record AnswersNo (call : Call) : Type 0 where
   pub work : Work
   pub text : List ℕ
-  pub ends : EndsAt program Agrees told (plan_of arguments) (WorkAt work)
+  pub ends : EndsAt program Agrees call.told (plan_of call.arguments) (WorkAt work)
   pub makes : Makes work text No
-  pub sent : new ≡ appended old text
+  pub sent : call.new ≡ appended call.old text
 
 -- No comes exactly where the walk comes to a work whose answer is no: a listing has other words than its source, a certificate is
 -- refused by its verdict, or a play meets a start or a word that its guard doesn't declare
-pub record NoExactly (told : Told) (arguments : List (List ℕ)) (old new : Option (List ℕ)) (result : Status) : Type 0 where
-  pub only : result ≡ No → AnswersNo told arguments old new
-  pub always : (work : Work) (text : List ℕ) → EndsAt program Tells told (plan_of arguments) (WorkAt work) → Makes work text No → EndsWith result No
+pub record NoExactly (call : Call) : Type 0 where
+  pub only : call.result ≡ No → AnswersNo call
+  pub always : (work : Work) (text : List ℕ) → EndsAt program Tells call.told (plan_of call.arguments) (WorkAt work) → Makes work text No → EndsWith call.result No
 
 -- The arguments are none of the forms, and the sink took the line that says so.
-pub record SaysNoForm (arguments : List (List ℕ)) (old new : Option (List ℕ)) : Type 0 where
-  pub none : AreNoForm arguments
-  pub sent : new ≡ appended old words_line
+pub record SaysNoForm (call : Call) : Type 0 where
+  pub none : AreNoForm call.arguments
+  pub sent : call.new ≡ appended call.old words_line
 
 -- BadWords comes exactly where the arguments are none of the forms, which is printed
-pub record BadWordsExactly (arguments : List (List ℕ)) (old new : Option (List ℕ)) (result : Status) : Type 0 where
-  pub only : result ≡ BadWords → SaysNoForm arguments old new
-  pub always : AreNoForm arguments → EndsWith result BadWords
+pub record BadWordsExactly (call : Call) : Type 0 where
+  pub only : call.result ≡ BadWords → SaysNoForm call
+  pub always : AreNoForm call.arguments → EndsWith call.result BadWords
 
 -- Over files that agree with what the shelf tells, the walk comes to a file of that kind that is within its limit and has a fault, and
 -- the sink took the line of its first one.
-pub record FindsFault (kind : Kind) (told : Told) (arguments : List (List ℕ)) (old new : Option (List ℕ)) : Type 0 where
+pub record FindsFault (kind : Kind) (call : Call) : Type 0 where
   pub name : List ℕ
   pub bytes : List ℕ
-  pub given : IsGiven program Agrees told (plan_of arguments) kind name bytes
+  pub given : IsGiven program Agrees call.told (plan_of call.arguments) kind name bytes
   pub short : length bytes ≤ limit_of kind
   pub line : List ℕ
   pub refuses : Refuses kind bytes line
-  pub sent : new ≡ appended old line
+  pub sent : call.new ≡ appended call.old line
 
 -- BadMachine comes exactly where the walk comes to a machine file that fails a test; the first one is printed
-pub record BadMachineExactly (told : Told) (arguments : List (List ℕ)) (old new : Option (List ℕ)) (result : Status) : Type 0 where
-  pub only : result ≡ BadMachine → FindsFault MachineFile told arguments old new
-  pub always : (name bytes : List ℕ) (error : MachError) → IsGiven program Tells told (plan_of arguments) MachineFile name bytes → length bytes ≤ machine_limit
-      → machine_of bytes ≡ Err error → EndsWith result BadMachine
+pub record BadMachineExactly (call : Call) : Type 0 where
+  pub only : call.result ≡ BadMachine → FindsFault MachineFile call
+  pub always : (name bytes : List ℕ) (error : MachError) → IsGiven program Tells call.told (plan_of call.arguments) MachineFile name bytes → length bytes ≤ machine_limit
+      → machine_of bytes ≡ Err error → EndsWith call.result BadMachine
 
 -- BadSource comes exactly where the walk comes to a source that has a faulty card, whose number and fault are printed
-pub record BadSourceExactly (told : Told) (arguments : List (List ℕ)) (old new : Option (List ℕ)) (result : Status) : Type 0 where
-  pub only : result ≡ BadSource → (machine : Machine) × FindsFault (Source machine) told arguments old new
-  pub always : (machine : Machine) (name bytes : List ℕ) (error : SourceError) → IsGiven program Tells told (plan_of arguments) (Source machine) name bytes
-      → length bytes ≤ source_limit → IsFaulty bytes error → EndsWith result BadSource
+pub record BadSourceExactly (call : Call) : Type 0 where
+  pub only : call.result ≡ BadSource → (machine : Machine) × FindsFault (Source machine) call
+  pub always : (machine : Machine) (name bytes : List ℕ) (error : SourceError) → IsGiven program Tells call.told (plan_of call.arguments) (Source machine) name bytes
+      → length bytes ≤ source_limit → IsFaulty bytes error → EndsWith call.result BadSource
 
 -- BadCert comes exactly where the walk comes to a certificate that has a faulty line, whose number and fault are printed
-pub record BadCertExactly (told : Told) (arguments : List (List ℕ)) (old new : Option (List ℕ)) (result : Status) : Type 0 where
-  pub only : result ≡ BadCert → (machine : Machine) × FindsFault (Certificate machine) told arguments old new
-  pub always : (machine : Machine) (name bytes : List ℕ) (line : ℕ) (kind : CertKind) → IsGiven program Tells told (plan_of arguments) (Certificate machine) name bytes
-      → length bytes ≤ certificate_limit → IsFaultyCert machine.ports bytes line kind → EndsWith result BadCert
+pub record BadCertExactly (call : Call) : Type 0 where
+  pub only : call.result ≡ BadCert → (machine : Machine) × FindsFault (Certificate machine) call
+  pub always : (machine : Machine) (name bytes : List ℕ) (line : ℕ) (kind : CertKind) → IsGiven program Tells call.told (plan_of call.arguments) (Certificate machine) name bytes
+      → length bytes ≤ certificate_limit → IsFaultyCert machine.ports bytes line kind → EndsWith call.result BadCert
 
--- BadText comes exactly where the walk comes to a listing or a script that has a faulty line, whose number and fault are printed
-pub record BadTextExactly (told : Told) (arguments : List (List ℕ)) (old new : Option (List ℕ)) (result : Status) : Type 0 where
-  pub only : result ≡ BadText → ((machine : Machine) × FindsFault (Script machine) told arguments old new) ⊎ FindsFault Listing told arguments old new
-  pub always : (machine : Machine) (name bytes : List ℕ) (line : ℕ) (kind : ScriptKind) → IsGiven program Tells told (plan_of arguments) (Script machine) name bytes
-      → length bytes ≤ script_limit → IsFaultyScript machine bytes line kind → EndsWith result BadText
-  pub always_listing : (name bytes : List ℕ) (error : ListError) → IsGiven program Tells told (plan_of arguments) Listing name bytes
-      → length bytes ≤ listing_limit → IsFaultyListing bytes error → EndsWith result BadText
+-- BadText comes exactly where the walk comes to a file of a kind that is refused with it, as a listing or a script, and that has a
+-- faulty line, whose number and fault are printed
+pub record BadTextExactly (call : Call) : Type 0 where
+  pub only : call.result ≡ BadText → (kind : Kind) × (refused_status kind ≡ BadText) × FindsFault kind call
+  pub always : (kind : Kind) (name bytes line : List ℕ) → refused_status kind ≡ BadText → IsGiven program Tells call.told (plan_of call.arguments) kind name bytes
+      → length bytes ≤ limit_of kind → Refuses kind bytes line → EndsWith call.result BadText

@@ -17,7 +17,7 @@ use crate::run_command::play_script;
 use crate::write_command::write_text;
 use ags_command::read_line;
 use ags_outside::{SendError, Shelf, Sink, send};
-use ags_plan::{Program, Stop, Unloaded};
+use ags_plan::{Loader, Program, Stop, Unloaded};
 use ags_program::{Refusal, Status, Work, load_line};
 use std::alloc::{AllocError, Global};
 
@@ -33,7 +33,7 @@ fn say_forms<K: Sink>(out: &mut K) -> Result<Status, SendError>
     Ok(Status::BadWords)
 }
 
-impl Program for Ags {
+impl Loader for Ags {
     type Status = Status;
 
     type Refusal = Refusal;
@@ -81,31 +81,33 @@ impl Program for Ags {
         }
     }
 
-    fn perform<K: Sink>(alloc: Global, work: &Work, out: &mut K) -> Result<Status, SendError> {
+    ghost use Rattle.ags_top.specs.ProgramLaws.{lawful_program};
+
+    ghost lawful = { lawful_program };
+}
+
+impl Program for Ags {
+    fn perform<K: Sink>(alloc: Global, work: Work, out: &mut K) -> Result<Status, SendError> {
         match work {
             Work::NoForm => say_forms(out),
-            Work::WriteText { text, source } => write_text(alloc, *text, source, out),
-            Work::CompareImages { made, listed } => compare_images(made, listed, out),
+            Work::WriteText { text, source } => write_text(alloc, text, &source, out),
+            Work::CompareImages { made, listed } => compare_images(&made, &listed, out),
             Work::JudgeCertificate {
                 machine,
                 source,
                 cert,
-            } => judge_certificate(alloc, machine, source, cert, out),
+            } => judge_certificate(alloc, &machine, &source, &cert, out),
             Work::PlayScript {
                 machine,
                 made,
                 script,
-            } => play_script(alloc, machine, made, script, out),
+            } => play_script(alloc, &machine, &made, &script, out),
             Work::GuardScript {
                 machine,
                 made,
                 cert,
                 script,
-            } => guard_script(alloc, machine, made, cert, script, out),
+            } => guard_script(alloc, &machine, &made, &cert, &script, out),
         }
     }
-
-    ghost use Rattle.ags_top.specs.ProgramLaws.{lawful_program};
-
-    ghost lawful = { lawful_program };
 }
