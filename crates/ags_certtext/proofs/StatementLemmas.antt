@@ -1,13 +1,13 @@
 -- What a line states, and what stands behind its keyword.
 --
 -- The crates above may cite stated_is, which is behind the law spelled_statements_are_lawful.
-use Rattle.std.proofs.Common.{◌≡◌, ℕ, ◌<◌, ◌≤◌, ◌^◌, ◌⊎◌, Bool, List, [], ◌∷◌, ◌++◌, length, slice_index, get_or, Option, Some, refl, sym, ap, ◌∙◌, inl, inr, arith}
+use Rattle.std.proofs.Common.{◌≡◌, ℕ, ◌<◌, ◌^◌, ◌⊎◌, Bool, List, [], ◌∷◌, ◌++◌, length, slice_index, get_or, Option, Some, refl, sym, ap, ◌∙◌, inl, inr, arith}
 use Rattle.std.specs.Prelude.{codes}
 use Rattle.std.specs.Option.{option_map}
 use Rattle.std.proofs.lemmas.Int.Digits.{digits_value-lt}
-use Rattle.ags_text.specs.Field.{AreBlanks, IsField, AreFields, HasFields, AreCut, next_field, behind_field}
+use Rattle.ags_text.specs.Field.{AreBlanks, IsField, AreFields, AreCut, next_field, behind_field}
 use Rattle.ags_text.specs.Numeral.{Writes}
-use Rattle.ags_text.proofs.FieldLaws.{standing_cut, number_field, writes_field, blanks_none, first_byte}
+use Rattle.ags_text.proofs.FieldLaws.{standing_cut, writes_field, blanks_none, first_byte}
 use Rattle.ags_domain.specs.declared.values.Value.{Value}
 use Rattle.ags_certtext.specs.declared.keywords.Keyword.{Keyword}
 use Rattle.ags_certtext.specs.declared.keywords.Keyword.TheVariants as keyword

@@ -1,6 +1,6 @@
 -- How a certificate's lines are spelled: forwards from what a line states to the lines that state it.
-use Rattle.std.specs.Prelude.{◌≡◌, ◌≢◌, ℕ, ◌+◌, ◌≤◌, ◌⊎◌, Bool, true, false, ℤ, pos, neg_ℤ, ◌<ℤ◌, List, [], ◌∷◌, ◌++◌, length, slice_index, Option, Some, None, if◌then◌else◌, codes}
-use Rattle.ags_text.specs.Field.{AreBlanks, HasFields}
+use Rattle.std.specs.Prelude.{◌≡◌, ℕ, ◌+◌, ◌⊎◌, Bool, true, false, ℤ, pos, neg_ℤ, ◌<ℤ◌, List, [], ◌∷◌, ◌++◌, length, Option, Some, None, if◌then◌else◌, codes}
+use Rattle.ags_text.specs.Field.{HasFields}
 use Rattle.ags_text.specs.Numeral.{IsDecimal, Writes}
 use Rattle.ags_word.specs.Word.{fits}
 use Rattle.ags_domain.specs.Domain.{IsFull}

@@ -1,7 +1,7 @@
 -- Each line has a reading, and only one.
 --
--- The crates above may cite some_first_reading, one_first_reading, some_reading and one_reading, each of them behind a clause of the
--- laws first_line_has_one_reading and line_has_one_reading, and told_first.
+-- The crates above may cite told_first, some_first_reading, one_first_reading, some_reading and one_reading, each of them behind a clause
+-- of the laws first_line_has_one_reading and line_has_one_reading.
 use Rattle.std.proofs.Common.{◌≡◌, ℕ, List, length, get_or, refl, sym, ap, ◌∙◌, inl, inr}
 use Rattle.std.specs.List.{list_all}
 use Rattle.std.proofs.lemmas.Bool.{cases_eq}

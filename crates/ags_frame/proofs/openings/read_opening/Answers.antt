@@ -1,6 +1,6 @@
 use Rattle.ags_frame.specs.declared.openings.Opening.TheVariants.{Malformed}
 use Rattle.ags_frame.proofs.OpeningLemmas.{opening_found, opening_none, one_opening}
-use Rattle.std.proofs.Common.{sym, arith}
+use Rattle.std.proofs.Common.{arith}
 use Rattle.ags_frame.proofs.openings.read_opening.Goals as goal
 
 pub returns-in-Some-clause-found : goal.returns-in-Some-clause-found
