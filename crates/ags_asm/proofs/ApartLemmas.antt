@@ -5,11 +5,12 @@ use Rattle.std.specs.Prelude.{All}
 use Rattle.std.specs.List.{Contains, AllPairs}
 use Rattle.std.proofs.lemmas.Bool.{true≢false, le-leb, lt-ltb}
 use Rattle.std.proofs.lemmas.List.Elements.{All-append, Contains-append_cases, Contains-get_or}
+use Rattle.std.proofs.lemmas.List.{length-map}
 use Rattle.std.proofs.lemmas.List.Kept.{AllPairs-cons}
 use Rattle.ags_text.specs.Fault.{or_later, first_fault}
 use Rattle.ags_image.specs.Image.{PlacedWord, EachPlaceOnce}
 use Rattle.ags_card.specs.declared.cards.Body.{Body}
-use Rattle.ags_card.specs.declared.cards.Body.TheVariants.{Comment, Order, Org, Equ, Bss, Dec, Oct, End}
+use Rattle.ags_card.specs.declared.cards.Body.TheVariants.{Comment, Order, Org, Equ, Bss, Bes, Dec, Oct, End}
 use Rattle.ags_card.specs.declared.cards.Card.{Card}
 use Rattle.ags_symbol.specs.Symbol.{Entry}
 use Rattle.ags_symbol.proofs.FoundLemmas.{Contains-cons, Contains-first, Contains-later}
@@ -19,7 +20,7 @@ use Rattle.ags_places.specs.Deck.{cards}
 use Rattle.ags_places.specs.Fault.{or_else, early_fault}
 use Rattle.ags_places.specs.Place.{count, place}
 use Rattle.ags_asm.specs.Source.{Defines, placed_words}
-use Rattle.ags_asm.specs.Word.{CardWords, definition, definitions, definitions_after, first_word_fault, is_among, owner, placed_from, taken, taken_from, word_fault, word_fault_at, words_at}
+use Rattle.ags_asm.specs.Word.{CardWords, definition, definitions, definitions_after, first_word_fault, is_among, owner, placed_from, taken, taken_from, word_fault, word_fault_at, word_of_decimal, words_at}
 
 -- ---- words at places
 
@@ -43,8 +44,9 @@ words_counted codes S at (Order order terms indexed) = refl
 words_counted codes S at (Org terms) = refl
 words_counted codes S at (Equ terms) = refl
 words_counted codes S at (Bss terms) = refl
-words_counted codes S at (Dec decimal) = refl
-words_counted codes S at (Oct word) = refl
+words_counted codes S at (Bes terms) = refl
+words_counted codes S at (Dec numbers) = length-map numbers word_of_decimal
+words_counted codes S at (Oct words) = refl
 words_counted codes S at End = refl
 
 -- ---- no place has two words in a source without a fault of the phase of words

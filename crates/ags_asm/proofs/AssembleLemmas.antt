@@ -1,13 +1,13 @@
 -- What the assembler answers, put together.
-use Rattle.std.proofs.Common.{◌≡◌, ℕ, suc, ◌+◌, List, [], ◌∷◌, length, map, refl, ap, ◌∙◌, arith, inl, inr}
+use Rattle.std.proofs.Common.{◌≡◌, ℕ, suc, ◌+◌, List, [], ◌∷◌, length, map, Option, refl, ap, ◌∙◌, arith, inl, inr}
 use Rattle.std.specs.Prelude.{Result, Ok, Err, IfOk, IfErr, IsOkAnd, IsErrOf, ◌⊎◌}
+use Rattle.std.proofs.lemmas.List.Elements.{Contains-append_left, Contains-append_right}
 use Rattle.ags_text.specs.Line.{LineAt, Follow}
-use Rattle.ags_image.specs.Image.{IsImageOf}
-use Rattle.ags_card.specs.declared.cards.Body.{Body}
-use Rattle.ags_card.specs.declared.cards.Body.TheVariants.{Comment, Order, Org, Equ, Bss, Dec, Oct, End}
+use Rattle.ags_image.specs.Image.{PlacedWord, IsImageOf, word_at}
 use Rattle.ags_card.specs.declared.cards.Card.{Card}
 use Rattle.ags_card.specs.Reading.{reading}
 use Rattle.ags_symbol.specs.Symbol.{Entry}
+use Rattle.ags_symbol.proofs.FoundLemmas.{Contains-first, Contains-later}
 use Rattle.ags_places.specs.declared.source_error.SourceError.{SourceError}
 use Rattle.ags_places.specs.declared.source_error.AssembleError.{AssembleError}
 use Rattle.ags_places.specs.declared.source_error.AssembleError.TheVariants.{Source, NoMemory}
@@ -15,31 +15,45 @@ use Rattle.ags_places.specs.Deck.{card_of, card_lines, cards_in, cards}
 use Rattle.ags_places.specs.Place.{place}
 use Rattle.ags_places.proofs.PlacingLemmas.{lines_of_cards_follow}
 use Rattle.ags_asm.specs.declared.assembling.Assembled.{Assembled}
-use Rattle.ags_asm.specs.Source.{AreSpans, card_words, defined, placed_at, placed_cards, placed_words, Defines, IsFaulty, IsAssembled, IsRefused}
-use Rattle.ags_asm.specs.Word.{CardWords, words_at, placed_from, definitions, definitions_after}
+use Rattle.ags_asm.specs.Source.{AreSpans, card_words, defined, words_in, placed_at, placed_cards, placed_words, Defines, IsFaulty, IsAssembled, IsRefused}
+use Rattle.ags_asm.specs.Word.{CardWords, words_at, placed_from, definition, definitions, definitions_after}
+use Rattle.ags_asm.proofs.ClosedLemmas.{Has, image_has}
+use Rattle.ags_asm.proofs.OwnedLemmas.{length-placed_from}
 use Rattle.ags_asm.proofs.MeaningLemmas.{one_meaning, one_fault, not_both, length-definitions}
 
 -- ---- placed cards and what they define
 
-defined-placed_at : (codes : List ℕ) (S : List Entry) (line : LineAt) (at : ℕ) (body : Body) → defined (placed_at line (placed_from at (words_at codes S at body))) ≡ placed_from at (words_at codes S at body)
-defined-placed_at codes S line at Comment = refl
-defined-placed_at codes S line at (Order order terms indexed) = refl
-defined-placed_at codes S line at (Org terms) = refl
-defined-placed_at codes S line at (Equ terms) = refl
-defined-placed_at codes S line at (Bss terms) = refl
-defined-placed_at codes S line at (Dec decimal) = refl
-defined-placed_at codes S line at (Oct word) = refl
-defined-placed_at codes S line at End = refl
+-- what an image has of the words at a place is these
+words_read : (image : List (Option ℕ)) (at : ℕ) (words : List ℕ) → Has image (placed_from at words) → words_in image at (length words) ≡ words
+words_read image at [] has = refl
+words_read image at (word ∷ words) has =
+    let one : PlacedWord = record { place = at; word = word } in
+    let here : word_at image at ≡ word = has one (Contains-first one (placed_from (at + 1) words)) in
+    let rest = words_read image (at + 1) words (λ other among. has other (Contains-later one other (placed_from (at + 1) words) among)) in
+    rw (here, rest) refl
 
-defined-placed_cards : (codes : List ℕ) (S : List Entry) (before : List Card) (lines : List LineAt) → map defined (placed_cards lines (definitions_after codes S before (cards_in lines))) ≡ definitions_after codes S before (cards_in lines)
+defined-placed_at : (image : List (Option ℕ)) (line : LineAt) (at : ℕ) (words : List ℕ) → Has image (placed_from at words) → defined image (placed_at line (placed_from at words)) ≡ placed_from at words
+defined-placed_at image line at [] has = refl
+defined-placed_at image line at (word ∷ words) has =
+    let same : length (placed_from at (word ∷ words)) ≡ length (word ∷ words) = length-placed_from at (word ∷ words) in
+    ap (λ (many : ℕ). placed_from at (words_in image at many)) same ∙ ap (placed_from at) (words_read image at (word ∷ words) has)
+
+defined-placed_cards : (codes : List ℕ) (S : List Entry) (image : List (Option ℕ)) (before : List Card) (lines : List LineAt) → Has image (placed_words (definitions_after codes S before (cards_in lines)))
+    → map (defined image) (placed_cards lines (definitions_after codes S before (cards_in lines))) ≡ definitions_after codes S before (cards_in lines)
 unfolding definitions_after
-defined-placed_cards codes S before [] = refl
-defined-placed_cards codes S before (line ∷ lines) =
+defined-placed_cards codes S image before [] has = refl
+defined-placed_cards codes S image before (line ∷ lines) has =
     let card = card_of (reading line.bytes) in
-    rw (defined-placed_at codes S line (place S before) card.body, defined-placed_cards codes S (card ∷ before) lines) refl
+    let mine = definition codes S before card in
+    let rest = placed_words (definitions_after codes S (card ∷ before) (cards_in lines)) in
+    rw (
+      defined-placed_at image line (place S before) (words_at codes S (place S before) card.body) (λ one among. has one (Contains-append_left mine rest one among)),
+      defined-placed_cards codes S image (card ∷ before) lines (λ one among. has one (Contains-append_right mine rest one among)),
+    ) refl
 
-pub defined_are : (codes text : List ℕ) (S : List Entry) → map defined (placed_cards (card_lines text) (definitions codes S (cards text))) ≡ definitions codes S (cards text)
-defined_are codes text S = defined-placed_cards codes S [] (card_lines text)
+pub defined_are : (codes text : List ℕ) (S : List Entry) (image : List (Option ℕ)) → IsImageOf (placed_words (definitions codes S (cards text))) image
+    → map (defined image) (placed_cards (card_lines text) (definitions codes S (cards text))) ≡ definitions codes S (cards text)
+defined_are codes text S image so = defined-placed_cards codes S image [] (card_lines text) (image_has (placed_words (definitions codes S (cards text))) image so)
 
 -- one for each line
 length-placed_cards : (lines : List LineAt) (words : CardWords) → length words ≡ length lines → length (placed_cards lines words) ≡ length lines
@@ -58,12 +72,12 @@ spans_along text from (line ∷ lines) ((one ∷ more) ∷ words) follow = (foll
 
 module _ (codes text : List ℕ) where
   pub defines_made : (result : Result Assembled AssembleError) → IfOk result (λ made. IsAssembled codes text made.cards.items made.symbols made.image) → IfOk result (λ made. Defines codes text (card_words made))
-  defines_made (Ok made) so = record { symbols = made.symbols; fits = so.fits; faultless = so.faultless; words = rw so.cards_are (defined_are codes text made.symbols) }
+  defines_made (Ok made) so = record { symbols = made.symbols; fits = so.fits; faultless = so.faultless; words = rw so.cards_are (defined_are codes text made.symbols made.image so.image_is) }
   defines_made (Err error) so = tt
 
   pub image_made : (result : Result Assembled AssembleError) → IfOk result (λ made. IsAssembled codes text made.cards.items made.symbols made.image)
       → IfOk result (λ made. IsImageOf (placed_words (card_words made)) made.image)
-  image_made (Ok made) so = rw (so.cards_are, defined_are codes text made.symbols) so.image_is
+  image_made (Ok made) so = rw (so.cards_are, defined_are codes text made.symbols made.image so.image_is) so.image_is
   image_made (Err error) so = tt
 
   pub each_made : (result : Result Assembled AssembleError) → IfOk result (λ made. IsAssembled codes text made.cards.items made.symbols made.image) → IfOk result (λ made. length made.cards.items ≡ length (card_lines text))

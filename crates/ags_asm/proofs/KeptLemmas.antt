@@ -1,13 +1,18 @@
 -- What is kept of the words while cards are read, one card further.
-use Rattle.std.proofs.Common.{◌≡◌, ℕ, zero, suc, ◌+◌, ◌<◌, ◌≤◌, List, [], ◌∷◌, ◌++◌, length, Option, Some, None, option_map, refl, sym, ap, subst, ◌∙◌, append-nil, arith}
-use Rattle.std.specs.Prelude.{All, Bool, false, not, is_some, ◌==◌}
-use Rattle.std.proofs.lemmas.Bool.{true≢false, ne_eqb}
+use Rattle.std.proofs.Common.{◌≡◌, ℕ, ◌+◌, ◌<◌, ◌≤◌, List, [], ◌∷◌, ◌++◌, length, Option, Some, None, option_map, refl, sym, ap, subst, ◌∙◌, append-nil, arith}
+use Rattle.std.specs.Prelude.{All, Bool, false, is_some}
+use Rattle.std.proofs.lemmas.Bool.{true≢false}
 use Rattle.std.specs.Global.{Vec}
 use Rattle.std.specs.Vec.{with_items}
 use Rattle.std.proofs.lemmas.List.{with_items_is}
 use Rattle.std.proofs.lemmas.List.Elements.{All-append, All-cons}
 use Rattle.ags_image.specs.Image.{IsImage, IsImageOf}
 use Rattle.ags_text.specs.Fault.{first_fault}
+use Rattle.ags_isa.specs.declared.orders.Order.{Order}
+use Rattle.ags_decimal.specs.Decimal.{Parts}
+use Rattle.ags_card.specs.declared.cards.Body.{Body}
+use Rattle.ags_card.specs.declared.cards.Body.TheVariants as of
+use Rattle.ags_card.specs.declared.terms.Term.{Term}
 use Rattle.ags_card.specs.declared.cards.Card.{Card}
 use Rattle.ags_symbol.specs.Symbol.{Entry}
 use Rattle.ags_places.specs.declared.source_error.SourceError.{SourceError}
@@ -125,16 +130,20 @@ pub none_of : (met : Option SourceError) (b : Bool) → b ≡ is_some met → b 
 none_of None b is so = refl
 none_of (Some error) b is so = absurd (true≢false (sym is ∙ so))
 
-pub zero_of : (n : ℕ) (b : Bool) → b ≡ not (n == 0) → b ≡ false → n ≡ 0
-zero_of zero b is so = refl
-zero_of (suc n) b is so = absurd (true≢false (sym (is ∙ rw (ne_eqb (suc n) 0 (λ e. omega (arith, e))) refl) ∙ so))
+-- what is no order, no DEC and no OCT has no word
+pub count_of_others : (body : Body) → ((order : Order) (terms : List Term) (indexed : Bool) → body ≡ of.Order order terms indexed → ⊥) → ((numbers : List Parts) → body ≡ of.Dec numbers → ⊥)
+    → ((words : List ℕ) → body ≡ of.Oct words → ⊥) → count body ≡ 0
+count_of_others of.Comment no_order no_decimals no_octals = refl
+count_of_others (of.Order order terms indexed) no_order no_decimals no_octals = absurd (no_order order terms indexed refl)
+count_of_others (of.Org terms) no_order no_decimals no_octals = refl
+count_of_others (of.Equ terms) no_order no_decimals no_octals = refl
+count_of_others (of.Bss terms) no_order no_decimals no_octals = refl
+count_of_others (of.Bes terms) no_order no_decimals no_octals = refl
+count_of_others (of.Dec numbers) no_order no_decimals no_octals = absurd (no_decimals numbers refl)
+count_of_others (of.Oct words) no_order no_decimals no_octals = absurd (no_octals words refl)
+count_of_others of.End no_order no_decimals no_octals = refl
 
 pub keep_wordless : (codes : List ℕ) (S : List Entry) (cards before left : List Card) (card : Card) (was : HalfWords) (number at : ℕ) → was.met ≡ None → count card.body ≡ 0 → length was.owners.items ≡ 4096 → at ≤ 4096
     → StandsNext S before number at → IsHalfMade codes S cards before (card ∷ left) was → IsHalfMade codes S cards (card ∷ before) left was
 keep_wordless codes S cards before left card was number at none wordless_so whole small next so =
     keep_free codes S cards before left card was was number at 0 [] [] none (sym (append-nil was.waiting.items)) none_small (omega arith) (omega (arith, small)) next (wordless codes S number at card.body wordless_so) so refl whole refl so.whole refl none
-
-pub keep_nothing : (codes : List ℕ) (S : List Entry) (cards before left : List Card) (card : Card) (was : HalfWords) (number at : ℕ) → was.met ≡ None → IsMade codes S number at card.body None [] [] → length was.owners.items ≡ 4096
-    → at ≤ 4096 → StandsNext S before number at → IsHalfMade codes S cards before (card ∷ left) was → IsHalfMade codes S cards (card ∷ before) left was
-keep_nothing codes S cards before left card was number at none made whole small next so =
-    keep_wordless codes S cards before left card was number at none (sym (made_count codes S number at card.body [] [] made)) whole small next so

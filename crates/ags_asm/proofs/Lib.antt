@@ -1,4 +1,5 @@
 pub mod ApartLemmas
+pub mod ClosedLemmas
 pub mod AssembleLemmas
 pub mod FaultLemmas
 pub mod HalfMadeLemmas
@@ -13,4 +14,3 @@ pub mod PassLemmas
 pub mod PlacingLemmas
 pub mod ReadingLemmas
 pub mod WordFaultLemmas
-pub mod WordedLemmas

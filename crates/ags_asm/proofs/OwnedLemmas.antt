@@ -6,7 +6,7 @@ use Rattle.std.proofs.lemmas.List.{length-append, length-set, get_or-set_same, g
 use Rattle.ags_image.specs.Image.{with_word}
 use Rattle.ags_image.proofs.ImageLaws.{length-with_word}
 use Rattle.ags_card.specs.declared.cards.Body.{Body}
-use Rattle.ags_card.specs.declared.cards.Body.TheVariants.{Comment, Order, Org, Equ, Bss, Dec, Oct, End}
+use Rattle.ags_card.specs.declared.cards.Body.TheVariants.{Comment, Order, Org, Equ, Bss, Bes, Dec, Oct, End}
 use Rattle.std.specs.List.{count_by}
 use Rattle.std.proofs.lemmas.List.Sums.{sum_by-set}
 use Rattle.ags_card.specs.declared.cards.Card.{Card}
@@ -114,7 +114,7 @@ owned_so S before card owners number at many next few owned whole small = λ q w
 
 -- ---- how many words
 
-length-placed_from : (at : ℕ) (words : List ℕ) → length (placed_from at words) ≡ length words
+pub length-placed_from : (at : ℕ) (words : List ℕ) → length (placed_from at words) ≡ length words
 length-placed_from at [] = refl
 length-placed_from at (word ∷ words) = ap suc (length-placed_from (at + 1) words)
 
@@ -164,6 +164,9 @@ wordless codes S number at (Order order terms indexed) none = absurd (omega (ari
 wordless codes S number at (Org terms) none = record { fault = refl; words_are = λ _. refl }
 wordless codes S number at (Equ terms) none = record { fault = refl; words_are = λ _. refl }
 wordless codes S number at (Bss terms) none = record { fault = refl; words_are = λ _. refl }
-wordless codes S number at (Dec decimal) none = absurd (omega (arith, none))
-wordless codes S number at (Oct word) none = absurd (omega (arith, none))
+wordless codes S number at (Bes terms) none = record { fault = refl; words_are = λ _. refl }
+wordless codes S number at (Dec []) none = record { fault = refl; words_are = λ _. refl }
+wordless codes S number at (Dec (first ∷ numbers)) none = absurd (omega (arith, none))
+wordless codes S number at (Oct []) none = record { fault = refl; words_are = λ _. refl }
+wordless codes S number at (Oct (word ∷ words)) none = absurd (omega (arith, none))
 wordless codes S number at End none = record { fault = refl; words_are = λ _. refl }

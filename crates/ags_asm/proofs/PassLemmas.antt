@@ -15,7 +15,7 @@ use Rattle.ags_places.specs.declared.source_error.AssembleError.TheVariants.{Sou
 use Rattle.ags_places.specs.declared.source_error.SourceError.{SourceError}
 use Rattle.ags_places.specs.Deck.{is_end, ends, deck, card_lines, card_of, cards_in, cards}
 use Rattle.ags_places.specs.Fault.{place_fault_at, first_card_fault}
-use Rattle.ags_places.specs.Place.{place, symbol_value, pair_of, place_of_word}
+use Rattle.ags_places.specs.Place.{count, place, symbol_value, pair_of, place_of_word}
 use Rattle.ags_places.specs.Source.{IsFirstPlaceFault, placed_at}
 use Rattle.ags_places.proofs.PlacingLemmas.{deck_left, ends_so}
 use Rattle.ags_places.proofs.RunningLemmas.{known, next_pair, next_pairs, AgreesAlong, agrees_along, fits_some}
@@ -114,7 +114,7 @@ module _ (codes text : List ℕ) (line : LineAt) (left : List LineAt) (number : 
       (subst (λ (S : List Entry). IsHalfMade codes S (cards text) so.before (card ∷ cards_in left) was.words) later half) in
       record {
         placing = rw (taken.cards, taken.pair, taken.next, so.number_is) (Placing-more text line left was.cards.items was.symbols was.place card so.placing is taken.faultless);
-        number_is = rw taken.cards (omega (arith, so.number_is, length-append was.cards.items (placed_at line (place_of_word was.place card.body) ∷ [])));
+        number_is = rw taken.cards (omega (arith, so.number_is, length-append was.cards.items (placed_at line (place_of_word was.place card.body) (count card.body) ∷ [])));
         before = card ∷ so.before;
         many = omega (arith, so.many);
         pairs_are = taken.pair ∙ rw (← pair) (ap (λ (pairs : List Entry). pairs ++ next_pair so.before card) so.pairs_are);
@@ -156,7 +156,7 @@ pub none_of : (misplaced : Option SourceError) (b : Bool) → is_some misplaced 
 none_of None b is so = refl
 none_of (Some error) b is so = absurd (true≢false (is ∙ ap not so))
 
-pub taken_comment : (codes : List ℕ) (line : LineAt) (number : ℕ) (was : Pass) (placed : Vec Placed) → was.misplaced ≡ None → IsWithinLimits was → placed.items ≡ was.cards.items ++ placed_at line None ∷ []
+pub taken_comment : (codes : List ℕ) (line : LineAt) (number : ℕ) (was : Pass) (placed : Vec Placed) → was.misplaced ≡ None → IsWithinLimits was → placed.items ≡ was.cards.items ++ placed_at line None 0 ∷ []
     → IsTaken codes line number comment_card was (record { cards = placed; symbols = was.symbols; place = was.place; words = was.words; misplaced = was.misplaced })
 taken_comment codes line number was placed none within pushed = inl (
   none,

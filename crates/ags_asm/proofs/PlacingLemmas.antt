@@ -10,7 +10,7 @@ use Rattle.ags_places.specs.declared.placed.Placed.{Placed}
 use Rattle.ags_places.specs.declared.source_error.SourceKind.{SourceKind}
 use Rattle.ags_places.specs.Deck.{card_lines, card_of, cards_in, cards}
 use Rattle.ags_places.specs.Fault.{first_place_fault, place_fault_at}
-use Rattle.ags_places.specs.Place.{Fits, pair_of, place_after, place_of_word, symbol_value}
+use Rattle.ags_places.specs.Place.{Fits, count, counts, pair_of, place_after, place_of_word, symbol_value}
 use Rattle.ags_places.specs.Source.{IsFirstPlaceFault, IsPlaced, placed_at, placed_cards}
 use Rattle.ags_places.proofs.RunningLemmas.{known, next_pair, next_pairs, known_fault, known_places, fits_some, faults-known, places-known}
 use Rattle.ags_asm.proofs.ReadingLemmas.{Reading, Reading-none, Reading-more, Reading-all}
@@ -24,7 +24,7 @@ pub record Placing (text : List ℕ) (left : List LineAt) (placed : List Placed)
   pub at_is : at ≡ (known before).place
   pub pairs : next_pairs [] (cards text) ≡ E ++ next_pairs before (cards_in left)
   pub fault : first_fault known_fault [] (cards text) ≡ first_fault known_fault before (cards_in left)
-  pub cards_are : placed_cards (card_lines text) (known_places [] (cards text)) ≡ placed ++ placed_cards left (known_places before (cards_in left))
+  pub cards_are : placed_cards (card_lines text) (known_places [] (cards text)) (counts (cards text)) ≡ placed ++ placed_cards left (known_places before (cards_in left)) (counts (cards_in left))
 
 known-nil : ([] ≡ (known []).pairs) × (0 ≡ (known []).place)
 unfolding known
@@ -63,21 +63,21 @@ Placing-fault text line left placed E at card kind so is fault =
 -- it is placed
 pub Placing-more : (text : List ℕ) (line : LineAt) (left : List LineAt) (placed : List Placed) (E : List Entry) (at : ℕ) (card : Card)
     → Placing text (line ∷ left) placed E at → reading line.bytes ≡ Ok card → place_fault_at E at card ≡ None
-    → Placing text left (placed ++ placed_at line (place_of_word at card.body) ∷ []) (E ++ pair_of card.symbol (symbol_value E at card.body) (length placed + 1)) (place_after E at card.body)
+    → Placing text left (placed ++ placed_at line (place_of_word at card.body) (count card.body) ∷ []) (E ++ pair_of card.symbol (symbol_value E at card.body) (length placed + 1)) (place_after E at card.body)
 unfolding known next_pairs known_places
 Placing-more text line left placed E at card so is fault =
     let here : card_of (reading line.bytes) ≡ card = rw is refl in
     let right : known_fault so.before card ≡ None = rw (← so.pairs_are, ← so.at_is) fault in
     let pair : next_pair so.before card ≡ pair_of card.symbol (symbol_value E at card.body) (length placed + 1) = rw (so.pairs_are, so.at_is, so.many) refl in
     record {
-      reading = rw (length-append placed (placed_at line (place_of_word at card.body) ∷ [])) (Reading-more text line left (length placed) card so.reading is);
+      reading = rw (length-append placed (placed_at line (place_of_word at card.body) (count card.body) ∷ [])) (Reading-more text line left (length placed) card so.reading is);
       before = card ∷ so.before;
-      many = omega (arith, so.many, length-append placed (placed_at line (place_of_word at card.body) ∷ []));
+      many = omega (arith, so.many, length-append placed (placed_at line (place_of_word at card.body) (count card.body) ∷ []));
       pairs_are = rw (← pair) (ap (λ (pairs : List Entry). pairs ++ next_pair so.before card) so.pairs_are);
       at_is = rw (so.pairs_are, so.at_is) refl;
       pairs = so.pairs ∙ rw (here, pair) (sym (append_assoc E (pair_of card.symbol (symbol_value E at card.body) (length placed + 1)) (next_pairs (card ∷ so.before) (cards_in left))));
       fault = so.fault ∙ rw here (first_fault-faultless known_fault so.before card (cards_in left) right);
-      cards_are = so.cards_are ∙ rw (here, ← so.at_is) (sym (append_assoc placed (placed_at line (place_of_word at card.body) ∷ []) (placed_cards left (known_places (card ∷ so.before) (cards_in left)))));
+      cards_are = so.cards_are ∙ rw (here, ← so.at_is) (sym (append_assoc placed (placed_at line (place_of_word at card.body) (count card.body) ∷ []) (placed_cards left (known_places (card ∷ so.before) (cards_in left)) (counts (cards_in left)))));
     }
 
 -- all are placed

@@ -1,12 +1,13 @@
 -- The first fault of the phase of words is the least of all.
-use Rattle.std.proofs.Common.{◌≡◌, ℕ, zero, suc, ◌+◌, ◌<◌, ◌≤◌, Bool, true, false, cond, List, [], ◌∷◌, reverse, Option, Some, None, option_map, refl, sym, ap, subst, ◌∙◌, ◌⊎◌, inl, inr, arith}
+use Rattle.std.proofs.Common.{◌&&◌, ◌≡◌, ℕ, zero, suc, ◌+◌, ◌<◌, ◌≤◌, Bool, true, false, cond, List, [], ◌∷◌, reverse, Option, Some, None, option_map, refl, sym, ap, subst, ◌∙◌, ◌⊎◌, inl, inr, arith}
 use Rattle.std.specs.Prelude.{is_some, ℤ, pos}
+use Rattle.std.proofs.lemmas.Bool.{cases_eq, cases_lt}
 use Rattle.std.specs.List.{Contains, filter_map, cons_option}
 use Rattle.ags_word.specs.Word.{fits}
 use Rattle.ags_word.proofs.WordLaws.{word_of_value-fits, word_of_value-not}
 use Rattle.ags_decimal.specs.Decimal.{Parts, decimal_word, nearest_value}
 use Rattle.ags_card.specs.declared.cards.Body.{Body}
-use Rattle.ags_card.specs.declared.cards.Body.TheVariants.{Comment, Order, Org, Equ, Bss, Dec, Oct, End}
+use Rattle.ags_card.specs.declared.cards.Body.TheVariants.{Comment, Order, Org, Equ, Bss, Bes, Dec, Oct, End}
 use Rattle.ags_card.specs.declared.cards.Card.{Card}
 use Rattle.ags_card.specs.declared.terms.Term.{Term}
 use Rattle.ags_symbol.specs.Symbol.{Entry, NamesUnknown, names, sum_of}
@@ -23,7 +24,7 @@ use Rattle.ags_places.proofs.NameLemmas.{names_fit}
 use Rattle.ags_places.proofs.RangeLemmas.{outside, outside_fails}
 use Rattle.ags_places.proofs.RunningLemmas.{fits_one}
 use Rattle.ags_asm.specs.Faulty.{HasWordAt, HasWordFault, IsMismadeBy, NamesNoCard, StandsBefore}
-use Rattle.ags_asm.specs.Word.{address_fault, first_word_fault, owner, taken, taken_from, word_fault, word_fault_at}
+use Rattle.ags_asm.specs.Word.{all_fit, address_fault, first_word_fault, owner, taken, taken_from, word_fault, word_fault_at}
 use Rattle.ags_asm.proofs.OwnerLemmas.{owner_stands, owner_none, unowned_here}
 
 -- ---- the symbols that cards define
@@ -78,6 +79,44 @@ card_symbol (first ∷ all) card name among is = elim (Contains-cons first card 
   | inr later ↦ later_symbol first.symbol name (filter_map (λ card. card.symbol) all) (card_symbol all card name later is)
 ]
 
+-- ---- decimals that don't fit
+
+-- one that has no word
+no_word : (number : Parts) → is_some (decimal_word number) ≡ false → fits (nearest_value number) ≡ false
+no_word number none = by_fit (fits (nearest_value number)) refl
+  where
+    by_fit : (fit : Bool) → fits (nearest_value number) ≡ fit → fits (nearest_value number) ≡ false
+    by_fit false is = is
+    by_fit true is =
+        let some : true ≡ false = rw (word_of_value-fits (nearest_value number) is) at none in
+        absurd cc
+
+-- some one of these
+Misfit : List Parts → Type 0
+Misfit numbers = (number : Parts) × Contains numbers number × (fits (nearest_value number) ≡ false)
+
+misfit_first : (first : Parts) (numbers : List Parts) (here : Bool) → is_some (decimal_word first) ≡ here → here && all_fit numbers ≡ false → (all_fit numbers ≡ false → Misfit numbers) → Misfit (first ∷ numbers)
+unfolding Misfit
+misfit_first first numbers false here is later = (first, Contains-first first numbers, no_word first here)
+misfit_first first numbers true here is later = let (number, among, out) = later is in (number, Contains-later first number numbers among, out)
+
+some_misfit : (numbers : List Parts) → all_fit numbers ≡ false → Misfit numbers
+some_misfit [] fit = absurd cc
+some_misfit (first ∷ numbers) fit = misfit_first first numbers (is_some (decimal_word first)) refl fit (some_misfit numbers)
+
+misfit_tells : (numbers : List Parts) (number : Parts) → Contains numbers number → fits (nearest_value number) ≡ false → all_fit numbers ≡ false
+misfit_tells [] number among out = absurd (omega (arith, among.1))
+misfit_tells (first ∷ numbers) number among out = elim (Contains-cons first number numbers among) [
+  | inl this ↦
+      let none : is_some (decimal_word first) ≡ false = ap (λ (n : Parts). is_some (decimal_word n)) this ∙ ap is_some (word_of_value-not (nearest_value number) out) in
+      rw none refl
+  | inr later ↦ by_first (is_some (decimal_word first)) (misfit_tells numbers number later out)
+]
+  where
+    by_first : (here : Bool) → all_fit numbers ≡ false → here && all_fit numbers ≡ false
+    by_first true rest = rest
+    by_first false rest = refl
+
 -- ---- places that are taken
 
 -- one of so many places from one on is owned, and that is the fault
@@ -88,15 +127,27 @@ record Owned (owned : ℕ → Option ℕ) (at many : ℕ) (kind : SourceKind) : 
   below : there < at + many
   owned_by : owned there ≡ Some first
   kind_is : PlaceTwice first ≡ kind
+  none : (q : ℕ) → at ≤ q → q < there → owned q ≡ None
 
 owned_step : (owned : ℕ → Option ℕ) (at many : ℕ) (kind : SourceKind) (here : Option ℕ) → owned at ≡ here → (taken_from owned (at + 1) many ≡ Some kind → Owned owned (at + 1) many kind)
     → or_else (option_map PlaceTwice here) (taken_from owned (at + 1) many) ≡ Some kind → Owned owned at (suc many) kind
 owned_step owned at many kind None is later told =
     let so = later told in
-    record { there = so.there; first = so.first; from = omega (arith, so.from); below = omega (arith, so.below); owned_by = so.owned_by; kind_is = so.kind_is }
+    record {
+      there = so.there;
+      first = so.first;
+      from = omega (arith, so.from);
+      below = omega (arith, so.below);
+      owned_by = so.owned_by;
+      kind_is = so.kind_is;
+      none = λ q from before. elim (cases_eq q at) [
+        | inl this ↦ ap owned this ∙ is
+        | inr other ↦ so.none q (omega (arith, from, other)) before
+      ];
+    }
 owned_step owned at many kind (Some first) is later told =
     let same : PlaceTwice first ≡ kind = cc in
-    record { there = at; first = first; from = omega arith; below = omega arith; owned_by = is; kind_is = same }
+    record { there = at; first = first; from = omega arith; below = omega arith; owned_by = is; kind_is = same; none = λ q from before. absurd (omega (arith, from, before)) }
 
 owned_somewhere : (owned : ℕ → Option ℕ) (at many : ℕ) (kind : SourceKind) → taken_from owned at many ≡ Some kind → Owned owned at many kind
 owned_somewhere owned at zero kind told = absurd cc
@@ -139,15 +190,14 @@ module _ (S : List Entry) (all : List Card) (fitting : Fits S all) where
             let same : AddressRange value ≡ kind = cc in
             rw (sym same) (terms, (order, indexed, body), sum, outside (pos 0) value value (pos 4095) test)
 
-    decimal_sound : (decimal : Parts) (kind : SourceKind) (within : Bool) → card.body ≡ Dec decimal → fits (nearest_value decimal) ≡ within
-        → ◌≡◌ {A = Option SourceKind} (cond (is_some (decimal_word decimal)) None (Some ValueRange)) (Some kind) → IsMismadeBy S all kind before card
-    decimal_sound decimal kind true body fit is =
-        let none : ◌≡◌ {A = Option SourceKind} None (Some kind) = rw (word_of_value-fits (nearest_value decimal) fit) at is in
-        absurd cc
-    decimal_sound decimal kind false body fit is =
-        let told : ◌≡◌ {A = Option SourceKind} (Some ValueRange) (Some kind) = rw (word_of_value-not (nearest_value decimal) fit) at is in
+    decimals_sound : (numbers : List Parts) (kind : SourceKind) (within : Bool) → card.body ≡ Dec numbers → all_fit numbers ≡ within
+        → ◌≡◌ {A = Option SourceKind} (cond within None (Some ValueRange)) (Some kind) → IsMismadeBy S all kind before card
+    unfolding Misfit
+    decimals_sound numbers kind true body fit is = absurd cc
+    decimals_sound numbers kind false body fit is =
         let same : ValueRange ≡ kind = cc in
-        rw (sym same) (decimal, body, fit)
+        let (number, among, out) = some_misfit numbers fit in
+        rw (sym same) (numbers, number, body, among, out)
 
     word_sound : (body : Body) (kind : SourceKind) → card.body ≡ body → word_fault_at S (place S before) body ≡ Some kind → IsMismadeBy S all kind before card
     word_sound Comment kind body is = absurd cc
@@ -155,14 +205,26 @@ module _ (S : List Entry) (all : List Card) (fitting : Fits S all) where
     word_sound (Org terms) kind body is = absurd cc
     word_sound (Equ terms) kind body is = absurd cc
     word_sound (Bss terms) kind body is = absurd cc
-    word_sound (Dec decimal) kind body is = decimal_sound decimal kind (fits (nearest_value decimal)) body refl is
-    word_sound (Oct word) kind body is = absurd cc
+    word_sound (Bes terms) kind body is = absurd cc
+    word_sound (Dec numbers) kind body is = decimals_sound numbers kind (all_fit numbers) body refl is
+    word_sound (Oct words) kind body is = absurd cc
     word_sound End kind body is = absurd cc
 
     taken_sound : (kind : SourceKind) → taken S before card ≡ Some kind → IsMismadeBy S all kind before card
     taken_sound kind is =
         let so = owned_somewhere (λ q. owner S q before) (place S before) (count card.body) kind is in
-        rw (sym so.kind_is) (so.there, (so.from, so.below), owner_stands S so.there before so.first so.owned_by)
+        rw (sym so.kind_is) (
+        so.there,
+        (so.from, so.below),
+        owner_stands S so.there before so.first so.owned_by,
+        λ other number here stands. least so.there other number so.none here stands,
+        )
+      where
+        least : (there other number : ℕ) → ((q : ℕ) → place S before ≤ q → q < there → owner S q before ≡ None) → HasWordAt S before card other → StandsBefore S before number other → there ≤ other
+        least there other number none here stands = elim (cases_lt other there) [
+          | inl earlier ↦ absurd (owner_none S other before (none other here.0 earlier) number stands)
+          | inr from ↦ from
+        ]
 
     by_word : (wrong : Option SourceKind) (kind : SourceKind) → word_fault_at S (place S before) card.body ≡ wrong
         → or_else wrong (taken S before card) ≡ Some kind → IsMismadeBy S all kind before card
@@ -218,11 +280,10 @@ module _ (S : List Entry) (all : List Card) (fitting : Fits S all) where
         told_word (AddressRange value)
         (ap (word_fault_at S (place S before)) body ∙ ap address_fault sum
         ∙ ap (λ (within : Bool). cond within None (Some (AddressRange value))) (outside_fails (pos 0) value value (pos 4095) out))
-    mismade_least ValueRange (decimal, body, fit) =
+    mismade_least ValueRange (numbers, number, body, among, out) =
         told_word ValueRange
-        (ap (word_fault_at S (place S before)) body
-        ∙ ap (λ (word : Option ℕ). cond (is_some word) None (Some ValueRange)) (word_of_value-not (nearest_value decimal) fit))
-    mismade_least (PlaceTwice first) (at, here, stands) = taken_tells at first here stands
+        (ap (word_fault_at S (place S before)) body ∙ ap (λ (fit : Bool). cond fit None (Some ValueRange)) (misfit_tells numbers number among out))
+    mismade_least (PlaceTwice first) (at, here, stands, least) = taken_tells at first here stands
     mismade_least BadByte is = absurd is
     mismade_least LongCard is = absurd is
     mismade_least BadSymbol is = absurd is

@@ -41,13 +41,15 @@ StandsBefore S before number at = (card : Card) × (earlier : List Card) × IsBe
 abbrev pub StandsNearest : List Entry → (before : List Card) → (number at : ℕ) → Type 0
 StandsNearest S before number at = StandsBefore S before number at × ((other : ℕ) → StandsBefore S before other at → other ≤ number)
 
--- the card has a fault of that kind, where S fits all cards: operands are taken over all pairs
+-- The card has a fault of that kind, where S fits all cards: operands are taken over all pairs. That a place is taken is told of the
+-- least place that is.
 abbrev pub IsMismadeBy : List Entry → (cards : List Card) → SourceKind → (before : List Card) → Card → Type 0
 IsMismadeBy S cards Undefined before card = (terms : List Term) × IsOrderOf card terms × NamesNoCard cards terms
 IsMismadeBy S cards (AddressRange value) before card = (terms : List Term) × IsOrderOf card terms × (sum_of S (place S before) terms ≡ Some value)
     × ((value <ℤ pos 0) ⊎ (pos 4095 <ℤ value))
-IsMismadeBy S cards ValueRange before card = (decimal : Parts) × (card.body ≡ Dec decimal) × (fits (nearest_value decimal) ≡ false)
+IsMismadeBy S cards ValueRange before card = (numbers : List Parts) × (number : Parts) × (card.body ≡ Dec numbers) × Contains numbers number × (fits (nearest_value number) ≡ false)
 IsMismadeBy S cards (PlaceTwice first) before card = (at : ℕ) × HasWordAt S before card at × StandsBefore S before first at
+    × ((other number : ℕ) → HasWordAt S before card other → StandsBefore S before number other → at ≤ other)
 IsMismadeBy S cards BadByte before card = ⊥
 IsMismadeBy S cards LongCard before card = ⊥
 IsMismadeBy S cards BadSymbol before card = ⊥

@@ -9,4 +9,3 @@ pub mod Made
 pub mod Pass
 pub mod Passing
 pub mod Waiting
-pub mod Worded

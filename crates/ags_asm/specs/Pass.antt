@@ -7,7 +7,7 @@ use Rattle.ags_places.specs.declared.placed.Placed.{Placed}
 use Rattle.ags_places.specs.declared.source_error.SourceError.{SourceError}
 use Rattle.ags_places.specs.Deck.{card_lines, cards}
 use Rattle.ags_places.specs.Fault.{first_card_fault}
-use Rattle.ags_places.specs.Place.{Fits, places}
+use Rattle.ags_places.specs.Place.{Fits, counts, places}
 use Rattle.ags_places.specs.Source as early
 use Rattle.ags_places.specs.Source.{IsFirstPlaceFault, IsPlaced}
 use Rattle.ags_asm.specs.declared.passing.Pass.{Pass}
@@ -35,10 +35,10 @@ pub record IsPassed (codes text : List ℕ) (pass : Pass) : Type 0 where
   pub misplaced : (error : SourceError) → pass.misplaced ≡ Some error → IsFirstPlaceFault text error
   pub ended : pass.misplaced ≡ None → IsEnded codes text pass
 
--- The text is a source without a fault, these are its cards before their words are filled in, S is what its symbols stand for, and
+-- The text is a source without a fault, these are its cards as they are placed, S is what its symbols stand for, and
 -- the image has exactly the words that it defines.
 pub record IsClosed (codes text : List ℕ) (placed : List Placed) (S : List Entry) (image : List (Option ℕ)) : Type 0 where
   pub fits : Fits S (cards text)
   pub faultless : source_fault S text ≡ None
-  pub cards_are : placed ≡ early.placed_cards (card_lines text) (places S (cards text))
+  pub cards_are : placed ≡ early.placed_cards (card_lines text) (places S (cards text)) (counts (cards text))
   pub image_is : IsImageOf (placed_words (definitions codes S (cards text))) image

@@ -10,7 +10,7 @@ use Rattle.ags_places.specs.declared.source_error.AssembleError.{AssembleError}
 use Rattle.ags_places.specs.declared.source_error.AssembleError.TheVariants.{Source, NoMemory}
 use Rattle.ags_places.specs.Deck.{is_end}
 use Rattle.ags_places.specs.Fault.{kind_of, place_fault_at}
-use Rattle.ags_places.specs.Place.{pair_of, place_after, symbol_value, place_of_word}
+use Rattle.ags_places.specs.Place.{count, pair_of, place_after, symbol_value, place_of_word}
 use Rattle.ags_places.specs.Source.{placed_at}
 use Rattle.ags_asm.specs.declared.passing.Pass.{Pass}
 use Rattle.ags_asm.specs.HalfMade.{AreFew, IsHalfMade, StandsNext}
@@ -21,7 +21,7 @@ pub record IsTakenWhole (codes : List ℕ) (line : LineAt) (number : ℕ) (card 
   pub faultless : place_fault_at was.symbols was.place card ≡ None
   pub pair : now.symbols ≡ was.symbols ++ pair_of card.symbol (symbol_value was.symbols was.place card.body) number
   pub next : now.place ≡ place_after was.symbols was.place card.body
-  pub cards : now.cards.items ≡ was.cards.items ++ placed_at line (place_of_word was.place card.body) ∷ []
+  pub cards : now.cards.items ≡ was.cards.items ++ placed_at line (place_of_word was.place card.body) (count card.body) ∷ []
   pub words : (later : List Entry) (cards before left : List Card) → StandsNext (now.symbols ++ later) before number was.place
       → IsHalfMade codes (now.symbols ++ later) cards before (card ∷ left) was.words → IsHalfMade codes (now.symbols ++ later) cards (card ∷ before) left now.words
 

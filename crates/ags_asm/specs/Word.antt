@@ -1,12 +1,13 @@
 -- The words of a source's cards, each card's as a list from its place on, and what is wrong with them. The list S is that of the
 -- pairs that fit the cards: here an operand is taken over all of them, also those of later cards.
-use Rattle.std.specs.Prelude.{ℕ, zero, suc, ◌+◌, Bool, ◌&&◌, nat_le, nat_lt, if◌then◌else◌, List, [], ◌∷◌, length, Option, Some, None, option_map, unwrap_or, is_some, ℤ, unsigned_abs}
+use Rattle.std.specs.Prelude.{ℕ, zero, suc, ◌+◌, Bool, ◌&&◌, nat_le, nat_lt, if◌then◌else◌, List, [], ◌∷◌, length, map, Option, Some, None, option_map, unwrap_or, is_some, ℤ, unsigned_abs}
+use Rattle.std.specs.List.{list_all}
 use Rattle.ags_text.specs.Fault.{first_fault}
 use Rattle.ags_isa.specs.Naming.{order_word}
-use Rattle.ags_decimal.specs.Decimal.{decimal_word}
+use Rattle.ags_decimal.specs.Decimal.{Parts, decimal_word}
 use Rattle.ags_image.specs.Image.{PlacedWord}
 use Rattle.ags_card.specs.declared.cards.Body.{Body}
-use Rattle.ags_card.specs.declared.cards.Body.TheVariants.{Comment, Order, Org, Equ, Bss, Dec, Oct, End}
+use Rattle.ags_card.specs.declared.cards.Body.TheVariants.{Comment, Order, Org, Equ, Bss, Bes, Dec, Oct, End}
 use Rattle.ags_card.specs.declared.cards.Card.{Card}
 use Rattle.ags_symbol.specs.Symbol.{Entry, sum_of}
 use Rattle.ags_places.specs.declared.source_error.SourceKind.{SourceKind}
@@ -23,16 +24,29 @@ use Rattle.ags_places.specs.Fault.{is_place, or_else}
 abbrev pub CardWords : Type 0
 CardWords = List (List PlacedWord)
 
+-- the word nearest to a decimal's value, and 0 where it doesn't fit, which is a fault
+abbrev pub word_of_decimal : Parts → ℕ
+word_of_decimal number = unwrap_or (decimal_word number) 0
+
+-- those of decimals
+abbrev pub decimal_words : List Parts → List ℕ
+decimal_words numbers = map word_of_decimal numbers
+
+-- whether each of them fits
+abbrev pub all_fit : List Parts → Bool
+all_fit numbers = list_all (λ number. is_some (decimal_word number)) numbers
+
 -- The words of a card at its place, by the table of codes: of an order its code, its index and the address that its operand comes
--- to, of a DEC the word nearest to its value, of an OCT its own. A word is 0 where its card has a fault.
+-- to, of a DEC the words nearest to its values, of an OCT its own. A word is 0 where its card has a fault.
 abbrev pub words_at : List ℕ → List Entry → ℕ → Body → List ℕ
 words_at codes S at Comment = []
 words_at codes S at (Order order terms indexed) = order_word codes order indexed (unsigned_abs (operand S at terms)) ∷ []
 words_at codes S at (Org terms) = []
 words_at codes S at (Equ terms) = []
 words_at codes S at (Bss terms) = []
-words_at codes S at (Dec decimal) = unwrap_or (decimal_word decimal) 0 ∷ []
-words_at codes S at (Oct word) = word ∷ []
+words_at codes S at (Bes terms) = []
+words_at codes S at (Dec numbers) = decimal_words numbers
+words_at codes S at (Oct words) = words
 words_at codes S at End = []
 
 -- words at a place and those behind it
@@ -67,8 +81,9 @@ word_fault_at S at (Order order terms indexed) = address_fault (sum_of S at term
 word_fault_at S at (Org terms) = None
 word_fault_at S at (Equ terms) = None
 word_fault_at S at (Bss terms) = None
-word_fault_at S at (Dec decimal) = if is_some (decimal_word decimal) then None else Some ValueRange
-word_fault_at S at (Oct word) = None
+word_fault_at S at (Bes terms) = None
+word_fault_at S at (Dec numbers) = if all_fit numbers then None else Some ValueRange
+word_fault_at S at (Oct words) = None
 word_fault_at S at End = None
 
 -- whether a place is one of so many from a place on

@@ -9,7 +9,6 @@ ghost use Rattle.ags_asm.specs.Pass.{IsClosed, IsPassed};
 ghost use Rattle.ags_asm.specs.Source.{AreSpans, CardWords, Defines, IsAssembled, IsFaulty, IsInMemory, IsRefused, card_words, placed_cards, placed_words};
 
 use crate::passing::{Pass, read_cards};
-use crate::wording::fill_words;
 use ags_image::Image;
 use ags_isa::Codes;
 use ags_places::{AssembleError, Placed, SOURCE_LIMIT};
@@ -27,7 +26,7 @@ pub struct Assembled {
     pub symbols: Symbols,
 }
 
-/// What a source whose cards were read comes to: the image of its words, its cards before their words are filled in, and its symbols.
+/// What a source whose cards were read comes to: the image of its words, its cards and its symbols.
 fn close_pass(codes: &Codes, bytes: &[u8], pass: Pass) -> Result<Assembled, AssembleError>
     requires { IsPassed codes.now bytes.now pass }
     ensures closed { IfOk result (λ made. IsClosed codes.now bytes.now made.cards.items made.symbols made.image) }
@@ -62,21 +61,11 @@ fn assemble_once(alloc: Global, bytes: &[u8], codes: &Codes) -> Result<Assembled
 {
     let mut pass = Pass::new(alloc)?;
     read_cards(codes, bytes, &mut pass)?;
-    let Assembled {
-        image,
-        mut cards,
-        symbols,
-    } = close_pass(codes, bytes, pass)?;
-    fill_words(&mut cards, &image);
-    Ok(Assembled {
-        image,
-        cards,
-        symbols,
-    })
+    close_pass(codes, bytes, pass)
 }
 
 /// Assembles a source of at most 4,194,304 bytes by a table of codes: the image of its words, each card with the span of its
-/// bytes, its place and its word (docs/SOURCE.md, Places), and its symbols, or the source's first fault (docs/SOURCE.md, Faults).
+/// bytes, the place of its first word and how many it has (docs/SOURCE.md, Places), and its symbols, or the source's first fault (docs/SOURCE.md, Faults).
 /// A fault of the phase of cards comes first, then one of places, then one of words, and in a phase the first card's.
 /// `NoMemory` may come at any source, and says nothing of it.
 pub fn assemble(alloc: Global, bytes: &[u8], codes: &Codes) -> Result<Assembled, AssembleError>

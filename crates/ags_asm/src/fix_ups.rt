@@ -34,15 +34,13 @@ impl Model for FixUp {
     ghost invariant = { λ f. AreOpen f.place f.sum f.rest.items };
 }
 
-/// What a card's words are made as, as far as the symbols are known.
+/// What the word of an order is made as, as far as the symbols are known.
 #[derive(Drop)]
 pub(crate) enum Made {
-    /// It has none.
-    Nothing,
-    /// It has this one.
+    /// It is this one.
     Word(Word),
-    /// Its order waits.
+    /// It waits.
     Waits(FixUp),
-    /// They have this fault.
+    /// It has this fault.
     Fault(SourceKind),
 }

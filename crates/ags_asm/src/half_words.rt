@@ -11,10 +11,10 @@ ghost use Rattle.ags_asm.specs.Waiting.{IsMade};
 ghost use Rattle.ags_asm.specs.Word.{taken_from};
 
 use crate::fix_ups::{FixUp, Made};
-use crate::making::make;
-use ags_card::Body;
+use crate::making::{make_decimals, make_order};
+use ags_card::{Body, DecList, MOST_CONSTANTS, OctList, Terms};
 use ags_image::Image;
-use ags_isa::Codes;
+use ags_isa::{Codes, Order};
 use ags_places::{SourceError, SourceKind};
 use ags_symbol::Symbols;
 use ags_word::{LOCATIONS, Word};
@@ -80,13 +80,6 @@ fn fill(image: &mut Image, at: u16, words: &[Word])
     };
     image.set(at, *first);
     fill(image, at + 1, rest);
-}
-
-/// Whether a card has words.
-fn has_words(body: &Body) -> bool
-    ensures { result ≡ not (count body.now == 0) }
-{
-    matches!(body, Body::Order { .. } | Body::Dec(_) | Body::Oct(_))
 }
 
 impl HalfWords {
@@ -161,28 +154,29 @@ impl HalfWords {
         self.met = Some(SourceError { card: number, kind });
     }
 
-    /// A card behind no fault.
-    fn add_card(
+    /// An order.
+    fn add_order(
         &mut self,
         codes: &Codes,
         symbols: &Symbols,
         number: u32,
         at: u16,
-        body: &Body,
+        order: Order,
+        terms: &Terms,
+        indexed: bool,
     ) -> Result<(), AllocError>
         requires not_met { self.old.met ≡ None }
         requires whole { length self.old.owners.items ≡ 4096 }
-        requires room { at + count body.now ≤ 4096 }
+        requires room { at < 4096 }
         requires few { AreFew self.old }
         requires positive { 0 < number }
         ensures whole { OnOk result (length self.new.owners.items ≡ 4096) }
         ensures few { OnOk result (AreFew self.new) }
-        ensures step { OnOk result ((later : List Entry) (cards before left : List Card) (card : Card) → card.body ≡ body.now
+        ensures step { OnOk result ((later : List Entry) (cards before left : List Card) (card : Card) → card.body ≡ Body.Order order terms.now indexed
             → StandsNext (symbols.now ++ later) before number at → IsHalfMade codes.now (symbols.now ++ later) cards before (card ∷ left) self.old
             → IsHalfMade codes.now (symbols.now ++ later) cards (card ∷ before) left self.new) }
     {
-        match make(codes, symbols, number, at, body) {
-            Made::Nothing => Ok(()),
+        match make_order(codes, symbols, number, at, order, terms, indexed) {
             Made::Word(word) => {
                 self.add_words(number, at, &[word]);
                 Ok(())
@@ -193,6 +187,42 @@ impl HalfWords {
                 Ok(())
             }
         }
+    }
+
+    /// A DEC.
+    fn add_decimals(&mut self, number: u32, at: u16, numbers: &DecList)
+        requires not_met { self.old.met ≡ None }
+        requires whole { length self.old.owners.items ≡ 4096 }
+        requires room { at + length numbers.now ≤ 4096 }
+        requires few { AreFew self.old }
+        requires positive { 0 < number }
+        ensures whole { length self.new.owners.items ≡ 4096 }
+        ensures few { AreFew self.new }
+        ensures step { (codes : List ℕ) (S : List Entry) (cards before left : List Card) (card : Card) → card.body ≡ Body.Dec numbers.now
+            → StandsNext S before number at → IsHalfMade codes S cards before (card ∷ left) self.old → IsHalfMade codes S cards (card ∷ before) left self.new }
+    {
+        let numbers = numbers.items();
+        let mut words = [Word::ZERO; MOST_CONSTANTS];
+        if !make_decimals(numbers, &mut words, 0) {
+            self.meet(number, at, SourceKind::ValueRange);
+            return;
+        }
+        self.add_words(number, at, &words[..numbers.len()]);
+    }
+
+    /// An OCT.
+    fn add_octals(&mut self, number: u32, at: u16, words: &OctList)
+        requires not_met { self.old.met ≡ None }
+        requires whole { length self.old.owners.items ≡ 4096 }
+        requires room { at + length words.now ≤ 4096 }
+        requires few { AreFew self.old }
+        requires positive { 0 < number }
+        ensures whole { length self.new.owners.items ≡ 4096 }
+        ensures few { AreFew self.new }
+        ensures step { (codes : List ℕ) (S : List Entry) (cards before left : List Card) (card : Card) → card.body ≡ Body.Oct words.now
+            → StandsNext S before number at → IsHalfMade codes S cards before (card ∷ left) self.old → IsHalfMade codes S cards (card ∷ before) left self.new }
+    {
+        self.add_words(number, at, words.items());
     }
 
     /// Makes the words of a card at its place, as far as the symbols are known.
@@ -217,9 +247,21 @@ impl HalfWords {
         if self.met.is_some() {
             return Ok(());
         }
-        if !has_words(body) {
-            return Ok(());
+        match body {
+            Body::Order {
+                order,
+                terms,
+                indexed,
+            } => self.add_order(codes, symbols, number, at, *order, terms, *indexed),
+            Body::Dec(numbers) => {
+                self.add_decimals(number, at, numbers);
+                Ok(())
+            }
+            Body::Oct(words) => {
+                self.add_octals(number, at, words);
+                Ok(())
+            }
+            _ => Ok(()),
         }
-        self.add_card(codes, symbols, number, at, body)
     }
 }

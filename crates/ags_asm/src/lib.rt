@@ -12,7 +12,6 @@ mod half_words;
 mod laws;
 mod making;
 mod passing;
-mod wording;
 
 pub use ags_places::{AssembleError, Placed, SOURCE_LIMIT, SourceError, SourceKind};
 pub use assembling::{Assembled, assemble};

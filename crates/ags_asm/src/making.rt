@@ -1,17 +1,17 @@
-//! The words of a card at its place, as far as the symbols are known (docs/SOURCE.md, Orders, DEC and OCT).
+//! The words of a card, as far as the symbols are known (docs/SOURCE.md, Orders, DEC and OCT).
 
-ghost use Rattle.std.specs.Prelude.{◌≡◌, ◌+◌, ◌≤◌, ◌<◌, ◌++◌, List, Some, None, OnOk, IfOk, IfErr, unsigned_abs};
+ghost use Rattle.std.specs.Prelude.{◌≡◌, ◌+◌, ◌≤◌, ◌<◌, ◌++◌, true, List, length, take, Some, None, OnOk, IfOk, IfErr, unsigned_abs};
 ghost use Rattle.ags_symbol.specs.Symbol.{Entry};
-ghost use Rattle.ags_places.specs.Place.{count};
 ghost use Rattle.ags_asm.specs.Made.{IsMadeAs, WaitsAt};
-ghost use Rattle.ags_asm.specs.Word.{address_fault};
+ghost use Rattle.ags_asm.specs.Word.{address_fault, all_fit, decimal_words};
 
 use crate::fix_ups::{FixUp, Made};
 use ags_card::{Body, Terms};
+use ags_decimal::Decimal;
 use ags_isa::{Codes, Order, encode};
 use ags_places::SourceKind;
 use ags_symbol::Symbols;
-use ags_word::LOCATIONS;
+use ags_word::{LOCATIONS, Word};
 
 /// The address that a known operand comes to.
 pub(crate) fn address_of(value: i32) -> Result<u16, SourceKind>
@@ -26,8 +26,9 @@ pub(crate) fn address_of(value: i32) -> Result<u16, SourceKind>
     Ok(value as u16)
 }
 
-/// An order, which waits where one of its symbols isn't defined yet.
-fn make_order(
+/// What the word of an order is made as, whatever pairs come behind those that are known: it waits where one of its symbols isn't
+/// defined yet.
+pub(crate) fn make_order(
     codes: &Codes,
     symbols: &Symbols,
     number: u32,
@@ -57,23 +58,18 @@ fn make_order(
     })
 }
 
-/// What a card's words are made as at its place, whatever pairs come behind those that are known.
-pub(crate) fn make(codes: &Codes, symbols: &Symbols, number: u32, place: u16, body: &Body) -> Made
-    requires { place + count body.now ≤ 4096 }
-    ensures made { (later : List Entry) → IsMadeAs codes.now (symbols.now ++ later) number place body.now result }
-    ensures there { WaitsAt place result }
+/// Puts the words of decimals into a list from a place of it on, up to the first that doesn't fit: whether each does.
+pub(crate) fn make_decimals(numbers: &[Decimal], words: &mut [Word], at: usize) -> bool
+    requires { at + length numbers.now ≤ length words.old }
+    ensures fit { result ≡ all_fit numbers.now }
+    ensures made { result ≡ true → take (at + length numbers.now) words.new ≡ take at words.old ++ decimal_words numbers.now }
 {
-    match body {
-        Body::Comment | Body::Org(_) | Body::Equ(_) | Body::Bss(_) | Body::End => Made::Nothing,
-        Body::Order {
-            order,
-            terms,
-            indexed,
-        } => make_order(codes, symbols, number, place, *order, terms, *indexed),
-        Body::Dec(decimal) => match ags_decimal::word(decimal) {
-            Some(word) => Made::Word(word),
-            None => Made::Fault(SourceKind::ValueRange),
-        },
-        Body::Oct(word) => Made::Word(*word),
-    }
+    let [first, rest @ ..] = numbers else {
+        return true;
+    };
+    let Some(word) = ags_decimal::word(first) else {
+        return false;
+    };
+    words[at] = word;
+    make_decimals(rest, words, at + 1)
 }

@@ -14,7 +14,7 @@ use crate::half_words::HalfWords;
 use ags_card::{Card, is_comment_card, read_card_into};
 use ags_isa::Codes;
 use ags_places::{
-    AssembleError, Placed, SOURCE_LIMIT, SourceError, Stop, is_end, kind_of, place_card,
+    AssembleError, Placed, SOURCE_LIMIT, SourceError, Stop, count_of, is_end, kind_of, place_card,
     place_of_word,
 };
 use ags_symbol::Symbols;
@@ -75,7 +75,7 @@ impl Pass {
                 self.words
                     .add(codes, &self.symbols, number, at, &card.body)?;
                 self.cards
-                    .push(Placed::at(line, place_of_word(at, &card.body)))?;
+                    .push(Placed::at(line, place_of_word(at, &card.body), count_of(&card.body)))?;
                 self.place = next;
                 Ok(())
             }
@@ -95,7 +95,7 @@ impl Pass {
         ensures within { OnOk result (IsWithinLimits self.new) }
     {
         if self.misplaced.is_none() {
-            self.cards.push(Placed::at(line, None))?;
+            self.cards.push(Placed::at(line, None, 0))?;
         }
         Ok(())
     }

@@ -49,8 +49,7 @@ abbrev pub printed_more : (number : ℕ) → List PlacedWord → List PrintedCar
 printed_more number [] = []
 printed_more number (one ∷ more) = record { number = number; placed = Some one; text = [] } ∷ printed_more number more
 
--- A card as it is printed: a line with its text and its first word, where it has one, and a line for each further word. No card of
--- this profile has a further one.
+-- a card as it is printed: a line with its text and its first word, where it has one, and a line for each further word
 abbrev pub printed_card : (number : ℕ) (text : List ℕ) → List PlacedWord → List PrintedCard
 printed_card number text [] = record { number = number; placed = None; text = text } ∷ []
 printed_card number text (one ∷ more) = record { number = number; placed = Some one; text = text } ∷ printed_more number more

@@ -1,5 +1,5 @@
 -- The lines of a source's cards, and the places of their words. The crates above cite `lines_of_cards_follow`, behind the law
--- `card_lines_follow`, and `words_within`, behind `words_stand_in_the_memory`; and, as tools for a loop over the lines,
+-- `card_lines_follow`, and `words_within` and `each_within`, behind `words_stand_in_the_memory`; and, as tools for a loop over the lines,
 -- `deck-nil`, `deck_left`, `ends_so` and `follow_deck`.
 use Rattle.std.proofs.Common.{◌≡◌, ℕ, zero, suc, ◌+◌, ◌<◌, ◌≤◌, Bool, true, false, cond, List, [], ◌∷◌, length, Option, Some, None, refl, subst, All, arith}
 use Rattle.std.proofs.lemmas.List.Elements.{All-cons}
@@ -16,7 +16,7 @@ use Rattle.ags_symbol.specs.Symbol.{Entry}
 use Rattle.ags_places.specs.declared.source_error.SourceKind.{SourceKind}
 use Rattle.ags_places.specs.Deck.{is_end, ends, deck, card_lines, cards}
 use Rattle.ags_places.specs.Fault.{twice, unless, holds_words, or_else, body_fault, place_fault, early_fault, first_card_fault, first_place_fault}
-use Rattle.ags_places.specs.Place.{Fits, early, place, place_of_word, places_after, places}
+use Rattle.ags_places.specs.Place.{Fits, count, early, place, place_of_word, places_after, places}
 
 -- ---- the lines of a deck
 
@@ -78,6 +78,18 @@ word_within E at (Bes terms) none = tt
 word_within E at (Dec numbers) none = first_within at (length numbers) (words_hold at (length numbers) none)
 word_within E at (Oct words) none = first_within at (length words) (words_hold at (length words) none)
 word_within E at End none = tt
+
+-- each word of a card that isn't out of range
+pub each_within : (E : List Entry) (at i : ℕ) (body : Body) → body_fault E at body ≡ None → i < count body → at + i < 4096
+each_within E at i Comment none within = absurd (omega (arith, within))
+each_within E at i (Order order terms indexed) none within = omega (arith, words_hold at 1 none, within)
+each_within E at i (Org terms) none within = absurd (omega (arith, within))
+each_within E at i (Equ terms) none within = absurd (omega (arith, within))
+each_within E at i (Bss terms) none within = absurd (omega (arith, within))
+each_within E at i (Bes terms) none within = absurd (omega (arith, within))
+each_within E at i (Dec numbers) none within = omega (arith, words_hold at (length numbers) none, within)
+each_within E at i (Oct words) none within = omega (arith, words_hold at (length words) none, within)
+each_within E at i End none within = absurd (omega (arith, within))
 
 -- of all cards
 none_later : (number : ℕ) (head : Option SourceKind) (later : Option (ℕ × SourceKind)) → or_later number head later ≡ None → (head ≡ None) × (later ≡ None)

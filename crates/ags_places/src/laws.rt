@@ -6,14 +6,15 @@ ghost use Rattle.std.specs.List.{filter_map, list_any};
 ghost use Rattle.ags_text.specs.Line.{Follow, LineAt, lines_of};
 ghost use Rattle.ags_card.specs.declared.cards.Card.{Card};
 ghost use Rattle.ags_card.specs.declared.terms.Term.{Term};
+ghost use Rattle.ags_card.specs.declared.cards.Body.{Body};
 ghost use Rattle.ags_card.specs.declared.cards.Body.TheVariants.{Org};
 ghost use Rattle.ags_symbol.specs.Symbol.{Entry, EachNameOnce, names};
 ghost use Rattle.ags_places.specs.Deck.{EndsAtFirstEnd, card_lines, cards};
 ghost use Rattle.ags_places.specs.declared.source_error.SourceKind.{SourceKind};
-ghost use Rattle.ags_places.specs.Fault.{early_fault};
+ghost use Rattle.ags_places.specs.Fault.{body_fault, early_fault};
 ghost use Rattle.ags_places.specs.FaultText.{kind_text};
 ghost use Rattle.ags_places.specs.Faulty.{kind_number};
-ghost use Rattle.ags_places.specs.Place.{Fits, early, operand, place, places, is_org, sizes};
+ghost use Rattle.ags_places.specs.Place.{Fits, count, early, operand, place, places, is_org, sizes};
 
 /// Exactly one list of pairs fits the cards of a source, whichever they are.
 pub fn one_list_of_pairs_fits()
@@ -47,10 +48,12 @@ pub fn each_symbol_has_a_pair()
     ensures once { (text : List ℕ) (S : List Entry) → Fits S (cards text) → early_fault S text ≡ None → EachNameOnce S }
 {}
 
-/// In a source without a fault of the first two phases each word's place is one of the memory's.
+/// In a source without a fault of the first two phases each word's place is one of the memory's: the first of each card, and each
+/// of a card that is not out of range.
 pub fn words_stand_in_the_memory()
-    ensures { (text : List ℕ) (S : List Entry) → Fits S (cards text) → early_fault S text ≡ None
+    ensures first { (text : List ℕ) (S : List Entry) → Fits S (cards text) → early_fault S text ≡ None
         → All (λ at. IfSome at (λ place. place < 4096)) (places S (cards text)) }
+    ensures each { (early : List Entry) (at i : ℕ) (body : Body) → body_fault early at body ≡ None → i < count body → at + i < 4096 }
 {}
 
 /// What is printed of a kind of fault begins with its number and a blank.

@@ -1,5 +1,5 @@
 -- The cards that name each symbol, a card further.
-use Rattle.std.proofs.Common.{◌≡◌, ℕ, zero, suc, ◌+◌, ◌-◌, ◌<◌, ◌≤◌, Bool, true, false, cond, ◌||◌, List, [], ◌∷◌, ◌++◌, length, get_or, set, map, take, drop, Some, refl, sym, ap, ◌∙◌, inl, inr, arith, All, nat_eq, append_assoc, append-nil, length-append}
+use Rattle.std.proofs.Common.{None, ◌≡◌, ℕ, zero, suc, ◌+◌, ◌-◌, ◌<◌, ◌≤◌, Bool, true, false, cond, ◌||◌, List, [], ◌∷◌, ◌++◌, length, get_or, set, map, take, drop, Some, refl, sym, ap, ◌∙◌, inl, inr, arith, All, nat_eq, append_assoc, append-nil, length-append}
 use Rattle.std.specs.Prelude.{Vec, slice_get}
 use Rattle.std.specs.Option.{option_eq}
 use Rattle.std.specs.Cmp.Lexicographic.{pointwise, bytes_decides}
@@ -115,8 +115,12 @@ naming_nil : (name : List ℕ) (number : ℕ) → naming_from name number [] ≡
 unfolding naming_from
 naming_nil name number = refl
 
-rest-more : (placed : List Placed) (i : ℕ) (card : Placed) → i < length placed → card ≡ get_or placed i card → drop i placed ≡ card ∷ drop (i + 1) placed
-rest-more placed i card within is = drop_more placed i card within ∙ ap (λ (x : Placed). x ∷ drop (i + 1) placed) (sym is)
+-- what a list of cards has behind its end
+abbrev pub nothing_placed : Placed
+nothing_placed = record { start = 0; end = 0; place = None; count = 0 }
+
+rest-more : (placed : List Placed) (i : ℕ) (card : Placed) → i < length placed → card ≡ get_or placed i nothing_placed → drop i placed ≡ card ∷ drop (i + 1) placed
+rest-more placed i card within is = drop_more placed i nothing_placed within ∙ ap (λ (x : Placed). x ∷ drop (i + 1) placed) (sym is)
 
 module _ {A : Type 0} where
   pub changes_nothing : (rows : List Row) (number : ℕ) (terms : List Term) (old : List (Vec ℕ A)) → terms ≡ [] → Changes rows (λ name numbers. all_noted name number terms numbers) old old
@@ -219,13 +223,13 @@ module _ {A : Type 0} where
 
   -- the next card's span lies in the source
   pub Walking-span : (source : List ℕ) (placed : List Placed) (rows : List Row) (i : ℕ) (gathered : List (Vec ℕ A)) (card : Placed) → Walking source placed rows i gathered
-      → i < length placed → card ≡ get_or placed i card → (i ≤ length source) × (card.start ≤ card.end) × (card.end ≤ length source)
+      → i < length placed → card ≡ get_or placed i nothing_placed → (i ≤ length source) × (card.start ≤ card.end) × (card.end ≤ length source)
   Walking-span source placed rows i gathered card so within is =
       let here = rw (rest-more placed i card within is) at so.spans in
       (omega (arith, so.few, here.0, here.1, here.2), here.1, here.2)
 
   pub Walking-more : (source : List ℕ) (placed : List Placed) (rows : List Row) (i : ℕ) (old new : List (Vec ℕ A)) (card : Placed) → Walking source placed rows i old
-      → i < length placed → card ≡ get_or placed i card
+      → i < length placed → card ≡ get_or placed i nothing_placed
       → Changes rows (λ name numbers. all_noted name (i + 1) (operand_terms (card_at source card).body) numbers) old new → Walking source placed rows (i + 1) new
   Walking-more source placed rows i old new card so within is change =
       let here = rw (rest-more placed i card within is) at so.spans in

@@ -3,21 +3,22 @@ use Rattle.std.specs.Prelude.{◌≡◌, ℕ, ◌+◌, Bool, false, if◌then◌
 use Rattle.std.specs.Cmp.Lexicographic.{pointwise}
 use Rattle.std.specs.List.{Contains, list_any}
 use Rattle.ags_card.specs.declared.cards.Body.{Body}
-use Rattle.ags_card.specs.declared.cards.Body.TheVariants.{Comment, Order, Org, Equ, Bss, Dec, Oct, End}
+use Rattle.ags_card.specs.declared.cards.Body.TheVariants.{Comment, Order, Org, Equ, Bss, Bes, Dec, Oct, End}
 use Rattle.ags_card.specs.declared.cards.Card.{Card}
 use Rattle.ags_card.specs.declared.terms.Atom.{Atom}
 use Rattle.ags_card.specs.declared.terms.Atom.TheVariants.{Number, Here, Symbol}
 use Rattle.ags_card.specs.declared.terms.Term.{Term}
 
--- the terms of a card's operand: those of an order, an ORG, an EQU or a BSS
+-- the terms of a card's operand: those of an order, an ORG, an EQU or a SYN, a BSS or a BES
 abbrev pub operand_terms : Body → List Term
 operand_terms Comment = []
 operand_terms (Order order terms indexed) = terms
 operand_terms (Org terms) = terms
 operand_terms (Equ terms) = terms
 operand_terms (Bss terms) = terms
-operand_terms (Dec decimal) = []
-operand_terms (Oct word) = []
+operand_terms (Bes terms) = terms
+operand_terms (Dec numbers) = []
+operand_terms (Oct words) = []
 operand_terms End = []
 
 -- whether an atom is that symbol

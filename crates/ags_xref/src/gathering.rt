@@ -10,7 +10,7 @@ ghost use Rattle.ags_xref.specs.Naming.{operand_terms};
 
 use crate::rows::{Row, position_of};
 use ags_asm::Placed;
-use ags_card::{Atom, Body, Term, read_card};
+use ags_card::{Atom, Body, Card, Term, read_card_into};
 use std::alloc::{AllocError, Global};
 
 /// The terms of a card's operand.
@@ -18,9 +18,11 @@ fn operand_terms(body: &Body) -> &[Term]
     ensures { result.now ≡ operand_terms body.now }
 {
     match body {
-        Body::Order { terms, .. } | Body::Org(terms) | Body::Equ(terms) | Body::Bss(terms) => {
-            terms.items()
-        }
+        Body::Order { terms, .. }
+        | Body::Org(terms)
+        | Body::Equ(terms)
+        | Body::Bss(terms)
+        | Body::Bes(terms) => terms.items(),
         Body::Comment | Body::Dec(_) | Body::Oct(_) | Body::End => &[],
     }
 }
@@ -74,19 +76,20 @@ fn note_terms(
     note_terms(rows, naming, number, rest)
 }
 
-/// Notes a card for each symbol that its operand names.
+/// Notes the card of a line for each symbol that its operand names. `card` is room for it.
 fn note_card(
     rows: &[Row],
     naming: &mut Vec<Vec<u32>>,
     number: u32,
     line: &[u8],
+    card: &mut Card,
 ) -> Result<(), AllocError>
     requires rows { AreRows rows.now }
     requires long { length naming.old.items ≡ length rows.now }
     ensures { OnOk result (Changes rows.now (λ name numbers. all_noted name number (operand_terms (card_of (reading line.now)).body) numbers) naming.old.items naming.new.items) }
 {
-    match read_card(line) {
-        Ok(card) => note_terms(rows, naming, number, operand_terms(&card.body)),
+    match read_card_into(card, line) {
+        Ok(()) => note_terms(rows, naming, number, operand_terms(&card.body)),
         Err(_) => Ok(()),
     }
 }
@@ -125,9 +128,10 @@ pub(crate) fn gather_naming(
     ensures { IfOk result (λ gathered. Gathered rows.now (map (card_at source.now) placed.now) gathered.items) }
 {
     let mut naming = no_numbers(alloc, rows.len())?;
+    let mut room = Card::comment();
     for (index, card) in placed.iter().enumerate() {
         let line = line_of(source, card);
-        note_card(rows, &mut naming, index as u32 + 1, line)?;
+        note_card(rows, &mut naming, index as u32 + 1, line, &mut room)?;
     }
     Ok(naming)
 }
