@@ -1,7 +1,10 @@
 -- The commands, by the arguments of a command line: a verb, the names of files behind it, and, last, the name of a machine file
--- where one is given.
-use Rattle.std.specs.Prelude.{◌≡◌, ℕ, List, [], ◌∷◌, ◌++◌, Option, Some, None, codes, if◌then◌else◌}
+-- where one is given; and the workload, by its verb and its size.
+use Rattle.std.specs.Prelude.{◌≡◌, ℕ, ◌≤◌, ◌==◌, ◌&&◌, nat_le, List, [], ◌∷◌, ◌++◌, slice_index, Option, Some, None, codes, if◌then◌else◌}
+use Rattle.std.specs.Fmt.{decimal}
+use Rattle.std.specs.Option.{option_map}
 use Rattle.std.specs.Str.{bytes_eq}
+use Rattle.ags_text.specs.Numeral.{number_of}
 use Rattle.ags_command.specs.declared.source_texts.SourceText.{SourceText}
 use Rattle.ags_command.specs.declared.source_texts.SourceText.TheVariants.{Listing, Tape, CrossReference}
 
@@ -99,6 +102,48 @@ abbrev pub line_of : List (List ℕ) → Option CommandLine
 line_of [] = None
 line_of (verb ∷ names) = line_named forms verb names
 
+-- What is asked for: a command on a machine, or the workload of a size, which is for the standard machine.
+pub data Asked : Type 0 where
+  OnMachine : (line : CommandLine) → Asked
+  Workload : (size : ℕ) → Asked
+
+-- the verb that asks for a workload
+abbrev pub workload_verb : List ℕ
+workload_verb = codes "workload"
+
+-- what is asked for can be: the size of a workload is from 1 to 400
+abbrev pub IsAsked : Asked → Type 0
+IsAsked (OnMachine line) = Unit {0}
+IsAsked (Workload size) = (1 ≤ size) × (size ≤ 400)
+
+-- the arguments that ask for it; a size stands in decimal digits without a leading zero
+abbrev pub asked_arguments : Asked → List (List ℕ)
+asked_arguments (OnMachine line) = line_arguments line
+asked_arguments (Workload size) = workload_verb ∷ decimal size ∷ []
+
+-- a number, where it is a size
+abbrev pub size_within : Option ℕ → Option ℕ
+size_within None = None
+size_within (Some number) = if nat_le 1 number && nat_le number 400 then Some number else None
+
+-- the size that a text writes: decimal digits, of which the first isn't a zero
+abbrev pub size_of : (text : List ℕ) → Option ℕ
+size_of text = if slice_index text 0 == 48 then None else size_within (number_of 10 9 text)
+
+-- what the names behind the workload's verb ask for: one size
+abbrev pub workload_of : List (List ℕ) → Option Asked
+workload_of (text ∷ []) = option_map Workload (size_of text)
+workload_of _ = None
+
+-- what a verb and the names behind it ask for
+abbrev pub asked_named : (verb : List ℕ) (names : List (List ℕ)) → Option Asked
+asked_named verb names = if bytes_eq verb workload_verb then workload_of names else option_map OnMachine (line_named forms verb names)
+
+-- what is asked for, by the arguments, and nothing where they are none of the forms
+abbrev pub asked_of : List (List ℕ) → Option Asked
+asked_of [] = None
+asked_of (verb ∷ names) = asked_named verb names
+
 -- the arguments are none of the forms
 abbrev pub AreNoForm : List (List ℕ) → Type 0
-AreNoForm arguments = (line : CommandLine) → arguments ≡ line_arguments line → ⊥
+AreNoForm arguments = (asked : Asked) → IsAsked asked → arguments ≡ asked_arguments asked → ⊥

@@ -3,6 +3,8 @@ use Rattle.std.specs.Prelude.{option_map}
 use Rattle.ags_command.specs.declared.command_lines.Command.{Command}
 use Rattle.ags_command.specs.declared.command_lines.Command.TheVariants as named
 use Rattle.ags_command.specs.declared.command_lines.CommandLine.{CommandLine}
+use Rattle.ags_command.specs.declared.asking.Asked.{Asked}
+use Rattle.ags_command.specs.declared.asking.Asked.TheVariants.{OnMachine, Workload}
 use Rattle.ags_command.specs.Command as asked
 
 -- a command without where its names lie in memory
@@ -16,3 +18,8 @@ command_view (named.Guard source script certificate) = asked.Guard source.now sc
 -- and a command line
 abbrev pub line_view : CommandLine → asked.CommandLine
 line_view line = record { command = command_view line.command; machine = option_map (λ name. name.now) line.machine }
+
+-- and what is asked for
+abbrev pub asked_view : Asked → asked.Asked
+asked_view (OnMachine line) = asked.OnMachine (line_view line)
+asked_view (Workload size) = asked.Workload size

@@ -158,7 +158,7 @@ fn read_guard(names: &[String]) -> Option<CommandLine<'_>>
 }
 
 /// What a verb and the names behind it ask for.
-fn read_names<'a>(verb: &str, names: &'a [String]) -> Option<CommandLine<'a>>
+pub(crate) fn read_names<'a>(verb: &str, names: &'a [String]) -> Option<CommandLine<'a>>
     ensures { option_map line_view result ≡ asked.line_named asked.forms verb.now (map string_bytes names.entry.now) }
 {
     match verb {

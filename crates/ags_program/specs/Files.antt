@@ -37,6 +37,12 @@ pub record Assembly : Type 0 where
   pub bytes : List ℕ
   pub defined : CardWords
 
+-- a source and a certificate that were read for a machine
+pub record Pair : Type 0 where
+  pub machine : Machine
+  pub assembly : Assembly
+  pub cert : Stated
+
 -- what a file of a kind holds
 abbrev pub Value : Kind → Type 0
 Value MachineFile = Machine

@@ -1,5 +1,6 @@
 -- what the contracts above cite
 pub mod Files
+pub mod Loaded
 pub mod Program
 pub mod Status
 pub mod Text

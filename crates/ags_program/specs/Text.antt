@@ -1,5 +1,6 @@
 -- The lines that the program prints of its own.
 use Rattle.std.specs.Prelude.{ℕ, List, [], ◌++◌, Option, Some, None, codes}
+use Rattle.std.specs.Fmt.{decimal}
 use Rattle.ags_text.specs.Numeral.{octal4_text, octal6_text}
 use Rattle.ags_certtext.specs.declared.cert_error.CertError.{CertError}
 use Rattle.ags_cert.specs.FaultText as certificate
@@ -61,6 +62,12 @@ verdict_line verdict = verdict_text verdict ++ codes "\n"
 -- the word that begins the line of a certificate that is certified
 abbrev pub certified_word : List ℕ
 certified_word = codes "CERTIFIED"
+
+-- the workload of that size is certified: it has so many cards and words, and its certificate so many rows and cases
+abbrev pub workload_line : (size cards words rows cases : ℕ) → List ℕ
+workload_line size cards words rows cases =
+    codes "WORKLOAD " ++ decimal size ++ codes " CARDS " ++ decimal cards ++ codes " WORDS " ++ decimal words ++ codes " ROWS " ++ decimal rows
+    ++ codes " CASES " ++ decimal cases ++ codes " CERTIFIED\n"
 
 -- what a play met, where it met something
 abbrev pub met_line : Met → List ℕ

@@ -1,5 +1,5 @@
 -- The works of the commands, and what each makes of what the files hold.
-use Rattle.std.specs.Prelude.{◌≡◌, ℕ, List, ◌++◌, Option, Some, None}
+use Rattle.std.specs.Prelude.{◌≡◌, ℕ, List, ◌++◌, length, Option, Some, None}
 use Rattle.ags_asm.specs.Source.{CardWords, placed_words}
 use Rattle.ags_cert.specs.Cert.{Stated, certificate_of}
 use Rattle.ags_command.specs.declared.source_texts.SourceText.{SourceText}
@@ -27,8 +27,16 @@ use Rattle.ags_play.specs.Bench.{begun_state}
 use Rattle.ags_play.specs.Played.{Met, Nothing, IsPlayOf}
 use Rattle.ags_program.specs.declared.status.Status.{Status}
 use Rattle.ags_program.specs.declared.status.Status.TheVariants.{Done, No, BadWords}
-use Rattle.ags_program.specs.Files.{Assembly}
-use Rattle.ags_program.specs.Text.{compared_line, met_line, verdict_line, words_line}
+use Rattle.ags_program.specs.Files.{Assembly, Pair}
+use Rattle.ags_program.specs.Text.{compared_line, met_line, verdict_line, words_line, workload_line}
+
+-- What stands with the verdict of a certificate for a source's words: the listing of the source before it; or behind it, where it
+-- certifies, the play of a script with the certificate as its guard; or nothing, and where it certifies the counts of the workload of
+-- a size stand in its place.
+pub data Sequel : Type 0 where
+  ListingBefore : Sequel
+  PlayBehind : (commands : List Command) → Sequel
+  CountsInstead : (size : ℕ) → Sequel
 
 -- what is done once the files are loaded
 pub data Work : Type 0 where
@@ -38,12 +46,10 @@ pub data Work : Type 0 where
   WriteText : (text : SourceText) (assembly : Assembly) → Work
   -- the comparison of the words of a source's cards with the image of a listing
   CompareImages : (defined : CardWords) (listed : List (Option ℕ)) → Work
-  -- the listing of a source, and the verdict of a certificate for its words
-  JudgeCertificate : (machine : Machine) (assembly : Assembly) (cert : Stated) → Work
+  -- the verdict of a certificate for a source's words, and what stands with it
+  JudgePair : (pair : Pair) (sequel : Sequel) → Work
   -- the play of a script's commands on a machine that begins with the words of a source's cards
   PlayScript : (machine : Machine) (defined : CardWords) (commands : List Command) → Work
-  -- the verdict of a certificate for these words, and, where it is certified, the play with the certificate as its guard
-  GuardScript : (machine : Machine) (defined : CardWords) (cert : Stated) (commands : List Command) → Work
 
 -- the text is this one of the source: its listing, the tape of the image of its words, or the cross reference of its symbols
 abbrev pub IsTextOf : SourceText → Assembly → (text : List ℕ) → Type 0
@@ -69,16 +75,6 @@ pub record IsComparisonOf (defined : CardWords) (listed : List (Option ℕ)) (te
 abbrev pub verdict_status : Verdict Value → Status
 verdict_status (Certified rows cases) = Done
 verdict_status (Refused refusal) = No
-
--- The text is the listing of the source, and behind it the verdict of the certificate for the image of its words; and this is the
--- status of that verdict.
-pub record IsJudgementOf (machine : Machine) (assembly : Assembly) (cert : Stated) (text : List ℕ) (status : Status) : Type 0 where
-  pub image : List (Option ℕ)
-  pub image_is : IsImageOf (placed_words assembly.defined) image
-  pub verdict : Verdict Value
-  pub is_verdict : IsVerdict value_meaning machine image (certificate_of cert) verdict
-  pub text_is : text ≡ listing assembly.bytes assembly.defined ++ verdict_line verdict
-  pub status_is : status ≡ verdict_status verdict
 
 -- The text is the play of the commands on the machine, which begins with the image of these words in its cells, with its first
 -- order at 4000 octal, and with what the commands set: from that state the commands make one list of events, which is one run, and
@@ -112,20 +108,32 @@ abbrev pub IsPlayedBy : Machine → (image : List (Option ℕ)) → Stated → L
 IsPlayedBy machine image cert commands (Certified rows cases) text status = IsGuardedPlay machine image cert commands (Certified rows cases) text status
 IsPlayedBy machine image cert commands (Refused refusal) text status = (text ≡ verdict_line (Refused refusal)) × (status ≡ No)
 
--- The text and the status are those of the verdict of the certificate for the image of these words, and, where it is certified, of
--- the commands' play with the certificate as its guard.
-pub record IsGuardedBy (machine : Machine) (defined : CardWords) (cert : Stated) (commands : List Command) (text : List ℕ) (status : Status) : Type 0 where
+-- what is said of a workload's certificate: where it is certified, the counts of cards, words, rows and cases; where it is refused, the
+-- line of its verdict
+abbrev pub counts_line : (size : ℕ) → CardWords → Verdict Value → List ℕ
+counts_line size defined (Certified rows cases) = workload_line size (length defined) (length (placed_words defined)) rows cases
+counts_line size defined (Refused refusal) = verdict_line (Refused refusal)
+
+-- the text and the status of a verdict, by what stands with it
+abbrev pub ComesWith : Sequel → Pair → (image : List (Option ℕ)) → Verdict Value → (text : List ℕ) → Status → Type 0
+ComesWith ListingBefore pair image verdict text status =
+    (text ≡ listing pair.assembly.bytes pair.assembly.defined ++ verdict_line verdict) × (status ≡ verdict_status verdict)
+ComesWith (PlayBehind commands) pair image verdict text status = IsPlayedBy pair.machine image pair.cert commands verdict text status
+ComesWith (CountsInstead size) pair image verdict text status = (text ≡ counts_line size pair.assembly.defined verdict) × (status ≡ verdict_status verdict)
+
+-- The text and the status are those of the verdict of the pair's certificate for the image of the words of its source, and of what
+-- stands with it.
+pub record IsJudgementOf (pair : Pair) (sequel : Sequel) (text : List ℕ) (status : Status) : Type 0 where
   pub image : List (Option ℕ)
-  pub image_is : IsImageOf (placed_words defined) image
+  pub image_is : IsImageOf (placed_words pair.assembly.defined) image
   pub verdict : Verdict Value
-  pub is_verdict : IsVerdict value_meaning machine image (certificate_of cert) verdict
-  pub played : IsPlayedBy machine image cert commands verdict text status
+  pub is_verdict : IsVerdict value_meaning pair.machine image (certificate_of pair.cert) verdict
+  pub comes : ComesWith sequel pair image verdict text status
 
 -- the work makes this text, with this status
 abbrev pub Makes : Work → (text : List ℕ) → Status → Type 0
 Makes NoForm text status = (text ≡ words_line) × (status ≡ BadWords)
 Makes (WriteText what assembly) text status = IsTextOf what assembly text × (status ≡ Done)
 Makes (CompareImages defined listed) text status = IsComparisonOf defined listed text status
-Makes (JudgeCertificate machine assembly cert) text status = IsJudgementOf machine assembly cert text status
+Makes (JudgePair pair sequel) text status = IsJudgementOf pair sequel text status
 Makes (PlayScript machine defined commands) text status = IsShownBy machine defined commands text × (status ≡ Done)
-Makes (GuardScript machine defined cert commands) text status = IsGuardedBy machine defined cert commands text status

@@ -1,19 +1,18 @@
 //! The files of each command, loaded for a machine.
 
-ghost use Rattle.std.specs.Prelude.{IfOk};
+ghost use Rattle.std.specs.Prelude.{◌≡◌, IfOk};
 ghost use Rattle.std.specs.Result.{result_map_both};
-ghost use Rattle.ags_asm.specs.Source.{card_words};
 ghost use Rattle.ags_command.specs.Command as command;
 ghost use Rattle.ags_command.specs.Views.{command_view};
 ghost use Rattle.ags_outside.specs.Count.{HasCause};
 ghost use Rattle.ags_plan.specs.Loading.{Loads, end_of, is_absence, is_read_fault};
-ghost use Rattle.ags_program.specs.Program.{program, command_plan, guard_plan};
-ghost use Rattle.ags_program.specs.Views.{HasImage, IsReady, line_of, status_of, work_of};
+ghost use Rattle.ags_program.specs.Loaded.{LoadsPair};
+ghost use Rattle.ags_program.specs.Program.{program, command_plan};
+ghost use Rattle.ags_program.specs.Views.{IsReadSource, IsReady, line_of, pair_of, status_of, work_of};
 
 use crate::files::{load_certificate, load_listing, load_script, load_source};
 use crate::refusal::Refusal;
-use crate::works::Work;
-use ags_asm::Assembled;
+use crate::works::{ReadPair, Sequel, Work};
 use ags_command::{Command, SourceText};
 use ags_outside::Shelf;
 use ags_plan::Unloaded;
@@ -60,29 +59,6 @@ fn load_comparison<'a, S: Shelf>(
     })
 }
 
-/// Loads the source and the certificate of these names, to be judged for a machine.
-fn load_certification<'a, S: Shelf>(
-    alloc: Global,
-    machine: Machine,
-    source: &'a str,
-    certificate: &'a str,
-    shelf: &mut S,
-) -> Result<Work, Unloaded<'a, Refusal>>
-    ensures loads { Loads program (S.told shelf.old) (command_plan machine (command.Certify source.entry.now certificate.entry.now))
-        (result_map_both work_of (end_of program line_of status_of) result) }
-    ensures ready { IfOk result IsReady }
-    ensures faults { HasCause (S.faults shelf.old) (S.faults shelf.new) (is_read_fault result) }
-    ensures absences { HasCause (S.absences shelf.old) (S.absences shelf.new) (is_absence result) }
-{
-    let source = load_source(alloc, &machine, source, shelf)?;
-    let cert = load_certificate(alloc, &machine, certificate, shelf)?;
-    Ok(Work::JudgeCertificate {
-        machine,
-        source,
-        cert,
-    })
-}
-
 /// Loads the source and the script of these names, to be played on a machine.
 fn load_play<'a, S: Shelf>(
     alloc: Global,
@@ -106,29 +82,47 @@ fn load_play<'a, S: Shelf>(
     })
 }
 
-/// Loads the certificate and the script of these names, in this order, for a source that was read and is to be guarded on a machine.
-fn load_guard<'a, S: Shelf>(
+/// Loads the source and the certificate of these names, in this order, for a machine, whatever is read behind them.
+fn load_pair<'a, S: Shelf>(
     alloc: Global,
     machine: Machine,
-    made: Assembled,
-    script: &'a str,
+    source: &'a str,
+    certificate: &'a str,
+    shelf: &mut S,
+) -> Result<ReadPair, Unloaded<'a, Refusal>>
+    ensures same { S.told shelf.new ≡ S.told shelf.old }
+    ensures loads { LoadsPair (S.told shelf.old) machine source.entry.now certificate.entry.now (result_map_both pair_of (end_of program line_of status_of) result) }
+    ensures ready { IfOk result (λ pair. IsReadSource pair.source) }
+    ensures faults { HasCause (S.faults shelf.old) (S.faults shelf.new) (is_read_fault result) }
+    ensures absences { HasCause (S.absences shelf.old) (S.absences shelf.new) (is_absence result) }
+{
+    let source = load_source(alloc, &machine, source, shelf)?;
+    let cert = load_certificate(alloc, &machine, certificate, shelf)?;
+    Ok(ReadPair {
+        machine,
+        source,
+        cert,
+    })
+}
+
+/// Loads the source and the certificate of these names, to be judged for a machine.
+fn load_certification<'a, S: Shelf>(
+    alloc: Global,
+    machine: Machine,
+    source: &'a str,
     certificate: &'a str,
     shelf: &mut S,
 ) -> Result<Work, Unloaded<'a, Refusal>>
-    requires { HasImage made }
-    ensures loads { Loads program (S.told shelf.old) (guard_plan machine script.entry.now certificate.entry.now (card_words made))
+    ensures loads { Loads program (S.told shelf.old) (command_plan machine (command.Certify source.entry.now certificate.entry.now))
         (result_map_both work_of (end_of program line_of status_of) result) }
     ensures ready { IfOk result IsReady }
     ensures faults { HasCause (S.faults shelf.old) (S.faults shelf.new) (is_read_fault result) }
     ensures absences { HasCause (S.absences shelf.old) (S.absences shelf.new) (is_absence result) }
 {
-    let cert = load_certificate(alloc, &machine, certificate, shelf)?;
-    let script = load_script(alloc, &machine, script, shelf)?;
-    Ok(Work::GuardScript {
-        machine,
-        made,
-        cert,
-        script,
+    let pair = load_pair(alloc, machine, source, certificate, shelf)?;
+    Ok(Work::JudgePair {
+        pair,
+        sequel: Sequel::ListingBefore,
     })
 }
 
@@ -147,8 +141,12 @@ fn load_guarded<'a, S: Shelf>(
     ensures faults { HasCause (S.faults shelf.old) (S.faults shelf.new) (is_read_fault result) }
     ensures absences { HasCause (S.absences shelf.old) (S.absences shelf.new) (is_absence result) }
 {
-    let source = load_source(alloc, &machine, source, shelf)?;
-    load_guard(alloc, machine, source.made, script, certificate, shelf)
+    let pair = load_pair(alloc, machine, source, certificate, shelf)?;
+    let script = load_script(alloc, &pair.machine, script, shelf)?;
+    Ok(Work::JudgePair {
+        pair,
+        sequel: Sequel::PlayBehind(script),
+    })
 }
 
 /// Loads the files of a command, for a machine.

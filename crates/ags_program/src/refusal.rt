@@ -7,6 +7,7 @@ ghost use Rattle.ags_program.specs.Views.{line_of, status_of};
 use crate::status::Status;
 use ags_asm::SourceError;
 use ags_cert::CertError;
+use ags_files::RefusesBy;
 use ags_listing::ListError;
 use ags_machfile::MachError;
 use ags_script::ScriptError;
@@ -52,5 +53,55 @@ impl Refusal {
             Refusal::Certificate(error) => format!(in alloc; "{error}\n"),
             Refusal::Script(error) => format!(in alloc; "{error}\n"),
         }
+    }
+}
+
+impl RefusesBy<MachError> for Refusal {
+    ghost use Rattle.ags_program.specs.declared.refusal.Refusal.TheVariants as refusal;
+
+    ghost refusal_of = { refusal.Machine };
+
+    fn refusal_of(fault: MachError) -> Refusal {
+        Refusal::Machine(fault)
+    }
+}
+
+impl RefusesBy<SourceError> for Refusal {
+    ghost use Rattle.ags_program.specs.declared.refusal.Refusal.TheVariants as refusal;
+
+    ghost refusal_of = { refusal.Source };
+
+    fn refusal_of(fault: SourceError) -> Refusal {
+        Refusal::Source(fault)
+    }
+}
+
+impl RefusesBy<ListError> for Refusal {
+    ghost use Rattle.ags_program.specs.declared.refusal.Refusal.TheVariants as refusal;
+
+    ghost refusal_of = { refusal.Listing };
+
+    fn refusal_of(fault: ListError) -> Refusal {
+        Refusal::Listing(fault)
+    }
+}
+
+impl RefusesBy<CertError> for Refusal {
+    ghost use Rattle.ags_program.specs.declared.refusal.Refusal.TheVariants as refusal;
+
+    ghost refusal_of = { refusal.Certificate };
+
+    fn refusal_of(fault: CertError) -> Refusal {
+        Refusal::Certificate(fault)
+    }
+}
+
+impl RefusesBy<ScriptError> for Refusal {
+    ghost use Rattle.ags_program.specs.declared.refusal.Refusal.TheVariants as refusal;
+
+    ghost refusal_of = { refusal.Script };
+
+    fn refusal_of(fault: ScriptError) -> Refusal {
+        Refusal::Script(fault)
     }
 }

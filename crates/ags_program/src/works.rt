@@ -1,12 +1,34 @@
 //! What is loaded for a command line, and then done.
 
-use crate::files::SourceFile;
 use ags_asm::Assembled;
 use ags_cert::Cert;
 use ags_command::SourceText;
+use ags_files::SourceFile;
 use ags_image::Image;
 use ags_ports::Machine;
 use ags_script::Script;
+
+/// A source and a certificate that were read for a machine.
+#[derive(Drop)]
+pub struct ReadPair {
+    /// The machine.
+    pub machine: Machine,
+    /// The source.
+    pub source: SourceFile,
+    /// The certificate.
+    pub cert: Cert,
+}
+
+/// What stands with the verdict of a certificate for a source's words.
+#[derive(Drop)]
+pub enum Sequel {
+    /// The listing of the source stands before it.
+    ListingBefore,
+    /// Behind it, where it certifies, stands the play of a script, with the certificate as its guard.
+    PlayBehind(Script),
+    /// The counts of the workload of this size stand in its place, where it certifies.
+    CountsInstead(u32),
+}
 
 /// What is loaded for a command line.
 #[derive(Drop)]
@@ -27,14 +49,12 @@ pub enum Work {
         /// The image of the listing.
         listed: Image,
     },
-    /// A source is listed, and a certificate judged for its words.
-    JudgeCertificate {
-        /// The machine.
-        machine: Machine,
-        /// The source.
-        source: SourceFile,
-        /// The certificate.
-        cert: Cert,
+    /// A certificate is judged for a source's words.
+    JudgePair {
+        /// The source and the certificate.
+        pair: ReadPair,
+        /// What stands with the verdict.
+        sequel: Sequel,
     },
     /// A script is played on a machine that begins with a source's words.
     PlayScript {
@@ -42,17 +62,6 @@ pub enum Work {
         machine: Machine,
         /// What was made of the source.
         made: Assembled,
-        /// The script.
-        script: Script,
-    },
-    /// A certificate is judged for a source's words, and, where it is certified, a script is played with it as the guard.
-    GuardScript {
-        /// The machine.
-        machine: Machine,
-        /// What was made of the source.
-        made: Assembled,
-        /// The certificate.
-        cert: Cert,
         /// The script.
         script: Script,
     },

@@ -9,7 +9,7 @@ ghost use Rattle.ags_source_tests.specs.Tiny as small;
 
 use crate::common::{expect_same, shelf_of};
 use ags_outside::{SendError, Shelf, Sink, SteadyShelf, SteadySink, send};
-use ags_plan::{Program, Stop, Unloaded, fetch_file, run};
+use ags_plan::{Loader, Program, Stop, Unloaded, fetch_file, run};
 use std::alloc::{AllocError, Global};
 use std::process::Abort;
 
@@ -64,7 +64,7 @@ fn load_both<'a, S: Shelf>(
     load_text(alloc, text, shelf)
 }
 
-impl Program for Tiny {
+impl Loader for Tiny {
     type Status = u8;
 
     type Refusal = u8;
@@ -115,12 +115,14 @@ impl Program for Tiny {
         }
     }
 
-    fn perform<K: Sink>(_alloc: Global, work: &Vec<u8>, out: &mut K) -> Result<u8, SendError> {
-        send(out, work)?;
+    ghost lawful = { small.lawful_tiny };
+}
+
+impl Program for Tiny {
+    fn perform<K: Sink>(_alloc: Global, work: Vec<u8>, out: &mut K) -> Result<u8, SendError> {
+        send(out, &work)?;
         Ok(0)
     }
-
-    ghost lawful = { small.lawful_tiny };
 }
 
 /// The files of the rows.

@@ -2,7 +2,7 @@
 //! docs/SCRIPT.md.
 
 use crate::command_lines::{arguments_of, expect_same};
-use ags_command::arguments_ask_for_one_command;
+use ags_command::{arguments_ask_for_one_command, arguments_ask_for_one_thing};
 use ags_outside::{SteadyShelf, SteadySink};
 use ags_top::{
     Status, ags_main, arguments_have_one_answer, certified_lines_begin_with_certified,
@@ -80,11 +80,20 @@ fn long_file(rt: &impl Abort, alloc: Global) -> Vec<u8> {
 }
 
 /// Arguments that ask for no command.
-const BAD_WORDS: [&str; 15] = [
+const BAD_WORDS: [&str; 24] = [
     "",
     "assemble",
+    "workload",
     "workload 0",
+    "workload 00",
     "workload 007",
+    "workload 401",
+    "workload 4000000000000",
+    "workload 1 2",
+    "workload 1 M",
+    "workload +1",
+    "workload 1x",
+    "workload -1",
     "assemble S M N",
     "assemble S M N O",
     "run",
@@ -114,6 +123,7 @@ fn laws_can_be_called() {
     each_command_has_an_answer();
     arguments_have_one_answer();
     arguments_ask_for_one_command();
+    arguments_ask_for_one_thing();
     certified_lines_begin_with_certified();
 }
 

@@ -28,3 +28,5 @@ mod panel_tests;
 mod piece_tests;
 #[cfg(test)]
 mod source_tests;
+#[cfg(test)]
+mod workload_tests;

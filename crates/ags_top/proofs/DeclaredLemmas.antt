@@ -30,7 +30,7 @@ use Rattle.ags_program.specs.declared.status.Status.{Status}
 use Rattle.ags_top.specs.Outcome.{IsGuardedOn, IsRefusedFor, IsDeclaredPlay, IsDeclaredOn}
 use Rattle.ags_program.specs.Program.{program, command_plan}
 use Rattle.ags_program.specs.Text.{met_line, verdict_line}
-use Rattle.ags_program.specs.Work.{Work, IsGuardedPlay, IsPlayedBy, Makes}
+use Rattle.ags_program.specs.Work.{Work, PlayBehind, IsGuardedPlay, IsJudgementOf, IsPlayedBy, Makes}
 
 -- the play of a told script on a told source under a told certificate
 pub guarded_told : (told : Told) (machine : Machine) (source script certificate source_bytes script_bytes certificate_bytes text : List ℕ) (status : Status) (work : Work)
@@ -38,14 +38,20 @@ pub guarded_told : (told : Told) (machine : Machine) (source script certificate 
     → LeadsTo program Agrees told (command_plan machine (Guard source script certificate)) work → Makes work text status
     → IsGuardedOn machine source_bytes script_bytes certificate_bytes text status
 guarded_told told machine source script certificate source_bytes script_bytes certificate_bytes text status work is also too
-    (assembly, (there, agrees, holds), (stated, (read, seen, has), (commands, (found, sight, suit), same))) makes = record {
+    (assembly, (there, agrees, holds), (stated, (read, seen, has), (commands, (found, sight, suit), same))) makes =
+    let here = told_bytes (told source) source_bytes there is agrees in
+    let made : IsJudgementOf (record { machine = machine; assembly = assembly; cert = stated }) (PlayBehind commands) text status =
+    subst (λ (w : Work). Makes w text status) (sym same) makes in
+    record {
       defined = assembly.defined;
-      defines = subst (λ (b : List ℕ). Defines machine.codes b assembly.defined) (told_bytes (told source) source_bytes there is agrees) holds.holds.defines;
+      defines = subst (λ (b : List ℕ). Defines machine.codes b assembly.defined) here holds.holds.defines;
       cert = stated;
       is_cert = subst (λ (b : List ℕ). IsCertOf machine.ports b stated) (told_bytes (told certificate) certificate_bytes read too seen) has.holds;
       commands = commands;
       is_script = subst (λ (b : List ℕ). IsScript machine b commands) (told_bytes (told script) script_bytes found also sight) suit.holds;
-      guarded = subst (λ (w : Work). Makes w text status) (sym same) makes;
+      guarded =
+          subst (λ (b : List ℕ). IsJudgementOf (record { machine = machine; assembly = record { bytes = b; defined = assembly.defined }; cert = stated }) (PlayBehind commands) text status)
+          (holds.holds.bytes_are ∙ here) made;
     }
 
 -- what a script that was read sets and puts are locations and words
@@ -104,5 +110,5 @@ declared_of machine source script certificate text status machine_is is =
           (record { text = script; is_script = is.is_script })
           guarded.verdict
           guarded.is_verdict
-          guarded.played;
+          guarded.comes;
     }

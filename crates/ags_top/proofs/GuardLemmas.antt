@@ -1,8 +1,6 @@
 -- What is said of a script that was played under a certificate.
 use Rattle.std.proofs.Common.{◌≡◌, ℕ, List, ◌++◌, Option, Some, refl, sym, ap, subst, ◌∙◌, append_assoc, inl}
 use Rattle.std.specs.Prelude.{Result, Ok, Err, IfOk, OnOk, OnErr}
-use Rattle.ags_asm.specs.Source.{card_words}
-use Rattle.ags_asm.specs.declared.assembling.Assembled.{Assembled}
 use Rattle.ags_cert.specs.Cert.{Stated, certificate_of}
 use Rattle.ags_domain.specs.Value.{value_meaning}
 use Rattle.ags_domain.specs.declared.values.Value.{Value}
@@ -25,8 +23,10 @@ use Rattle.ags_top.specs.Guarding.{Guards, GuardsWhole, GuardsInPart}
 use Rattle.ags_top.specs.PlayLaws.{some_played}
 use Rattle.ags_program.specs.Program.{program}
 use Rattle.ags_program.specs.Text.{met_line, verdict_line}
-use Rattle.ags_program.specs.Views.{HasImage}
-use Rattle.ags_program.specs.Work.{GuardScript, IsPlayedBy, IsGuardedBy, met_status}
+use Rattle.ags_program.specs.declared.works.ReadPair.{ReadPair}
+use Rattle.ags_program.specs.Views.{IsReadSource, pair_of}
+use Rattle.ags_program.specs.Work.{JudgePair, PlayBehind, IsPlayedBy, met_status}
+use Rattle.ags_top.proofs.JudgeLemmas.{judged_in_part, judged_whole}
 
 -- ---- the play behind the verdict
 
@@ -82,64 +82,52 @@ verdict_front machine image cert commands old new (Certified rows cases) text st
     (front_in_first (verdict_line (Certified rows cases)) (played.shown ++ met_line played.met) front)
 verdict_front machine image cert commands old new (Refused refusal) text status played front = subst (λ (t : List ℕ). WroteFront old new t) (sym played.0) front
 
-module _ (machine : Machine) (made : Assembled) (cert : Stated) (commands : List Command) (old mid new : Option (List ℕ)) (image : HasImage made) where
+module _ (pair : ReadPair) (commands : List Command) (old mid new : Option (List ℕ)) (read : IsReadSource pair.source) where
   -- what is said of the work
   abbrev SaidOf : Status → Type 0
-  SaidOf status = SaidWhole program (WorkAt (GuardScript machine (card_words made) cert commands)) old new status
+  SaidOf status = SaidWhole program (WorkAt (JudgePair (pair_of pair) (PlayBehind commands))) old new status
 
   abbrev SaidOfIt : Type 0
-  SaidOfIt = SaidInPart program (WorkAt (GuardScript machine (card_words made) cert commands)) old new
+  SaidOfIt = SaidInPart program (WorkAt (JudgePair (pair_of pair) (PlayBehind commands))) old new
 
-  -- what the text and the status are of
-  guarded_by : (verdict : Verdict Value) (text : List ℕ) (status : Status) → IsVerdict value_meaning machine made.image (certificate_of cert) verdict
-      → IsPlayedBy machine made.image cert commands verdict text status → IsGuardedBy machine (card_words made) cert commands text status
-  guarded_by verdict text status is played = record { image = made.image; image_is = image; verdict = verdict; is_verdict = is; played = played }
+  -- the verdict of the pair
+  abbrev IsVerdictOf : Verdict Value → Type 0
+  IsVerdictOf verdict = IsVerdict value_meaning pair.machine pair.source.made.image (certificate_of pair.cert) verdict
 
   -- a prefix of the line of the verdict was sent
-  pub verdict_in_part : (verdict : Verdict Value) → IsMachine machine → IsVerdict value_meaning machine made.image (certificate_of cert) verdict
-      → WroteFront old new (verdict_line verdict) → SaidOfIt
+  pub verdict_in_part : (verdict : Verdict Value) → IsMachine pair.machine → IsVerdictOf verdict → WroteFront old new (verdict_line verdict) → SaidOfIt
   verdict_in_part verdict machine_is is front =
-      let (text, status, played) = some_played machine made.image cert commands machine_is verdict in
-      record {
-        text = text;
-        status = status;
-        comes = guarded_by verdict text status is played;
-        prefix = verdict_front machine made.image cert commands old new verdict text status played front;
-      }
+      let (text, status, played) = some_played pair.machine pair.source.made.image pair.cert commands machine_is verdict in
+      judged_in_part pair (PlayBehind commands) verdict read is old new text status played
+      (verdict_front pair.machine pair.source.made.image pair.cert commands old new verdict text status played front)
 
   -- the line of a refusal was sent
-  pub refusal_said : (refusal : Refusal Value) → IsVerdict value_meaning machine made.image (certificate_of cert) (Refused refusal)
-      → new ≡ appended old (verdict_line (Refused refusal)) → SaidOf No
-  refusal_said refusal is sent = record { text = verdict_line (Refused refusal); comes = guarded_by (Refused refusal) (verdict_line (Refused refusal)) No is (refl, refl); sent = sent }
+  pub refusal_said : (refusal : Refusal Value) → IsVerdictOf (Refused refusal) → new ≡ appended old (verdict_line (Refused refusal)) → SaidOf No
+  refusal_said refusal is sent = judged_whole pair (PlayBehind commands) (Refused refusal) read is old new (verdict_line (Refused refusal)) No (refl, refl) sent
 
   -- that it is certified was sent, and the play
-  pub play_said : (rows cases : ℕ) (status : Status) → IsVerdict value_meaning machine made.image (certificate_of cert) (Certified rows cases)
-      → mid ≡ appended old (verdict_line (Certified rows cases)) → GuardsWhole machine made.image cert commands mid new status → SaidOf status
-  play_said rows cases status is certified guards = record {
-    text = verdict_line (Certified rows cases) ++ guards.shown ++ met_line guards.met;
-    comes = guarded_by (Certified rows cases) (verdict_line (Certified rows cases) ++ guards.shown ++ met_line guards.met) status is
-        (record { events = guards.events; shown = guards.shown; met = guards.met; plays = guards.plays; text_is = refl; status_is = guards.status_is });
-    sent = guards.sent
-        ∙ ap (λ (o : Option (List ℕ)). appended o (guards.shown ++ met_line guards.met)) certified
-        ∙ appended_twice old (verdict_line (Certified rows cases)) (guards.shown ++ met_line guards.met)
-        ∙ ap (λ (t : List ℕ). appended old t) (sym (append_assoc (verdict_line (Certified rows cases)) guards.shown (met_line guards.met)));
-  }
+  pub play_said : (rows cases : ℕ) (status : Status) → IsVerdictOf (Certified rows cases)
+      → mid ≡ appended old (verdict_line (Certified rows cases)) → GuardsWhole pair.machine pair.source.made.image pair.cert commands mid new status → SaidOf status
+  play_said rows cases status is certified guards =
+      judged_whole pair (PlayBehind commands) (Certified rows cases) read is old new (verdict_line (Certified rows cases) ++ guards.shown ++ met_line guards.met) status
+      (record { events = guards.events; shown = guards.shown; met = guards.met; plays = guards.plays; text_is = refl; status_is = guards.status_is })
+      (guards.sent
+      ∙ ap (λ (o : Option (List ℕ)). appended o (guards.shown ++ met_line guards.met)) certified
+      ∙ appended_twice old (verdict_line (Certified rows cases)) (guards.shown ++ met_line guards.met)
+      ∙ ap (λ (t : List ℕ). appended old t) (sym (append_assoc (verdict_line (Certified rows cases)) guards.shown (met_line guards.met))))
 
   -- that it is certified was sent, and a prefix of the play
-  pub play_in_part : (rows cases : ℕ) → IsVerdict value_meaning machine made.image (certificate_of cert) (Certified rows cases)
-      → mid ≡ appended old (verdict_line (Certified rows cases)) → GuardsInPart machine made.image cert commands mid new → SaidOfIt
-  play_in_part rows cases is certified guards = record {
-    text = verdict_line (Certified rows cases) ++ guards.shown ++ met_line guards.met;
-    status = met_status guards.met;
-    comes = guarded_by (Certified rows cases) (verdict_line (Certified rows cases) ++ guards.shown ++ met_line guards.met) (met_status guards.met) is
-        (record { events = guards.events; shown = guards.shown; met = guards.met; plays = guards.plays; text_is = refl; status_is = refl });
-    prefix = subst (λ (t : List ℕ). WroteFront old new t) (sym (append_assoc (verdict_line (Certified rows cases)) guards.shown (met_line guards.met)))
-        (front_in_second (verdict_line (Certified rows cases)) (guards.shown ++ met_line guards.met) certified guards.front);
-  }
+  pub play_in_part : (rows cases : ℕ) → IsVerdictOf (Certified rows cases)
+      → mid ≡ appended old (verdict_line (Certified rows cases)) → GuardsInPart pair.machine pair.source.made.image pair.cert commands mid new → SaidOfIt
+  play_in_part rows cases is certified guards =
+      judged_in_part pair (PlayBehind commands) (Certified rows cases) read is old new (verdict_line (Certified rows cases) ++ guards.shown ++ met_line guards.met) (met_status guards.met)
+      (record { events = guards.events; shown = guards.shown; met = guards.met; plays = guards.plays; text_is = refl; status_is = refl })
+      (subst (λ (t : List ℕ). WroteFront old new t) (sym (append_assoc (verdict_line (Certified rows cases)) guards.shown (met_line guards.met)))
+      (front_in_second (verdict_line (Certified rows cases)) (guards.shown ++ met_line guards.met) certified guards.front))
 
   -- that it is certified was sent, and what comes of the play
-  pub play_says : (rows cases : ℕ) (result : Result Status SendError) → IsVerdict value_meaning machine made.image (certificate_of cert) (Certified rows cases)
-      → mid ≡ appended old (verdict_line (Certified rows cases)) → Guards machine made.image cert commands mid new result
-      → Says program (WorkAt (GuardScript machine (card_words made) cert commands)) old new result
+  pub play_says : (rows cases : ℕ) (result : Result Status SendError) → IsVerdictOf (Certified rows cases)
+      → mid ≡ appended old (verdict_line (Certified rows cases)) → Guards pair.machine pair.source.made.image pair.cert commands mid new result
+      → Says program (WorkAt (JudgePair (pair_of pair) (PlayBehind commands))) old new result
   play_says rows cases (Ok status) is certified guards = play_said rows cases status is certified guards
   play_says rows cases (Err error) is certified guards = inl (play_in_part rows cases is certified guards)

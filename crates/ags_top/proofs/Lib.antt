@@ -3,8 +3,10 @@ pub mod CertifyLemmas
 pub mod CompareLemmas
 pub mod DeclaredLemmas
 pub mod GuardLemmas
+pub mod JudgeLemmas
 pub mod ListedLemmas
 pub mod MainLemmas
 pub mod PlayLemmas
 pub mod PromiseLemmas
+pub mod WorkloadLemmas
 pub mod WriteLemmas

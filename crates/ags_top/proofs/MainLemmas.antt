@@ -1,8 +1,9 @@
 -- What `ags_main` says, from its content: command by command and status by status.
 use Rattle.std.proofs.Common.{◌≡◌, ℕ, ◌≤◌, List, ◌++◌, length, ◌⊎◌, Option, Some, None, Ok, refl, sym, ap, subst, ◌∙◌, inl, inr}
 use Rattle.ags_command.specs.declared.source_texts.SourceText.{SourceText}
-use Rattle.ags_command.specs.Command.{Command, Write, Compare, Certify, Run, Guard, CommandLine, line_arguments, line_of, AreNoForm}
-use Rattle.ags_command.proofs.CommandLemmas.{line_of-line_arguments, line_arguments-line_of}
+use Rattle.ags_command.specs.Command.{Command, Write, Compare, Certify, Run, Guard, CommandLine, line_arguments, Asked, OnMachine, Workload, IsAsked, asked_arguments, asked_of, AreNoForm}
+use Rattle.ags_command.proofs.AskedLemmas.{asked_of-asked_arguments, asked_arguments-asked_of}
+use Rattle.ags_load.specs.Workload.{cert_text}
 use Rattle.ags_outside.specs.ToldFile.{Stored}
 use Rattle.ags_outside.specs.Sink.{appended}
 use Rattle.ags_plan.specs.Plan.{Plan, End, AbsentAt, LongAt, RefusedAt, WorkAt}
@@ -38,18 +39,18 @@ use Rattle.ags_verdict.proofs.VerdictLemmas.{accepted_of, certified_of, counted_
 use Rattle.ags_machfile.specs.MachineFile.{machine_of}
 use Rattle.ags_ports.specs.declared.machines.Machine.{Machine}
 use Rattle.ags_ports.specs.Machine.{standard_machine}
-use Rattle.ags_script.specs.declared.script_errors.ScriptError.TheVariants.{At}
+use Rattle.ags_script.specs.declared.commands.Command.{Command as ScriptCommand}
 use Rattle.ags_script.specs.Script.{IsScript}
 use Rattle.ags_play.specs.Played.{Met, Nothing}
 use Rattle.ags_top.proofs.DeclaredLemmas.{guarded_told, declared_of}
 use Rattle.ags_program.specs.declared.status.Status.{Status}
 use Rattle.ags_program.specs.declared.status.Status.TheVariants.{Done, No, BadMachine, BadSource, BadWords, BadCert, BadText}
 use Rattle.ags_program.specs.Files.{Kind, MachineFile, Source, Listing, Certificate, Script, limit_of, Refuses, refused_status}
-use Rattle.ags_top.specs.Outcome.{Call, EndsWith, IsMachineOf, WritesWhatIsDefined, IsComparedOn, ComparesWhatIsDefined, IsJudgedOn, JudgesWhatIsDefined, IsCertifiedOn, CertifiesWhatIsSafe, TellsMachine, TellsAccepted, CertifiesAccepted, BadCertExactly, IsOneImage, EqualsWhatIsDefined, IsShownOn, PlaysWhatIsDefined, IsGuardedOn, GuardsWhatIsDefined, IsDeclaredOn, PlaysWhatIsDeclared, DoneAlways, NoExactly, BadWordsExactly, FindsFault, BadMachineExactly, BadSourceExactly, BadTextExactly}
-use Rattle.ags_program.specs.Program.{program, command_plan, plan_on, asked_plan, plan_of}
+use Rattle.ags_top.specs.Outcome.{Call, EndsWith, IsMachineOf, WritesWhatIsDefined, IsComparedOn, ComparesWhatIsDefined, IsJudgedOn, JudgesWhatIsDefined, IsCertifiedOn, CertifiesWhatIsSafe, TellsMachine, TellsAccepted, CertifiesAccepted, IsWorkloadJudged, IsWorkloadCertified, JudgesWorkload, CertifiesWorkload, BadCertExactly, IsOneImage, EqualsWhatIsDefined, IsShownOn, PlaysWhatIsDefined, IsGuardedOn, GuardsWhatIsDefined, IsDeclaredOn, PlaysWhatIsDeclared, DoneAlways, NoExactly, BadWordsExactly, FindsFault, BadMachineExactly, BadSourceExactly, BadTextExactly}
+use Rattle.ags_program.specs.Program.{program, command_plan, plan_on, workload_plan, asked_plan, plan_of}
 use Rattle.ags_top.specs.ProgramLaws.{IsWorkStatus, comes_to_no_form, lawful_program, not_refused_work}
-use Rattle.ags_program.specs.Text.{words_line, certificate_fault_line, fault_line, listing_fault_line, machine_fault_line, script_fault_line, verdict_line}
-use Rattle.ags_program.specs.Work.{Work, NoForm, WriteText, CompareImages, JudgeCertificate, PlayScript, GuardScript, IsTextOf, IsJudgementOf, IsPlayedBy, compared_status, met_status, verdict_status, Makes}
+use Rattle.ags_program.specs.Text.{words_line, certificate_fault_line, fault_line, machine_fault_line, verdict_line, workload_line}
+use Rattle.ags_program.specs.Work.{Work, NoForm, WriteText, CompareImages, JudgePair, PlayScript, Sequel, ListingBefore, PlayBehind, CountsInstead, ComesWith as VerdictComesWith, IsTextOf, IsJudgementOf, IsPlayedBy, compared_status, counts_line, met_status, verdict_status, Makes}
 
 -- ---- a run that ends with the status of a work came to a work
 
@@ -122,18 +123,21 @@ judgement_told : (told : Told) (machine : Machine) (source certificate source_by
     → IsJudgedOn machine source_bytes certificate_bytes text status
 judgement_told told machine source certificate source_bytes certificate_bytes text status work is too (assembly, (there, agrees, holds), (stated, (read, seen, has), same)) makes =
     let here = told_bytes (told source) source_bytes there is agrees in
-    let made : IsJudgementOf machine assembly stated text status = subst (λ (w : Work). Makes w text status) (sym same) makes in
+    let made : IsJudgementOf (record { machine = machine; assembly = assembly; cert = stated }) ListingBefore text status =
+    subst (λ (w : Work). Makes w text status) (sym same) makes in
     record {
       defined = assembly.defined;
       defines = subst (λ (b : List ℕ). Defines machine.codes b assembly.defined) here holds.holds.defines;
       cert = stated;
       is_cert = subst (λ (b : List ℕ). IsCertOf machine.ports b stated) (told_bytes (told certificate) certificate_bytes read too seen) has.holds;
-      judgement = subst (λ (b : List ℕ). IsJudgementOf machine (record { bytes = b; defined = assembly.defined }) stated text status) (holds.holds.bytes_are ∙ here) made;
+      judgement =
+          subst (λ (b : List ℕ). IsJudgementOf (record { machine = machine; assembly = record { bytes = b; defined = assembly.defined }; cert = stated }) ListingBefore text status)
+          (holds.holds.bytes_are ∙ here) made;
     }
 
 -- what is judged as certified is safe
 safe_of : (machine : Machine) (source certificate text : List ℕ) → IsMachine machine → IsJudgedOn machine source certificate text Done → IsCertifiedOn machine source certificate text
-safe_of machine source certificate text is judged = by_verdict judged.judgement.verdict judged.judgement.is_verdict judged.judgement.status_is judged.judgement.text_is
+safe_of machine source certificate text is judged = by_verdict judged.judgement.verdict judged.judgement.is_verdict judged.judgement.comes.1 judged.judgement.comes.0
   where
     by_verdict : (verdict : Verdict Value) → IsVerdict value_meaning machine judged.judgement.image (certificate_of judged.cert) verdict → Done ≡ verdict_status verdict
         → text ≡ listing source judged.defined ++ verdict_line verdict → IsCertifiedOn machine source certificate text
@@ -157,6 +161,47 @@ safe_of machine source certificate text is judged = by_verdict judged.judgement.
         }
     by_verdict (Refused refusal) refused status text_is = absurd cc
 
+-- how a workload is judged
+workload_of : (told : Told) (size : ℕ) (text : List ℕ) (status : Status) (work : Work) → LeadsTo program Agrees told (workload_plan size) work → Makes work text status
+    → IsWorkloadJudged size text status
+workload_of told size text status work (assembly, holds, (stated, has, same)) makes =
+    let made : IsJudgementOf (record { machine = standard_machine; assembly = assembly; cert = stated }) (CountsInstead size) text status =
+    subst (λ (w : Work). Makes w text status) (sym same) makes in
+    record {
+      defined = assembly.defined;
+      defines = holds.holds.defines;
+      cert = stated;
+      is_cert = has.holds;
+      judgement =
+          subst (λ (b : List ℕ). IsJudgementOf (record { machine = standard_machine; assembly = record { bytes = b; defined = assembly.defined }; cert = stated }) (CountsInstead size) text status)
+          holds.holds.bytes_are made;
+    }
+
+-- a workload that is judged as certified is safe
+safe_workload : (size : ℕ) (text : List ℕ) → IsWorkloadJudged size text Done → IsWorkloadCertified size text
+safe_workload size text judged = by_verdict judged.judgement.verdict judged.judgement.is_verdict judged.judgement.comes.1 judged.judgement.comes.0
+  where
+    by_verdict : (verdict : Verdict Value) → IsVerdict value_meaning standard_machine judged.judgement.image (certificate_of judged.cert) verdict → Done ≡ verdict_status verdict
+        → text ≡ counts_line size judged.defined verdict → IsWorkloadCertified size text
+    by_verdict (Certified rows cases) certified status text_is =
+        let counted = counted_of value_meaning standard_machine judged.judgement.image (certificate_of judged.cert) rows cases certified in
+        let accepted = accepted_of value_meaning standard_machine judged.judgement.image (certificate_of judged.cert) rows cases certified in record {
+          defined = judged.defined;
+          defines = judged.defines;
+          image = judged.judgement.image;
+          image_is = judged.judgement.image_is;
+          cert = judged.cert;
+          is_cert = judged.is_cert;
+          accepted = accepted;
+          safe = safe value_meaning value_lawful standard_machine judged.judgement.image (certificate_of judged.cert) IsMachine-standard judged.is_cert.is_stated.is_cert.certificate
+              (suits standard_machine (cert_text size) judged.cert judged.is_cert)
+              accepted;
+          cases = cases;
+          verdict = subst (λ (n : ℕ). IsVerdict value_meaning standard_machine judged.judgement.image (certificate_of judged.cert) (Certified n cases)) counted.0 certified;
+          text_is = text_is ∙ ap (λ (n : ℕ). workload_line size (length judged.defined) (length (placed_words judged.defined)) n cases) counted.0;
+        }
+    by_verdict (Refused refusal) refused status text_is = absurd cc
+
 -- the play of a told script on a told source
 play_told : (told : Told) (machine : Machine) (source script source_bytes script_bytes text : List ℕ) (work : Work) → told source ≡ Stored source_bytes
     → told script ≡ Stored script_bytes → LeadsTo program Agrees told (command_plan machine (Run source script)) work → Makes work text Done
@@ -174,7 +219,7 @@ play_told told machine source script source_bytes script_bytes text work is too 
 -- the way to the work of an accepted certificate over told files
 accepted_leads : (told : Told) (machine : Machine) (source certificate : List ℕ) (tells : TellsAccepted told machine source certificate)
     → LeadsTo program Tells told (command_plan machine (Certify source certificate))
-    (JudgeCertificate machine (record { bytes = tells.source_bytes; defined = tells.defined }) tells.cert)
+    (JudgePair (record { machine = machine; assembly = record { bytes = tells.source_bytes; defined = tells.defined }; cert = tells.cert }) ListingBefore)
 accepted_leads told machine source certificate tells = (
   record { bytes = tells.source_bytes; defined = tells.defined },
   (tells.source_bytes, tells.source_told, record { short = tells.source_short; holds = record { bytes_are = refl; defines = tells.defines } }),
@@ -189,12 +234,12 @@ line_leads told (Some name) machine command work (bytes, known, short, is) leads
 
 -- what comes of it
 accepted_makes : (told : Told) (machine : Machine) (source certificate : List ℕ) (tells : TellsAccepted told machine source certificate)
-    → (text : List ℕ) × Makes (JudgeCertificate machine (record { bytes = tells.source_bytes; defined = tells.defined }) tells.cert) text Done
+    → (text : List ℕ) × Makes (JudgePair (record { machine = machine; assembly = record { bytes = tells.source_bytes; defined = tells.defined }; cert = tells.cert }) ListingBefore) text Done
 accepted_makes told machine source certificate tells =
     let (cases, is) = certified_of value_meaning machine tells.image (certificate_of tells.cert) tells.accepted in
     let verdict : Verdict Value = Certified (length tells.cert.rows) cases in (
       listing tells.source_bytes tells.defined ++ verdict_line verdict,
-      record { image = tells.image; image_is = tells.image_is; verdict = verdict; is_verdict = is; text_is = refl; status_is = refl },
+      record { image = tells.image; image_is = tells.image_is; verdict = verdict; is_verdict = is; comes = (refl, refl) },
     )
 
 -- ---- a command line that is no form
@@ -208,26 +253,37 @@ no_form_work (CompareImages defined listed) text makes = absurd (never makes.com
     never : (compared : Compared) → BadWords ≡ compared_status compared → ⊥
     never Equal is = absurd cc
     never (Differs location left right) is = absurd cc
-no_form_work (JudgeCertificate machine assembly stated) text makes = absurd (never makes.verdict makes.status_is)
-  where
-    never : (verdict : Verdict Value) → BadWords ≡ verdict_status verdict → ⊥
-    never (Certified rows cases) is = absurd cc
-    never (Refused refusal) is = absurd cc
 no_form_work (PlayScript machine defined commands) text makes = let is = makes.1 in absurd cc
-no_form_work (GuardScript machine defined stated commands) text makes = absurd (never makes.verdict makes.played)
+no_form_work (JudgePair pair sequel) text makes = absurd (never sequel makes.verdict makes.comes)
   where
     never_met : (met : Met) → BadWords ≡ met_status met → ⊥
     never_met Nothing is = absurd cc
     never_met _ is = absurd cc
 
-    never : (verdict : Verdict Value) → IsPlayedBy machine makes.image stated commands verdict text BadWords → ⊥
-    never (Certified rows cases) played = never_met played.met played.status_is
-    never (Refused refusal) played = let is = played.1 in absurd cc
+    never_verdict : (verdict : Verdict Value) → BadWords ≡ verdict_status verdict → ⊥
+    never_verdict (Certified rows cases) is = absurd cc
+    never_verdict (Refused refusal) is = absurd cc
+
+    never_play : (commands : List ScriptCommand) (verdict : Verdict Value) → IsPlayedBy pair.machine makes.image pair.cert commands verdict text BadWords → ⊥
+    never_play commands (Certified rows cases) played = never_met played.met played.status_is
+    never_play commands (Refused refusal) played = let is = played.1 in absurd cc
+
+    never : (other : Sequel) (verdict : Verdict Value) → VerdictComesWith other pair makes.image verdict text BadWords → ⊥
+    never ListingBefore verdict comes = never_verdict verdict comes.1
+    never (PlayBehind commands) verdict comes = never_play commands verdict comes
+    never (CountsInstead size) verdict comes = never_verdict verdict comes.1
 
 module _ (call : Call) (ends : Ends program (IsAnswer program call.told (plan_of call.arguments)) call.old call.new call.result) where
   -- what a run with that status answered
   answer_with : (status : Status) → call.result ≡ status → Ends program (IsAnswer program call.told (plan_of call.arguments)) call.old call.new status
   answer_with status is = subst (λ (s : Status). Ends program (IsAnswer program call.told (plan_of call.arguments)) call.old call.new s) is ends
+
+  -- the way to the work in which the run ends, where the arguments ask for this
+  way_to_form : (form : Asked) (work : Work) → IsAsked form → call.arguments ≡ asked_arguments form → EndsAt program Agrees call.told (plan_of call.arguments) (WorkAt work)
+      → LeadsTo program Agrees call.told (asked_plan (Some form)) work
+  way_to_form form work is asked found =
+      way_to_work program Agrees call.told (asked_plan (Some form)) work
+      (subst (λ (a : Option Asked). EndsAt program Agrees call.told (asked_plan a) (WorkAt work)) (ap asked_of asked ∙ asked_of-asked_arguments form is) found)
 
   -- the machine of a command line that these arguments are, and the way to the work in which they end
   pub way_asked : (machine_file : Option (List ℕ)) (command : Command) (work : Work) → call.arguments ≡ line_arguments (record { command = command; machine = machine_file })
@@ -235,9 +291,7 @@ module _ (call : Call) (ends : Ends program (IsAnswer program call.told (plan_of
       → (machine : Machine) × IsMachineOf call.told machine_file machine × IsMachine machine × LeadsTo program Agrees call.told (command_plan machine command) work
   way_asked machine_file command work asked found =
       let line : CommandLine = record { command = command; machine = machine_file } in
-      let ends_so : EndsAt program Agrees call.told (asked_plan (Some line)) (WorkAt work) =
-      subst (λ (a : Option CommandLine). EndsAt program Agrees call.told (asked_plan a) (WorkAt work)) (ap line_of asked ∙ line_of-line_arguments line) found in
-      way_of_command call.told machine_file command work (way_to_work program Agrees call.told (asked_plan (Some line)) work ends_so)
+      way_of_command call.told machine_file command work (way_to_form (OnMachine line) work tt asked found)
 
   -- with the status of a work there was an answer
   answered : (status : Status) → IsWorkStatus status → Ends program (IsAnswer program call.told (plan_of call.arguments)) call.old call.new status
@@ -321,6 +375,31 @@ module _ (call : Call) (ends : Ends program (IsAnswer program call.told (plan_of
       let judged = judgement_told call.told machine source certificate source_bytes certificate_bytes text Done work known too way makes in
       (machine, machine_is, (text, safe_of machine source_bytes certificate_bytes text valid judged, sent))
 
+  -- the verdict of a workload's certificate for the words of its source
+  workload_ended : (size : ℕ) (status : Status) → IsWorkStatus status → (1 ≤ size) × (size ≤ 400) → call.result ≡ status → call.arguments ≡ asked_arguments (Workload size)
+      → (text : List ℕ) × IsWorkloadJudged size text status × (call.new ≡ appended call.old text)
+  workload_ended size status answers is_size is asked =
+      let (text, work, found, makes, sent) = ended_with status answers (answered status answers (answer_with status is)) in
+      (text, workload_of call.told size text status work (way_to_form (Workload size) work is_size asked found) makes, sent)
+
+  pub judges_workload : JudgesWorkload call
+  unfolding IsWorkStatus
+  judges_workload size is_size is asked = elim is [
+    | inl done ↦ with_status Done tt done
+    | inr refused ↦ with_status No tt refused
+  ]
+    where
+      with_status : (status : Status) → IsWorkStatus status → call.result ≡ status → (text : List ℕ) × IsWorkloadJudged size text call.result × (call.new ≡ appended call.old text)
+      with_status status answers ended =
+          let (text, judged, sent) = workload_ended size status answers is_size ended asked in
+          (text, subst (IsWorkloadJudged size text) (sym ended) judged, sent)
+
+  pub certifies_workload : CertifiesWorkload call
+  unfolding IsWorkStatus
+  certifies_workload size is_size is asked =
+      let (text, judged, sent) = workload_ended size Done tt is_size is asked in
+      (text, safe_workload size text judged, sent)
+
   pub plays_what_is_defined : PlaysWhatIsDefined call
   unfolding IsWorkStatus
   plays_what_is_defined source script source_bytes script_bytes held machine_file is asked known too holds =
@@ -364,11 +443,11 @@ module _ (call : Call) (ends : Ends program (IsAnswer program call.told (plan_of
   pub certifies_accepted : CertifiesAccepted call
   certifies_accepted source certificate machine_file machine asked machine_told tells =
       let line : CommandLine = record { command = Certify source certificate; machine = machine_file } in
-      let work : Work = JudgeCertificate machine (record { bytes = tells.source_bytes; defined = tells.defined }) tells.cert in
+      let work : Work = JudgePair (record { machine = machine; assembly = record { bytes = tells.source_bytes; defined = tells.defined }; cert = tells.cert }) ListingBefore in
       let leads = line_leads call.told machine_file machine (Certify source certificate) work machine_told (accepted_leads call.told machine source certificate tells) in
       let found : EndsAt program Tells call.told (plan_of call.arguments) (WorkAt work) =
-      subst (λ (a : Option CommandLine). EndsAt program Tells call.told (asked_plan a) (WorkAt work)) (sym (ap line_of asked ∙ line_of-line_arguments line))
-      (work_of_way program Tells call.told (asked_plan (Some line)) work leads) in
+      subst (λ (a : Option Asked). EndsAt program Tells call.told (asked_plan a) (WorkAt work)) (sym (ap asked_of asked ∙ asked_of-asked_arguments (OnMachine line) tt))
+      (work_of_way program Tells call.told (asked_plan (Some (OnMachine line))) work leads) in
       let (text, makes) = accepted_makes call.told machine source certificate tells in
       exactly_with text Done (work_exactly program plan_of lawful_program call.told call.arguments call.old call.new call.result ends work text Done found makes)
 
@@ -381,17 +460,17 @@ module _ (call : Call) (ends : Ends program (IsAnswer program call.told (plan_of
         let none : EndsAt program Agrees call.told (plan_of call.arguments) (WorkAt NoForm) = subst (λ (w : Work). EndsAt program Agrees call.told (plan_of call.arguments) (WorkAt w)) same found in
         let made : Makes NoForm text BadWords = subst (λ (w : Work). Makes w text BadWords) same makes in
         record {
-          none = λ line asked. comes_to_no_form call.told line
-              (subst (λ (a : Option CommandLine). EndsAt program Agrees call.told (asked_plan a) (WorkAt NoForm)) (ap line_of asked ∙ line_of-line_arguments line) none);
+          none = λ form is_form asked. comes_to_no_form call.told form
+              (subst (λ (a : Option Asked). EndsAt program Agrees call.told (asked_plan a) (WorkAt NoForm)) (ap asked_of asked ∙ asked_of-asked_arguments form is_form) none);
           sent = sent ∙ ap (appended call.old) made.0;
         };
     always = λ none. exactly_with words_line BadWords
-        (work_exactly program plan_of lawful_program call.told call.arguments call.old call.new call.result ends NoForm words_line BadWords (no_line (line_of call.arguments) refl none) (refl, refl));
+        (work_exactly program plan_of lawful_program call.told call.arguments call.old call.new call.result ends NoForm words_line BadWords (no_form (asked_of call.arguments) refl none) (refl, refl));
   }
     where
-      no_line : (asked : Option CommandLine) → line_of call.arguments ≡ asked → AreNoForm call.arguments → EndsAt program Tells call.told (asked_plan (line_of call.arguments)) (WorkAt NoForm)
-      no_line None is none = rw is refl
-      no_line (Some line) is none = absurd (none line (line_arguments-line_of call.arguments line is))
+      no_form : (asked : Option Asked) → asked_of call.arguments ≡ asked → AreNoForm call.arguments → EndsAt program Tells call.told (asked_plan (asked_of call.arguments)) (WorkAt NoForm)
+      no_form None is none = rw is refl
+      no_form (Some form) is none = let (is_form, arguments) = asked_arguments-asked_of call.arguments form is in absurd (none form is_form arguments)
 
   -- the file that a run refused, of a kind with that status
   refused_file : (status : Status) → FindsRefusal program call.told (plan_of call.arguments) call.old call.new call.result status

@@ -1,14 +1,16 @@
 -- What `ags_main` promises, from what a run of any program comes to.
+use Rattle.std.proofs.Common.{ap}
 use Rattle.ags_command.specs.declared.source_texts.SourceText.TheVariants.{Listing, Tape, CrossReference}
 use Rattle.ags_plan.specs.Answer.{IsAnswer}
 use Rattle.ags_plan.specs.Outcome.{CountsOnShelf, CountsOnSink, Ends}
 use Rattle.ags_plan.proofs.StatusLemmas.{absent_exactly, long_exactly, ends_exactly}
 use Rattle.ags_program.specs.Program.{plan_of, program}
+use Rattle.ags_program.specs.Status.{cause_of}
 use Rattle.ags_top.specs.Outcome.{Call}
 use Rattle.ags_top.specs.ProgramLaws.{lawful_program}
 use Rattle.ags_top.specs.Promises.{Counts, Promises}
 use Rattle.ags_top.proofs.CertifiedLineLemmas.{safe_where_certified_is_written}
-use Rattle.ags_top.proofs.MainLemmas.{writes_what_is_defined, compares_what_is_defined, equals_what_is_defined, judges_what_is_defined, certifies_what_is_safe, certifies_accepted, bad_cert_exactly, plays_what_is_defined, guards_what_is_defined, plays_what_is_declared, done_always, no_exactly, bad_words_exactly, bad_machine_exactly, bad_source_exactly, bad_text_exactly}
+use Rattle.ags_top.proofs.MainLemmas.{writes_what_is_defined, compares_what_is_defined, equals_what_is_defined, judges_what_is_defined, certifies_what_is_safe, certifies_accepted, certifies_workload, judges_workload, bad_cert_exactly, plays_what_is_defined, guards_what_is_defined, plays_what_is_declared, done_always, no_exactly, bad_words_exactly, bad_machine_exactly, bad_source_exactly, bad_text_exactly}
 
 pub promises : (call : Call) (counts : Counts) → Ends program (IsAnswer program call.told (plan_of call.arguments)) call.old call.new call.result
     → CountsOnShelf program call.told (plan_of call.arguments) call.old call.new call.result counts.faults counts.faults_now counts.absences counts.absences_now
@@ -27,6 +29,8 @@ promises call counts ends shelf sink = record {
   guarded = guards_what_is_defined call ends;
   actual = plays_what_is_declared call ends;
   certified_line = safe_where_certified_is_written call ends;
+  workload = certifies_workload call ends;
+  workload_judged = judges_workload call ends;
   accepted = certifies_accepted call ends;
   done = done_always call ends;
   no = no_exactly call ends;
@@ -36,10 +40,10 @@ promises call counts ends shelf sink = record {
   bad_cert = bad_cert_exactly call ends;
   bad_text = bad_text_exactly call ends;
   absent = absent_exactly program plan_of lawful_program call.told call.arguments call.old call.new call.result ends;
-  absent_cause = shelf.absent_cause;
+  absent_cause = λ is. shelf.absent_cause (ap cause_of is);
   long = long_exactly program plan_of lawful_program call.told call.arguments call.old call.new call.result ends;
-  read_fault = shelf.read_fault;
-  write_fault = sink.write_fault;
+  read_fault = λ is. shelf.read_fault (ap cause_of is);
+  write_fault = λ is. sink.write_fault (ap cause_of is);
   clean_shelf = shelf.clean;
   clean_sink = sink.clean;
 }

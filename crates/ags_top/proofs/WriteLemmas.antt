@@ -9,7 +9,7 @@ use Rattle.ags_asm.specs.Source.{card_words}
 use Rattle.ags_listing.specs.Listing.{listing}
 use Rattle.ags_image.specs.Tape.{tape_text}
 use Rattle.ags_xref.specs.Xref.{xref_text}
-use Rattle.ags_program.specs.declared.files.SourceFile.{SourceFile}
+use Rattle.ags_files.specs.declared.sources.SourceFile.{SourceFile}
 use Rattle.ags_program.specs.declared.status.Status.TheVariants.{Done}
 use Rattle.ags_program.specs.Program.{program}
 use Rattle.ags_program.specs.Views.{IsReadSource, assembly_of}

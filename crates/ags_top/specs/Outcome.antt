@@ -2,7 +2,8 @@
 use Rattle.std.specs.Prelude.{◌≡◌, ℕ, ◌≤◌, ◌⊎◌, List, [], ◌++◌, length, Option, Some, None, Ok, Err}
 use Rattle.ags_command.specs.declared.source_texts.SourceText.{SourceText}
 use Rattle.ags_command.specs.Command as command
-use Rattle.ags_command.specs.Command.{line_arguments, AreNoForm}
+use Rattle.ags_command.specs.Command.{line_arguments, asked_arguments, AreNoForm}
+use Rattle.ags_load.specs.Workload.{source_text, cert_text}
 use Rattle.ags_outside.specs.ToldFile.{Stored}
 use Rattle.ags_outside.specs.Sink.{appended, WroteFront}
 use Rattle.ags_plan.specs.Plan.{WorkAt}
@@ -45,8 +46,8 @@ use Rattle.ags_program.specs.declared.status.Status.{Status}
 use Rattle.ags_program.specs.declared.status.Status.TheVariants.{Done, No, BadMachine, BadSource, BadWords, BadCert, BadText}
 use Rattle.ags_program.specs.Files.{Kind, MachineFile, Source, Certificate, limit_of, Refuses, refused_status}
 use Rattle.ags_program.specs.Program.{program, plan_of}
-use Rattle.ags_program.specs.Text.{certified_word, met_line, verdict_line, words_line}
-use Rattle.ags_program.specs.Work.{Work, IsTextOf, IsComparisonOf, IsJudgementOf, IsShownBy, IsGuardedBy, met_status, Makes}
+use Rattle.ags_program.specs.Text.{certified_word, met_line, verdict_line, words_line, workload_line}
+use Rattle.ags_program.specs.Work.{Work, ListingBefore, PlayBehind, CountsInstead, IsTextOf, IsComparisonOf, IsJudgementOf, IsShownBy, met_status, Makes}
 use Rattle.ags_listing.specs.Listing.{listing}
 
 -- One call of `ags_main`: what the shelf tells, the arguments, what the sink told before and after it, and the status.
@@ -71,7 +72,7 @@ IsMachineOf told (Some name) machine = IsMachine machine × ((bytes : List ℕ) 
 
 -- Where a run that writes a text of a source is done, and the shelf and the sink tell, the sink took exactly that text of the words
 -- that the source defines, by the codes of the machine that the command line is for.
-abbrev pub WritesWhatIsDefined : (what : SourceText) (told : Told) (arguments : List (List ℕ)) (old new : Option (List ℕ)) → Status → Type 0
+abbrev pub WritesWhatIsDefined : (what : SourceText) → Call → Type 0
 WritesWhatIsDefined what call = (name bytes held : List ℕ) (machine_file : Option (List ℕ)) → call.result ≡ Done
     → call.arguments ≡ line_arguments (record { command = command.Write what name; machine = machine_file }) → call.told name ≡ Stored bytes → call.old ≡ Some held
     → (machine : Machine) × IsMachineOf call.told machine_file machine
@@ -88,7 +89,7 @@ pub record IsComparedOn (machine : Machine) (source listing text : List ℕ) (st
 
 -- Where the run of `compare` ends with Done or with No, and the shelf and the sink tell, it says how the words that the source
 -- defines compare with those of the listing: they are the same, or there is a least place where they differ.
-abbrev pub ComparesWhatIsDefined : (told : Told) (arguments : List (List ℕ)) (old new : Option (List ℕ)) → Status → Type 0
+abbrev pub ComparesWhatIsDefined : Call → Type 0
 ComparesWhatIsDefined call = (source listing source_bytes listing_bytes held : List ℕ) (machine_file : Option (List ℕ))
     → (call.result ≡ Done) ⊎ (call.result ≡ No)
     → call.arguments ≡ line_arguments (record { command = command.Compare source listing; machine = machine_file }) → call.told source ≡ Stored source_bytes → call.told listing ≡ Stored listing_bytes → call.old ≡ Some held
@@ -104,7 +105,7 @@ pub record IsOneImage (machine : Machine) (source listing : List ℕ) : Type 0 w
   pub reads : Reads listing image
 
 -- The headline of `compare`: where its run is done, and the shelf tells, the words that the source defines are those of the listing.
-abbrev pub EqualsWhatIsDefined : (told : Told) (arguments : List (List ℕ)) → Status → Type 0
+abbrev pub EqualsWhatIsDefined : Call → Type 0
 EqualsWhatIsDefined call = (source listing source_bytes listing_bytes : List ℕ) (machine_file : Option (List ℕ)) → call.result ≡ Done
     → call.arguments ≡ line_arguments (record { command = command.Compare source listing; machine = machine_file }) → call.told source ≡ Stored source_bytes → call.told listing ≡ Stored listing_bytes
     → (machine : Machine) × IsMachineOf call.told machine_file machine × IsOneImage machine source_bytes listing_bytes
@@ -116,11 +117,11 @@ pub record IsJudgedOn (machine : Machine) (source certificate text : List ℕ) (
   pub defines : Defines machine.codes source defined
   pub cert : Stated
   pub is_cert : IsCertOf machine.ports certificate cert
-  pub judgement : IsJudgementOf machine (record { bytes = source; defined = defined }) cert text status
+  pub judgement : IsJudgementOf (record { machine = machine; assembly = record { bytes = source; defined = defined }; cert = cert }) ListingBefore text status
 
 -- Where the run of `certify` ends with Done or with No, and the shelf and the sink tell, the sink took the listing of the words that
 -- the source defines and the verdict of the certificate for them: certified, or the first item that fails.
-abbrev pub JudgesWhatIsDefined : (told : Told) (arguments : List (List ℕ)) (old new : Option (List ℕ)) → Status → Type 0
+abbrev pub JudgesWhatIsDefined : Call → Type 0
 JudgesWhatIsDefined call = (source certificate source_bytes certificate_bytes held : List ℕ) (machine_file : Option (List ℕ))
     → (call.result ≡ Done) ⊎ (call.result ≡ No)
     → call.arguments ≡ line_arguments (record { command = command.Certify source certificate; machine = machine_file }) → call.told source ≡ Stored source_bytes
@@ -147,7 +148,7 @@ pub record IsCertifiedOn (machine : Machine) (source certificate text : List ℕ
 
 -- The headline: where the run of `certify` is done, and the shelf tells, the words that the source defines are safe in every run; and
 -- where the sink tells, it took their listing and that they are certified.
-abbrev pub CertifiesWhatIsSafe : (told : Told) (arguments : List (List ℕ)) (old new : Option (List ℕ)) → Status → Type 0
+abbrev pub CertifiesWhatIsSafe : Call → Type 0
 CertifiesWhatIsSafe call = (source certificate source_bytes certificate_bytes : List ℕ) (machine_file : Option (List ℕ)) → call.result ≡ Done
     → call.arguments ≡ line_arguments (record { command = command.Certify source certificate; machine = machine_file }) → call.told source ≡ Stored source_bytes
     → call.told certificate ≡ Stored certificate_bytes
@@ -178,7 +179,7 @@ pub record TellsAccepted (told : Told) (machine : Machine) (source certificate :
   pub accepted : Accepted value_meaning machine image (certificate_of cert)
 
 -- Completeness: an accepted certificate over told files is certified, unless the run stops.
-abbrev pub CertifiesAccepted : (told : Told) (arguments : List (List ℕ)) → Status → Type 0
+abbrev pub CertifiesAccepted : Call → Type 0
 CertifiesAccepted call = (source certificate : List ℕ) (machine_file : Option (List ℕ)) (machine : Machine)
     → call.arguments ≡ line_arguments (record { command = command.Certify source certificate; machine = machine_file })
     → TellsMachine call.told machine_file machine → TellsAccepted call.told machine source certificate → EndsWith call.result Done
@@ -193,7 +194,7 @@ pub record IsShownOn (machine : Machine) (source script text : List ℕ) : Type 
 
 -- Where the run of `run` is done, and the shelf and the sink tell, the sink took exactly what the script's play prints on the
 -- words that the source defines, on the machine that the command line is for.
-abbrev pub PlaysWhatIsDefined : (told : Told) (arguments : List (List ℕ)) (old new : Option (List ℕ)) → Status → Type 0
+abbrev pub PlaysWhatIsDefined : Call → Type 0
 PlaysWhatIsDefined call = (source script source_bytes script_bytes held : List ℕ) (machine_file : Option (List ℕ)) → call.result ≡ Done
     → call.arguments ≡ line_arguments (record { command = command.Run source script; machine = machine_file }) → call.told source ≡ Stored source_bytes → call.told script ≡ Stored script_bytes → call.old ≡ Some held
     → (machine : Machine) × IsMachineOf call.told machine_file machine × ((text : List ℕ) × IsShownOn machine source_bytes script_bytes text × (call.new ≡ Some (held ++ text)))
@@ -207,12 +208,12 @@ pub record IsGuardedOn (machine : Machine) (source script certificate text : Lis
   pub is_cert : IsCertOf machine.ports certificate cert
   pub commands : List Command
   pub is_script : IsScript machine script commands
-  pub guarded : IsGuardedBy machine defined cert commands text status
+  pub guarded : IsJudgementOf (record { machine = machine; assembly = record { bytes = source; defined = defined }; cert = cert }) (PlayBehind commands) text status
 
 -- Where the run of `guard` ends with Done or with No, and the shelf and the sink tell, the sink took the verdict of the certificate for
 -- the words that the source defines, and, where it is certified, what the script's play shows on them with the certificate as its
 -- guard, and what the play met.
-abbrev pub GuardsWhatIsDefined : (told : Told) (arguments : List (List ℕ)) (old new : Option (List ℕ)) → Status → Type 0
+abbrev pub GuardsWhatIsDefined : Call → Type 0
 GuardsWhatIsDefined call = (source script certificate source_bytes script_bytes certificate_bytes held : List ℕ) (machine_file : Option (List ℕ))
     → (call.result ≡ Done) ⊎ (call.result ≡ No)
     → call.arguments ≡ line_arguments (record { command = command.Guard source script certificate; machine = machine_file }) → call.told source ≡ Stored source_bytes
@@ -275,7 +276,7 @@ IsAcceptedPlayOn machine source script certificate text status =
 
 -- The actual run: where the run of `guard` ends with Done or with No, and the shelf tells, what is played is a run of the certificate,
 -- every run of which is safe, or the certificate is refused; and where the sink tells, it took what is shown of that run.
-abbrev pub PlaysWhatIsDeclared : (told : Told) (arguments : List (List ℕ)) (old new : Option (List ℕ)) → Status → Type 0
+abbrev pub PlaysWhatIsDeclared : Call → Type 0
 PlaysWhatIsDeclared call = (source script certificate source_bytes script_bytes certificate_bytes : List ℕ) (machine_file : Option (List ℕ))
     → (call.result ≡ Done) ⊎ (call.result ≡ No)
     → call.arguments ≡ line_arguments (record { command = command.Guard source script certificate; machine = machine_file }) → call.told source ≡ Stored source_bytes
@@ -286,7 +287,7 @@ PlaysWhatIsDeclared call = (source script certificate source_bytes script_bytes 
 -- Where the shelf and the sink tell, and what the sink took of a run of `guard` begins as the line of a certificate that is certified
 -- does, then, whatever the run ends with, the certificate is accepted for the words that the source defines, so that every run of
 -- them is safe; and what the sink took is a front, or all, of what is printed of such a play.
-abbrev pub SafeWhereCertifiedIsWritten : (told : Told) (arguments : List (List ℕ)) (old new : Option (List ℕ)) → Type 0
+abbrev pub SafeWhereCertifiedIsWritten : Call → Type 0
 SafeWhereCertifiedIsWritten call =
     (source script certificate source_bytes script_bytes certificate_bytes held behind : List ℕ) (machine_file : Option (List ℕ))
     → call.arguments ≡ line_arguments (record { command = command.Guard source script certificate; machine = machine_file }) → call.told source ≡ Stored source_bytes
@@ -294,9 +295,46 @@ SafeWhereCertifiedIsWritten call =
     → (machine : Machine) × IsMachineOf call.told machine_file machine
     × ((text : List ℕ) × (status : Status) × IsAcceptedPlayOn machine source_bytes script_bytes certificate_bytes text status × WroteFront call.old call.new text)
 
+-- The source of the workload of that size defines words, its certificate is one for the registers of the standard machine, and this is
+-- the text and the status of the verdict: the counts where it is certified, or its line.
+pub record IsWorkloadJudged (size : ℕ) (text : List ℕ) (status : Status) : Type 0 where
+  pub defined : CardWords
+  pub defines : Defines standard_machine.codes (source_text size) defined
+  pub cert : Stated
+  pub is_cert : IsCertOf standard_machine.ports (cert_text size) cert
+  pub judgement : IsJudgementOf (record { machine = standard_machine; assembly = record { bytes = source_text size; defined = defined }; cert = cert }) (CountsInstead size) text status
+
+-- Where the run of `workload` ends with Done or with No, the sink took what is said of the workload of that size by the verdict of its
+-- certificate for the words that its source defines.
+abbrev pub JudgesWorkload : Call → Type 0
+JudgesWorkload call = (size : ℕ) → (1 ≤ size) × (size ≤ 400) → (call.result ≡ Done) ⊎ (call.result ≡ No) → call.arguments ≡ asked_arguments (command.Workload size)
+    → (text : List ℕ) × IsWorkloadJudged size text call.result × (call.new ≡ appended call.old text)
+
+-- The text says that the workload of that size is certified, with the numbers of its cards, its words, the rows of its certificate and
+-- their cases, which is its verdict for exactly the words that its source defines; and of the image of these words every run is safe,
+-- over every list of events that the certificate declares.
+pub record IsWorkloadCertified (size : ℕ) (text : List ℕ) : Type 0 where
+  pub defined : CardWords
+  pub defines : Defines standard_machine.codes (source_text size) defined
+  pub image : List (Option ℕ)
+  pub image_is : IsImageOf (placed_words defined) image
+  pub cert : Stated
+  pub is_cert : IsCertOf standard_machine.ports (cert_text size) cert
+  pub accepted : Accepted value_meaning standard_machine image (certificate_of cert)
+  pub safe : Safe value_meaning standard_machine image (certificate_of cert)
+  pub cases : ℕ
+  pub verdict : IsVerdict value_meaning standard_machine image (certificate_of cert) (Certified (length cert.rows) cases)
+  pub text_is : text ≡ workload_line size (length defined) (length (placed_words defined)) (length cert.rows) cases
+
+-- Where the run of `workload` is done, the words that its source defines are safe in every run, and the sink took the line of the
+-- counts.
+abbrev pub CertifiesWorkload : Call → Type 0
+CertifiesWorkload call = (size : ℕ) → (1 ≤ size) × (size ≤ 400) → call.result ≡ Done → call.arguments ≡ asked_arguments (command.Workload size)
+    → (text : List ℕ) × IsWorkloadCertified size text × (call.new ≡ appended call.old text)
+
 -- Where the walk over told files comes to a work that is done with Done, the run ends so, unless it stops: each file on the way
 -- is there, within its limit and without a fault.
-abbrev pub DoneAlways : (told : Told) (arguments : List (List ℕ)) (result : Status) → Type 0
+abbrev pub DoneAlways : Call → Type 0
 DoneAlways call = (work : Work) (text : List ℕ) → EndsAt program Tells call.told (plan_of call.arguments) (WorkAt work) → Makes work text Done → EndsWith call.result Done
 
 -- ---- status by status

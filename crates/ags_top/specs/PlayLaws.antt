@@ -2,10 +2,7 @@
 use Rattle.std.specs.Prelude.{◌≡◌, ℕ, ◌++◌, List, Option, Some, None}
 use Rattle.std.proofs.Common.{refl, sym, ap, subst, ◌∙◌}
 use Rattle.ags_asm.specs.Source.{CardWords, placed_words}
-use Rattle.ags_answered.proofs.VerdictLemmas.{some_verdict}
 use Rattle.ags_cert.specs.Cert.{Stated, certificate_of}
-use Rattle.ags_domain.specs.Value.{value_meaning}
-use Rattle.ags_domain.specs.MeaningLaws.{value_lawful}
 use Rattle.ags_domain.specs.declared.values.Value.{Value}
 use Rattle.ags_image.specs.Image.{IsImageOf}
 use Rattle.ags_image.proofs.ImageLaws.{one_image}
@@ -13,10 +10,8 @@ use Rattle.ags_ports.specs.declared.events.Event.{Event}
 use Rattle.ags_ports.specs.declared.machines.Machine.{Machine}
 use Rattle.ags_ports.specs.Machine.{IsMachine}
 use Rattle.ags_ports.specs.Run.{Moment, Run}
-use Rattle.ags_verdict.specs.Verdict.{IsVerdict}
 use Rattle.ags_verdict.specs.declared.verdicts.Verdict.{Verdict}
 use Rattle.ags_verdict.specs.declared.verdicts.Verdict.TheVariants.{Certified, Refused}
-use Rattle.ags_verdict.proofs.VerdictLemmas.{verdict_one}
 use Rattle.ags_script.specs.declared.commands.Command.{Command}
 use Rattle.ags_play.specs.Act.{acts_of}
 use Rattle.ags_play.specs.Bench.{begun_state, start_bench}
@@ -28,7 +23,7 @@ use Rattle.ags_play.proofs.SearchLemmas.{some_play_of}
 use Rattle.ags_program.specs.declared.status.Status.{Status}
 use Rattle.ags_program.specs.declared.status.Status.TheVariants.{No}
 use Rattle.ags_program.specs.Text.{met_line, verdict_line}
-use Rattle.ags_program.specs.Work.{IsShownBy, IsPlayedBy, IsGuardedBy, met_status}
+use Rattle.ags_program.specs.Work.{IsShownBy, IsPlayedBy, met_status}
 use Rattle.ags_play.proofs.UnguardedLemmas.{unguarded}
 
 -- ---- without a guard
@@ -75,7 +70,7 @@ module _ (machine : Machine) (image : List (Option ℕ)) (cert : Stated) (comman
       )
   some_played (Refused refusal) = (verdict_line (Refused refusal), No, (refl, refl))
 
-  one_played : (verdict : Verdict Value) (text other : List ℕ) (status ended : Status) → IsPlayedBy machine image cert commands verdict text status
+  pub one_played : (verdict : Verdict Value) (text other : List ℕ) (status ended : Status) → IsPlayedBy machine image cert commands verdict text status
       → IsPlayedBy machine image cert commands verdict other ended → (text ≡ other) × (status ≡ ended)
   one_played (Certified rows cases) text other status ended first second =
       let same = one_play_of machine image (Some (certificate_of cert)) commands first.events second.events first.shown second.shown first.met second.met is first.plays second.plays in (
@@ -86,23 +81,3 @@ module _ (machine : Machine) (image : List (Option ℕ)) (cert : Stated) (comman
         first.status_is ∙ ap met_status same.2 ∙ sym second.status_is,
       )
   one_played (Refused refusal) text other status ended first second = (first.0 ∙ sym second.0, first.1 ∙ sym second.1)
-
-pub some_guarded : (machine : Machine) (defined : CardWords) (cert : Stated) (commands : List Command) (image : List (Option ℕ)) → IsMachine machine
-    → IsImageOf (placed_words defined) image → (text : List ℕ) × (status : Status) × IsGuardedBy machine defined cert commands text status
-some_guarded machine defined cert commands image is image_is =
-    let (verdict, is_verdict) = some_verdict machine image (certificate_of cert) is image_is.is_image in
-    let (text, status, played) = some_played machine image cert commands is verdict in
-    (text, status, record { image = image; image_is = image_is; verdict = verdict; is_verdict = is_verdict; played = played })
-
-pub one_guarded : (machine : Machine) (defined : CardWords) (cert : Stated) (commands : List Command) (text other : List ℕ) (status ended : Status) → IsMachine machine
-    → IsGuardedBy machine defined cert commands text status → IsGuardedBy machine defined cert commands other ended → (text ≡ other) × (status ≡ ended)
-one_guarded machine defined cert commands text other status ended is first second =
-    let same = one_image (placed_words defined) first.image second.image first.image_is second.image_is in
-    let judged : IsVerdict value_meaning machine first.image (certificate_of cert) second.verdict =
-    subst (λ (i : List (Option ℕ)). IsVerdict value_meaning machine i (certificate_of cert) second.verdict) (sym same) second.is_verdict in
-    let one = verdict_one value_meaning machine first.image (certificate_of cert) value_lawful is first.verdict second.verdict first.is_verdict judged in
-    let here : IsPlayedBy machine first.image cert commands second.verdict other ended =
-    subst (λ (i : List (Option ℕ)). IsPlayedBy machine i cert commands second.verdict other ended) (sym same) second.played in
-    let played : IsPlayedBy machine first.image cert commands first.verdict other ended =
-    subst (λ (v : Verdict Value). IsPlayedBy machine first.image cert commands v other ended) (sym one) here in
-    one_played machine first.image cert commands is first.verdict text other status ended first.played played

@@ -3,7 +3,7 @@ use Rattle.std.specs.Prelude.{◌≡◌, ◌≢◌, ◌⊎◌, ℕ, ◌++◌, Li
 use Rattle.std.proofs.Common.{refl, sym, ap, subst, ◌∙◌, inl, inr}
 use Rattle.ags_command.specs.declared.source_texts.SourceText.{SourceText}
 use Rattle.ags_command.specs.declared.source_texts.SourceText.TheVariants as what
-use Rattle.ags_command.specs.Command.{Command, Write, Compare, Certify, Run, Guard, CommandLine, line_of}
+use Rattle.ags_command.specs.Command.{Command, Write, Compare, Certify, Run, Guard, Asked, OnMachine, Workload, asked_of}
 use Rattle.ags_plan.specs.declared.causes.Cause.TheVariants as cause
 use Rattle.ags_plan.specs.Plan.{WorkAt}
 use Rattle.ags_plan.specs.Walk.{Told, Agrees, EndsAt, LeadsTo}
@@ -33,6 +33,7 @@ use Rattle.ags_listing.specs.declared.list_error.ListError.{ListError}
 use Rattle.ags_listing.specs.Listing.{listing}
 use Rattle.ags_listing.specs.Reads.{Reads}
 use Rattle.ags_listing.proofs.MeaningLemmas as listed
+use Rattle.ags_load.specs.Workload.{source_text}
 use Rattle.ags_image.specs.Tape.{tape_text}
 use Rattle.ags_xref.specs.Xref.{xref_text}
 use Rattle.ags_asm.specs.Source.{CardWords, Defines, placed_words}
@@ -55,12 +56,12 @@ use Rattle.ags_script.proofs.ScriptLemmas as script
 use Rattle.ags_play.specs.Played.{Met, Nothing}
 use Rattle.ags_program.specs.declared.status.Status.{Status}
 use Rattle.ags_program.specs.declared.status.Status.TheVariants.{Done, No, BadWords, LongFile}
-use Rattle.ags_program.specs.Files.{Kind, MachineFile, Source, Listing, Certificate, Script, Assembly, Value, HoldsSource, Holds, Refuses, refused_status}
-use Rattle.ags_top.specs.PlayLaws.{some_shown, one_shown, some_guarded, one_guarded}
-use Rattle.ags_program.specs.Program.{program, command_plan, plan_on, asked_plan, plan_of}
+use Rattle.ags_program.specs.Files.{Kind, MachineFile, Source, Listing, Certificate, Script, Assembly, Pair, Value, HoldsSource, Holds, Refuses, refused_status}
+use Rattle.ags_top.specs.PlayLaws.{some_shown, one_shown, some_played, one_played}
+use Rattle.ags_program.specs.Program.{program, command_plan, plan_on, workload_plan, asked_plan, plan_of}
 use Rattle.ags_program.specs.Status.{cause_of}
 use Rattle.ags_program.specs.Text.{words_line, certificate_fault_line, fault_line, listing_fault_line, machine_fault_line, script_fault_line, compared_line, verdict_line}
-use Rattle.ags_program.specs.Work.{Work, NoForm, WriteText, CompareImages, JudgeCertificate, PlayScript, GuardScript, IsTextOf, IsComparisonOf, IsJudgementOf, IsPlayedBy, compared_status, met_status, verdict_status, Makes}
+use Rattle.ags_program.specs.Work.{Work, NoForm, WriteText, CompareImages, JudgePair, PlayScript, Sequel, ListingBefore, PlayBehind, CountsInstead, ComesWith, IsTextOf, IsComparisonOf, IsJudgementOf, IsPlayedBy, compared_status, counts_line, met_status, verdict_status, Makes}
 
 -- ---- files
 
@@ -156,9 +157,8 @@ IsAskedFor : Work → Type 0
 IsAskedFor NoForm = Unit {0}
 IsAskedFor (WriteText text assembly) = AreWordsOfSource assembly.defined
 IsAskedFor (CompareImages defined listed) = AreWordsOfSource defined × ((bytes : List ℕ) × Reads bytes listed)
-IsAskedFor (JudgeCertificate machine assembly stated) = IsMachine machine × AreWordsOfSource assembly.defined × ((bytes : List ℕ) × IsCertOf machine.ports bytes stated)
+IsAskedFor (JudgePair pair sequel) = IsMachine pair.machine × AreWordsOfSource pair.assembly.defined
 IsAskedFor (PlayScript machine defined commands) = IsMachine machine × AreWordsOfSource defined
-IsAskedFor (GuardScript machine defined stated commands) = IsMachine machine × AreWordsOfSource defined
 
 -- of the work that a command leads to, and it isn't the one that says that the arguments are no form
 asked_on_way : (told : Told) (machine : Machine) (command : Command) (work : Work) → IsMachine machine
@@ -168,8 +168,8 @@ asked_on_way told machine (Write text name) work is (assembly, (bytes, agrees, h
     (subst IsAskedFor same (machine.codes, is.codes, (bytes, holds.holds.defines)), λ none. absurd cc)
 asked_on_way told machine (Compare name listing) work is (assembly, (bytes, agrees, holds), (listed, (there, seen, has), same)) =
     (subst IsAskedFor same ((machine.codes, is.codes, (bytes, holds.holds.defines)), (there, has.holds)), λ none. absurd cc)
-asked_on_way told machine (Certify name certificate) work is (assembly, (bytes, agrees, holds), (stated, (there, seen, has), same)) =
-    (subst IsAskedFor same (is, (machine.codes, is.codes, (bytes, holds.holds.defines)), (there, has.holds)), λ none. absurd cc)
+asked_on_way told machine (Certify name certificate) work is (assembly, (bytes, agrees, holds), (stated, seen, same)) =
+    (subst IsAskedFor same (is, (machine.codes, is.codes, (bytes, holds.holds.defines))), λ none. absurd cc)
 asked_on_way told machine (Run name script) work is (assembly, (bytes, agrees, holds), (commands, seen, same)) =
     (subst IsAskedFor same (is, (machine.codes, is.codes, (bytes, holds.holds.defines))), λ none. absurd cc)
 asked_on_way told machine (Guard name script certificate) work is (assembly, (bytes, agrees, holds), (stated, seen, (commands, found, same))) =
@@ -182,15 +182,24 @@ asked_by_line told None command work leads = asked_on_way told standard_machine 
 asked_by_line told (Some name) command work (machine, (bytes, agrees, holds), leads) =
     asked_on_way told machine command work (machine_of-IsMachine bytes machine holds.holds) leads
 
--- no command line comes to the work that says that the arguments are no form
-pub comes_to_no_form : (told : Told) (line : CommandLine) → EndsAt program Agrees told (asked_plan (Some line)) (WorkAt NoForm) → ⊥
-comes_to_no_form told line ends =
-    (asked_by_line told line.machine line.command NoForm (way_to_work program Agrees told (asked_plan (Some line)) NoForm ends)).1 refl
+-- and of the work that a workload leads to
+asked_by_workload : (told : Told) (size : ℕ) (work : Work) → LeadsTo program Agrees told (workload_plan size) work → IsAskedFor work × (work ≢ NoForm)
+unfolding IsAskedFor AreWordsOfSource
+asked_by_workload told size work (assembly, holds, (stated, has, same)) =
+    (subst IsAskedFor same (IsMachine-standard, (standard_machine.codes, IsMachine-standard.codes, (source_text size, holds.holds.defines))), λ none. absurd cc)
 
-asked_by : (told : Told) (asked : Option CommandLine) (work : Work) → EndsAt program Agrees told (asked_plan asked) (WorkAt work) → IsAskedFor work
+asked_by_form : (told : Told) (asked : Asked) (work : Work) → LeadsTo program Agrees told (asked_plan (Some asked)) work → IsAskedFor work × (work ≢ NoForm)
+asked_by_form told (OnMachine line) work leads = asked_by_line told line.machine line.command work leads
+asked_by_form told (Workload size) work leads = asked_by_workload told size work leads
+
+-- nothing that is asked for comes to the work that says that the arguments are no form
+pub comes_to_no_form : (told : Told) (asked : Asked) → EndsAt program Agrees told (asked_plan (Some asked)) (WorkAt NoForm) → ⊥
+comes_to_no_form told asked ends = (asked_by_form told asked NoForm (way_to_work program Agrees told (asked_plan (Some asked)) NoForm ends)).1 refl
+
+asked_by : (told : Told) (asked : Option Asked) (work : Work) → EndsAt program Agrees told (asked_plan asked) (WorkAt work) → IsAskedFor work
 unfolding IsAskedFor
 asked_by told None work end = let same : work ≡ NoForm = cc in subst IsAskedFor (sym same) tt
-asked_by told (Some line) work ends = (asked_by_line told line.machine line.command work (way_to_work program Agrees told (asked_plan (Some line)) work ends)).0
+asked_by told (Some asked) work ends = (asked_by_form told asked work (way_to_work program Agrees told (asked_plan (Some asked)) work ends)).0
 
 -- words of a source have an image
 some_image_of : (defined : CardWords) → AreWordsOfSource defined → (image : List (Option ℕ)) × IsImageOf (placed_words defined) image
@@ -222,17 +231,44 @@ one_comparison_of defined listed text other status ended first second =
     let one = one_comparison first.image listed first.compared second.compared first.comparison compares in
     (first.text_is ∙ ap compared_line one ∙ sym second.text_is, first.status_is ∙ ap compared_status one ∙ sym second.status_is)
 
--- words of a source and a certificate are judged in one way
-one_judgement_of : (machine : Machine) (assembly : Assembly) (stated : Stated) (text other : List ℕ) (status ended : Status) → IsMachine machine
-    → IsJudgementOf machine assembly stated text status → IsJudgementOf machine assembly stated other ended → (text ≡ other) × (status ≡ ended)
-one_judgement_of machine assembly stated text other status ended is first second =
-    let same = one_image (placed_words assembly.defined) first.image second.image first.image_is second.image_is in
-    let judged : IsVerdict value_meaning machine first.image (certificate_of stated) second.verdict =
-    subst (λ (i : List (Option ℕ)). IsVerdict value_meaning machine i (certificate_of stated) second.verdict) (sym same) second.is_verdict in
-    let one = verdict_one value_meaning machine first.image (certificate_of stated) value_lawful is first.verdict second.verdict first.is_verdict judged in (
-      first.text_is ∙ ap (λ (v : Verdict Words). listing assembly.bytes assembly.defined ++ verdict_line v) one ∙ sym second.text_is,
-      first.status_is ∙ ap verdict_status one ∙ sym second.status_is,
-    )
+-- what comes with a verdict, whatever stands with it
+some_coming : (sequel : Sequel) (pair : Pair) (image : List (Option ℕ)) (verdict : Verdict Words) → IsMachine pair.machine
+    → (text : List ℕ) × (status : Status) × ComesWith sequel pair image verdict text status
+some_coming ListingBefore pair image verdict is =
+    (listing pair.assembly.bytes pair.assembly.defined ++ verdict_line verdict, verdict_status verdict, (refl, refl))
+some_coming (PlayBehind commands) pair image verdict is = some_played pair.machine image pair.cert commands is verdict
+some_coming (CountsInstead size) pair image verdict is = (counts_line size pair.assembly.defined verdict, verdict_status verdict, (refl, refl))
+
+-- and that is one text and one status
+one_coming : (sequel : Sequel) (pair : Pair) (image : List (Option ℕ)) (verdict : Verdict Words) (text other : List ℕ) (status ended : Status) → IsMachine pair.machine
+    → ComesWith sequel pair image verdict text status → ComesWith sequel pair image verdict other ended → (text ≡ other) × (status ≡ ended)
+one_coming ListingBefore pair image verdict text other status ended is first second = (first.0 ∙ sym second.0, first.1 ∙ sym second.1)
+one_coming (PlayBehind commands) pair image verdict text other status ended is first second =
+    one_played pair.machine image pair.cert commands is verdict text other status ended first second
+one_coming (CountsInstead size) pair image verdict text other status ended is first second = (first.0 ∙ sym second.0, first.1 ∙ sym second.1)
+
+-- a source and a certificate are judged
+some_judgement : (pair : Pair) (sequel : Sequel) → IsMachine pair.machine → AreWordsOfSource pair.assembly.defined
+    → (text : List ℕ) × (status : Status) × IsJudgementOf pair sequel text status
+some_judgement pair sequel is are =
+    let (image, image_is) = some_image_of pair.assembly.defined are in
+    let (verdict, is_verdict) = some_verdict pair.machine image (certificate_of pair.cert) is image_is.is_image in
+    let (text, status, comes) = some_coming sequel pair image verdict is in
+    (text, status, record { image = image; image_is = image_is; verdict = verdict; is_verdict = is_verdict; comes = comes })
+
+-- in one way
+one_judgement : (pair : Pair) (sequel : Sequel) (text other : List ℕ) (status ended : Status) → IsMachine pair.machine
+    → IsJudgementOf pair sequel text status → IsJudgementOf pair sequel other ended → (text ≡ other) × (status ≡ ended)
+one_judgement pair sequel text other status ended is first second =
+    let same = one_image (placed_words pair.assembly.defined) first.image second.image first.image_is second.image_is in
+    let judged : IsVerdict value_meaning pair.machine first.image (certificate_of pair.cert) second.verdict =
+    subst (λ (i : List (Option ℕ)). IsVerdict value_meaning pair.machine i (certificate_of pair.cert) second.verdict) (sym same) second.is_verdict in
+    let one = verdict_one value_meaning pair.machine first.image (certificate_of pair.cert) value_lawful is first.verdict second.verdict first.is_verdict judged in
+    let here : ComesWith sequel pair first.image second.verdict other ended =
+    subst (λ (i : List (Option ℕ)). ComesWith sequel pair i second.verdict other ended) (sym same) second.comes in
+    let comes : ComesWith sequel pair first.image first.verdict other ended =
+    subst (λ (v : Verdict Words). ComesWith sequel pair first.image v other ended) (sym one) here in
+    one_coming sequel pair first.image first.verdict text other status ended is first.comes comes
 
 some_making : (work : Work) → IsAskedFor work → (text : List ℕ) × (status : Status) × Makes work text status
 unfolding IsAskedFor
@@ -242,36 +278,25 @@ some_making (CompareImages defined listed) (are, (bytes, reads)) =
     let (image, image_is) = some_image_of defined are in
     let (compared, is) = some_comparison image listed in
     (compared_line compared, compared_status compared, record { image = image; image_is = image_is; compared = compared; comparison = is; text_is = refl; status_is = refl })
-some_making (JudgeCertificate machine assembly stated) (is, are, (bytes, of)) =
-    let (image, image_is) = some_image_of assembly.defined are in
-    let (verdict, is_verdict) = some_verdict machine image (certificate_of stated) is image_is.is_image in (
-      listing assembly.bytes assembly.defined ++ verdict_line verdict,
-      verdict_status verdict,
-      record { image = image; image_is = image_is; verdict = verdict; is_verdict = is_verdict; text_is = refl; status_is = refl },
-    )
+some_making (JudgePair pair sequel) (is, are) = some_judgement pair sequel is are
 some_making (PlayScript machine defined commands) (is, are) =
     let (image, image_is) = some_image_of defined are in
     let (text, shown) = some_shown machine defined commands image is image_is in
     (text, Done, (shown, refl))
-some_making (GuardScript machine defined stated commands) (is, are) =
-    let (image, image_is) = some_image_of defined are in
-    some_guarded machine defined stated commands image is image_is
 
 one_making : (work : Work) (text other : List ℕ) (status ended : Status) → IsAskedFor work → Makes work text status → Makes work other ended → (text ≡ other) × (status ≡ ended)
 unfolding IsAskedFor
 one_making NoForm text other status ended asked first second = (first.0 ∙ sym second.0, first.1 ∙ sym second.1)
 one_making (WriteText what assembly) text other status ended asked first second = (one_text what assembly text other first.0 second.0, first.1 ∙ sym second.1)
 one_making (CompareImages defined listed) text other status ended asked first second = one_comparison_of defined listed text other status ended first second
-one_making (JudgeCertificate machine assembly stated) text other status ended asked first second = one_judgement_of machine assembly stated text other status ended asked.0 first second
+one_making (JudgePair pair sequel) text other status ended asked first second = one_judgement pair sequel text other status ended asked.0 first second
 one_making (PlayScript machine defined commands) text other status ended asked first second =
     (one_shown machine defined commands text other asked.0 first.0 second.0, first.1 ∙ sym second.1)
-one_making (GuardScript machine defined stated commands) text other status ended asked first second =
-    one_guarded machine defined stated commands text other status ended asked.0 first second
 
 are_doable : AreDoable program plan_of
 are_doable = record {
-  some = λ told arguments work ends. some_making work (asked_by told (line_of arguments) work ends);
-  one = λ told arguments work text other status ended ends first second. one_making work text other status ended (asked_by told (line_of arguments) work ends) first second;
+  some = λ told arguments work ends. some_making work (asked_by told (asked_of arguments) work ends);
+  one = λ told arguments work text other status ended ends first second. one_making work text other status ended (asked_by told (asked_of arguments) work ends) first second;
 }
 
 -- ---- statuses
@@ -304,14 +329,19 @@ unfolding IsWorkStatus
 guarded_work machine image stated commands (Certified rows cases) text status played = subst IsWorkStatus (sym played.status_is) (met_work played.met)
 guarded_work machine image stated commands (Refused refusal) text status played = subst IsWorkStatus (sym played.1) tt
 
+coming_work : (sequel : Sequel) (pair : Pair) (image : List (Option ℕ)) (verdict : Verdict Words) (text : List ℕ) (status : Status)
+    → ComesWith sequel pair image verdict text status → IsWorkStatus status
+coming_work ListingBefore pair image verdict text status comes = subst IsWorkStatus (sym comes.1) (judged_work verdict)
+coming_work (PlayBehind commands) pair image verdict text status comes = guarded_work pair.machine image pair.cert commands verdict text status comes
+coming_work (CountsInstead size) pair image verdict text status comes = subst IsWorkStatus (sym comes.1) (judged_work verdict)
+
 made_status : (work : Work) (text : List ℕ) (status : Status) → Makes work text status → IsWorkStatus status
 unfolding IsWorkStatus
-made_status (JudgeCertificate machine assembly stated) text status made = subst IsWorkStatus (sym made.status_is) (judged_work made.verdict)
-made_status (GuardScript machine defined stated commands) text status made =
-    guarded_work machine made.image stated commands made.verdict text status made.played
+made_status (JudgePair pair sequel) text status made = coming_work sequel pair made.image made.verdict text status made.comes
 made_status (CompareImages defined listed) text status made = subst IsWorkStatus (sym made.status_is) (compared_work made.compared)
 made_status NoForm text status made = subst IsWorkStatus (sym made.1) tt
-made_status _ text status made = subst IsWorkStatus (sym made.1) tt
+made_status (WriteText what assembly) text status made = subst IsWorkStatus (sym made.1) tt
+made_status (PlayScript machine defined commands) text status made = subst IsWorkStatus (sym made.1) tt
 
 work_status_of_content : (status : Status) → IsWorkStatus status → cause_of status ≡ cause.Content
 unfolding IsWorkStatus

@@ -7,7 +7,7 @@ use Rattle.ags_plan.specs.Outcome.{AbsentExactly, Ends, EndsExactly, IsCleanOnSh
 use Rattle.ags_program.specs.declared.status.Status.{Status}
 use Rattle.ags_program.specs.declared.status.Status.TheVariants.{AbsentFile, ReadFault, WriteFault}
 use Rattle.ags_program.specs.Program.{plan_of, program}
-use Rattle.ags_top.specs.Outcome.{Call, BadCertExactly, BadMachineExactly, BadSourceExactly, BadTextExactly, BadWordsExactly, CertifiesAccepted, CertifiesWhatIsSafe, ComparesWhatIsDefined, DoneAlways, EqualsWhatIsDefined, GuardsWhatIsDefined, JudgesWhatIsDefined, NoExactly, PlaysWhatIsDeclared, PlaysWhatIsDefined, SafeWhereCertifiedIsWritten, WritesWhatIsDefined}
+use Rattle.ags_top.specs.Outcome.{Call, BadCertExactly, BadMachineExactly, BadSourceExactly, BadTextExactly, BadWordsExactly, CertifiesAccepted, CertifiesWhatIsSafe, CertifiesWorkload, ComparesWhatIsDefined, DoneAlways, EqualsWhatIsDefined, GuardsWhatIsDefined, JudgesWhatIsDefined, JudgesWorkload, NoExactly, PlaysWhatIsDeclared, PlaysWhatIsDefined, SafeWhereCertifiedIsWritten, WritesWhatIsDefined}
 
 -- The counts of a call: the shelf's of its faults and of absent files, and the sink's of its faults, each before and after it.
 pub record Counts : Type 0 where
@@ -26,11 +26,11 @@ pub record Promises (call : Call) (counts : Counts) : Type 0 where
   -- Where the shelf tells all files that are fetched, there is one answer at most, and the status and the bytes are its.
   pub exactly : TellsFiles program call.told (plan_of call.arguments) → (text : List ℕ) (status : Status)
       → IsAnswer program call.told (plan_of call.arguments) text status → EndsExactly program call.old call.new call.result text status
-
   -- The headline: where it answers certified, what is printed is what the source defines, and every run of it is safe. What is
   -- written of a source is what it defines, a listing is said to be equal only where its words are those, and what is shown is
   -- a play of the script on them. What is shown under a guard is shown of an actual run that is safe: one of a certificate that
   -- is accepted for those words; and wherever `guard` wrote that it is certified, that is so, even where the output stops there.
+  -- What is said of a workload is said of its two texts, and where it is done every run of its words is safe.
   pub certified : CertifiesWhatIsSafe call
   pub judged : JudgesWhatIsDefined call
   pub listed : WritesWhatIsDefined Listing call
@@ -42,10 +42,11 @@ pub record Promises (call : Call) (counts : Counts) : Type 0 where
   pub guarded : GuardsWhatIsDefined call
   pub actual : PlaysWhatIsDeclared call
   pub certified_line : SafeWhereCertifiedIsWritten call
+  pub workload : CertifiesWorkload call
+  pub workload_judged : JudgesWorkload call
   -- Good files are answered, and an accepted certificate is certified.
   pub accepted : CertifiesAccepted call
   pub done : DoneAlways call
-
   -- Status by status.
   pub no : NoExactly call
   pub bad_words : BadWordsExactly call

@@ -3,7 +3,8 @@
 
 ghost use Rattle.std.specs.Prelude.{◌≡◌, ◌++◌, IfOk, OnOk, OnErr, codes};
 ghost use Rattle.std.specs.String.{string_bytes};
-ghost use Rattle.ags_asm.specs.Source.{card_words};
+ghost use Rattle.ags_cert.specs.Cert.{certificate_of};
+ghost use Rattle.ags_domain.specs.Value.{value_meaning};
 ghost use Rattle.ags_outside.specs.Count.{HasCause};
 ghost use Rattle.ags_outside.specs.Send.{is_write_fault};
 ghost use Rattle.ags_outside.specs.Sink.{WroteFront, appended};
@@ -13,19 +14,18 @@ ghost use Rattle.ags_run.specs.ErrorText.{error_text};
 ghost use Rattle.ags_script.specs.Script.{IsReadFor};
 ghost use Rattle.ags_top.specs.Guarding.{Guards};
 ghost use Rattle.ags_program.specs.Program.{program};
-ghost use Rattle.ags_program.specs.Views.{HasImage};
+ghost use Rattle.ags_program.specs.Views.{IsReadSource, pair_of};
 ghost use Rattle.ags_program.specs.Work as work;
+ghost use Rattle.ags_verdict.specs.Verdict.{IsVerdict};
 
-use crate::certify_command::verdict_line;
-use crate::verdicts::verdict_of;
-use ags_asm::Assembled;
+use crate::verdicts::verdict_line;
 use ags_cert::Cert;
 use ags_check::Verdict;
 use ags_image::Image;
 use ags_outside::{SendError, Sink, send};
 use ags_ports::Machine;
 use ags_ports::laws::machine_is_made_of_tables;
-use ags_program::Status;
+use ags_program::{ReadPair, Status};
 use ags_run::{PlayError, play};
 use ags_script::Script;
 use std::alloc::{AllocError, Global};
@@ -79,25 +79,34 @@ fn play_guarded<K: Sink>(
 /// its guard.
 pub(crate) fn guard_script<K: Sink>(
     alloc: Global,
-    machine: &Machine,
-    made: &Assembled,
-    cert: &Cert,
+    pair: &ReadPair,
+    verdict: &Verdict,
     script: &Script,
     out: &mut K,
 ) -> Result<Status, SendError>
-    requires image { HasImage made.now }
-    requires script { IsReadFor machine.now script.now }
-    ensures says { Says program (WorkAt (work.GuardScript machine.now (card_words made.now) cert.now script.now)) (K.told out.old) (K.told out.new) result }
+    requires source { IsReadSource pair.now.source }
+    requires verdict { IsVerdict value_meaning pair.now.machine pair.now.source.made.image (certificate_of pair.now.cert) verdict.now }
+    requires script { IsReadFor pair.now.machine script.now }
+    ensures says { Says program (WorkAt (work.JudgePair (pair_of pair.now) (work.PlayBehind script.now))) (K.told out.old) (K.told out.new) result }
     ensures faults { HasCause (K.faults out.old) (K.faults out.new) (is_write_fault result) }
 {
+    let machine = &pair.machine;
     machine_is_made_of_tables(machine);
-    let verdict = verdict_of(machine, &made.image, cert);
-    let Ok(line) = verdict_line(alloc, &verdict) else {
+    let Ok(line) = verdict_line(alloc, verdict) else {
         return Err(SendError::NoMemory);
     };
     send(out, line.as_bytes())?;
     match verdict {
-        Verdict::Certified { .. } => play_guarded(alloc, machine, &made.image, cert, script, out),
+        Verdict::Certified { .. } => {
+            play_guarded(
+                alloc,
+                machine,
+                &pair.source.made.image,
+                &pair.cert,
+                script,
+                out,
+            )
+        }
         Verdict::Refused(_) => Ok(Status::No),
     }
 }

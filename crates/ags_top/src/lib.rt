@@ -9,11 +9,13 @@ mod answer_laws;
 mod certify_command;
 mod compare_command;
 mod guard_command;
+mod judging;
 mod listed_laws;
 mod main_call;
 mod program;
 mod run_command;
 mod verdicts;
+mod workload_command;
 mod write_command;
 
 pub use ags_program::Status;

@@ -20,8 +20,14 @@ pub fn ags_main<S: Shelf, K: Sink>(
 ) -> Status
     ensures { Promises
         (record { told = S.told shelf.old; arguments = map string_bytes arguments.now; old = K.told out.old; new = K.told out.new; result = result })
-        (record { faults = S.faults shelf.old; faults_now = S.faults shelf.new; absences = S.absences shelf.old; absences_now = S.absences shelf.new;
-            sink_faults = K.faults out.old; sink_faults_now = K.faults out.new }) }
+        (record {
+          faults = S.faults shelf.old;
+          faults_now = S.faults shelf.new;
+          absences = S.absences shelf.old;
+          absences_now = S.absences shelf.new;
+          sink_faults = K.faults out.old;
+          sink_faults_now = K.faults out.new;
+        }) }
 {
     ags_plan::run::<Ags, S, K>(alloc, arguments, shelf, out)
 }

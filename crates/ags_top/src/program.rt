@@ -10,15 +10,14 @@ ghost use Rattle.ags_program.specs.Status as status;
 ghost use Rattle.ags_program.specs.Views as views;
 ghost use Rattle.ags_program.specs.Work as work;
 
-use crate::certify_command::judge_certificate;
 use crate::compare_command::compare_images;
-use crate::guard_command::guard_script;
+use crate::judging::judge_pair;
 use crate::run_command::play_script;
 use crate::write_command::write_text;
-use ags_command::read_line;
+use ags_command::read_asked;
 use ags_outside::{SendError, Shelf, Sink, send};
 use ags_plan::{Loader, Program, Stop, Unloaded};
-use ags_program::{Refusal, Status, Work, load_line};
+use ags_program::{Refusal, Status, Work, load_asked};
 use std::alloc::{AllocError, Global};
 
 /// The program `ags`.
@@ -75,8 +74,8 @@ impl Loader for Ags {
         arguments: &'a [String],
         shelf: &mut S,
     ) -> Result<Work, Unloaded<'a, Refusal>> {
-        match read_line(arguments) {
-            Some(line) => load_line(alloc, line, shelf),
+        match read_asked(arguments) {
+            Some(asked) => load_asked(alloc, asked, shelf),
             None => Ok(Work::NoForm),
         }
     }
@@ -92,22 +91,12 @@ impl Program for Ags {
             Work::NoForm => say_forms(out),
             Work::WriteText { text, source } => write_text(alloc, text, &source, out),
             Work::CompareImages { made, listed } => compare_images(&made, &listed, out),
-            Work::JudgeCertificate {
-                machine,
-                source,
-                cert,
-            } => judge_certificate(alloc, &machine, &source, &cert, out),
+            Work::JudgePair { pair, sequel } => judge_pair(alloc, &pair, &sequel, out),
             Work::PlayScript {
                 machine,
                 made,
                 script,
             } => play_script(alloc, &machine, &made, &script, out),
-            Work::GuardScript {
-                machine,
-                made,
-                cert,
-                script,
-            } => guard_script(alloc, &machine, &made, &cert, &script, out),
         }
     }
 }

@@ -1,43 +1,19 @@
 use Rattle.std.proofs.lemmas.Result.{err_from_is_err_and}
-use Rattle.ags_plan.specs.Plan.{Do, Read}
-use Rattle.ags_plan.specs.Loading.{end_of}
-use Rattle.ags_plan.proofs.LoadingLemmas.{loads_stop}
-use Rattle.ags_program.specs.Files.{Source, Certificate}
-use Rattle.ags_program.specs.Program.{program}
-use Rattle.ags_program.specs.Views.{assembly_of, line_of, status_of}
-use Rattle.ags_program.specs.Work.{JudgeCertificate}
-use Rattle.ags_program.proofs.FilesLemmas.{both_load, counted_on, second_stops}
+use Rattle.std.proofs.Common.{Ok, refl}
+use Rattle.ags_plan.specs.Plan.{Do}
+use Rattle.ags_program.specs.Views.{pair_of}
+use Rattle.ags_program.specs.Work.{JudgePair, ListingBefore}
 use Rattle.ags_program.proofs.commands.load_certification.Goals as goal
 
-pub returns-in_err-source-clause-loads : goal.returns-in_err-source-clause-loads
-returns-in_err-source-clause-loads g c =
+pub returns-in_err-pair-clause-loads : goal.returns-in_err-pair-clause-loads
+returns-in_err-pair-clause-loads g c =
     let p = err_from_is_err_and c.from_residual.result c.from_residual.ensures.1 in
-    rw (p.1, p.2) (loads_stop program (g.S.Shelf.told c.args.shelf.now) (Source c.args.machine) c.args.source.now
-    (λ assembly. Read (Certificate c.args.machine) c.args.certificate.now (λ cert. Do (JudgeCertificate c.args.machine assembly cert)))
-    (end_of program line_of status_of c.in_err-source.field-0.0) c.in_err-source.ensures.loads)
-
-pub returns-in_err-cert-clause-loads : goal.returns-in_err-cert-clause-loads
-returns-in_err-cert-clause-loads g c =
-    let p = err_from_is_err_and c.from_residual-in_err-cert.result c.from_residual-in_err-cert.ensures.1 in
-    rw (p.1, p.2) (second_stops (g.S.Shelf.told c.args.shelf.now) (g.S.Shelf.told c.load_source.new.shelf) (Source c.args.machine) c.args.source.now (Certificate c.args.machine) c.args.certificate.now
-    (λ assembly cert. JudgeCertificate c.args.machine assembly cert) (assembly_of c.in_ok-source.source) c.in_ok-source.ensures.loads c.in_ok-source.ensures.same
-    (end_of program line_of status_of c.in_err-cert.field-0.0) c.in_err-cert.ensures.loads)
+    rw (p.1, p.2) (c.in_err-pair.ensures.loads (λ pair. Do (JudgePair pair ListingBefore)))
 
 pub returns-clause-loads : goal.returns-clause-loads
 returns-clause-loads g c =
-    both_load (g.S.Shelf.told c.args.shelf.now) (g.S.Shelf.told c.load_source.new.shelf) (Source c.args.machine) c.args.source.now (Certificate c.args.machine) c.args.certificate.now
-    (λ assembly cert. JudgeCertificate c.args.machine assembly cert) (assembly_of c.in_ok-source.source) c.in_ok-source.ensures.loads c.in_ok-source.ensures.same
-    c.in_ok-cert.cert c.in_ok-cert.ensures.loads
+    let work = JudgePair (pair_of c.in_ok-pair.pair) ListingBefore in
+    c.in_ok-pair.ensures.loads (λ pair. Do (JudgePair pair ListingBefore)) (Ok work) refl
 
 pub returns-clause-ready : goal.returns-clause-ready
-returns-clause-ready g c = (c.args.machine.codes, c.in_ok-source.ensures.ready)
-
-pub returns-in_err-cert-clause-faults : goal.returns-in_err-cert-clause-faults
-returns-in_err-cert-clause-faults g c =
-    let p = err_from_is_err_and c.from_residual-in_err-cert.result c.from_residual-in_err-cert.ensures.1 in
-    counted_on _ _ _ _ c.in_ok-source.ensures.faults (rw (p.1, p.2) c.in_err-cert.ensures.faults)
-
-pub returns-in_err-cert-clause-absences : goal.returns-in_err-cert-clause-absences
-returns-in_err-cert-clause-absences g c =
-    let p = err_from_is_err_and c.from_residual-in_err-cert.result c.from_residual-in_err-cert.ensures.1 in
-    counted_on _ _ _ _ c.in_ok-source.ensures.absences (rw (p.1, p.2) c.in_err-cert.ensures.absences)
+returns-clause-ready g c = (c.in_ok-pair.ensures.ready, tt)

@@ -13,6 +13,3 @@ returns-in_err-source-clause-loads g c =
     let p = err_from_is_err_and c.from_residual.result c.from_residual.ensures.1 in
     rw (p.1, p.2) (loads_stop program (g.S.Shelf.told c.args.shelf.now) (Source c.args.machine.now) c.args.source.now (λ assembly. Do (WriteText c.args.text assembly))
     (end_of program line_of status_of c.in_err-source.field-0.0) c.in_err-source.ensures.loads)
-
-pub returns-clause-ready : goal.returns-clause-ready
-returns-clause-ready g c = (c.args.machine.now.codes, c.in_ok-source.ensures.ready)

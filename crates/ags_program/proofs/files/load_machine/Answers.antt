@@ -1,13 +1,18 @@
-use Rattle.ags_program.proofs.FilesLemmas.{machine_loads, stays_counted}
+use Rattle.ags_files.specs.Reading.{machine_reading}
+use Rattle.ags_files.proofs.ReadingLemmas.{absences_as, faults_as, reading_loads}
+use Rattle.ags_program.specs.declared.refusal.Refusal.TheVariants as refusal
+use Rattle.ags_program.specs.Files.{MachineFile}
+use Rattle.ags_program.specs.Program.{program}
+use Rattle.ags_program.specs.Views.{line_of, status_of}
+use Rattle.ags_program.proofs.FilesLemmas.{machine_as}
 use Rattle.ags_program.proofs.files.load_machine.Goals as goal
 
 pub returns-clause-loads : goal.returns-clause-loads
-returns-clause-loads g c =
-    machine_loads (g.S.Shelf.told c.args.shelf.now) c.args.name.now c.in_ok-bytes.bytes.items c.read_machine.result c.in_ok-bytes.ensures.fetches.0 c.in_ok-bytes.ensures.within
-    (rw c.deref.ensures.value at c.read_machine.ensures.ready) (rw c.deref.ensures.value at c.read_machine.ensures.unread)
+returns-clause-loads g c = rw c.refused_by.ensures
+    (reading_loads machine_reading program MachineFile (λ machine. machine) refusal.Machine line_of status_of machine_as (g.S.Shelf.told c.args.shelf.now) c.args.name.now c.load_machine.result c.load_machine.ensures.loads)
 
 pub returns-clause-faults : goal.returns-clause-faults
-returns-clause-faults g c = stays_counted _ _ _ c.in_ok-bytes.ensures.faults c.read_machine.ensures.no_fault
+returns-clause-faults g c = rw c.refused_by.ensures (faults_as refusal.Machine c.load_machine.result _ _ c.load_machine.ensures.faults)
 
 pub returns-clause-absences : goal.returns-clause-absences
-returns-clause-absences g c = stays_counted _ _ _ c.in_ok-bytes.ensures.absences c.read_machine.ensures.no_absence
+returns-clause-absences g c = rw c.refused_by.ensures (absences_as refusal.Machine c.load_machine.result _ _ c.load_machine.ensures.absences)

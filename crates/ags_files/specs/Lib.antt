@@ -1,0 +1,3 @@
+-- what the public contracts cite
+pub mod Source
+pub mod Reading
