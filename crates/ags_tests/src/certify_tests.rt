@@ -2,7 +2,7 @@
 
 use crate::answer_tests::{compare_over, compare_pair};
 use crate::command_lines::{add, joined};
-use crate::decks::{DECK, DECK_CERTIFICATE, DECK_LISTING};
+use ags_decks::{DECK, DECK_CERTIFICATE, DECK_LISTING};
 use ags_top::Status;
 use std::alloc::Global;
 use std::process::Abort;

@@ -9,8 +9,6 @@ mod certify_tests;
 #[cfg(test)]
 mod command_lines;
 #[cfg(test)]
-mod decks;
-#[cfg(test)]
 mod fault_tests;
 #[cfg(test)]
 mod key_tests;

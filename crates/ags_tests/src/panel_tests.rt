@@ -3,7 +3,7 @@
 
 use crate::answer_tests::{compare_over, compare_pair};
 use crate::command_lines::{add, joined};
-use crate::decks::{DECK, DECK_CERTIFICATE};
+use ags_decks::{DECK, DECK_CERTIFICATE, DECK_SCRIPT};
 use ags_top::Status;
 use std::process::Abort;
 
@@ -15,10 +15,6 @@ const SMALL_DIGITS: &str = "AGSCERT 1\nIN 2200 RANGE 0 15\nROW 4000 A ANY Q ANY 
 
 /// Hands what comes from the panel to the register at 6001.
 const ECHO: &str = " ORG /4000\nL INP /2200\n OUT /6001\n TRA L\n";
-
-/// The script of the deck.
-const DECK_SCRIPT: &str =
-    "PORT 2001 001750\nCYCLE 100\nSHOW CELL 0020\nSHOW REG\nKEY CLR 0 4 7 RO\nCYCLE 9\nSHOW DEDA\n";
 
 /// Runs `run S P` and compares what is shown.
 fn compare_shown(rt: &(impl AllocGlobal + Abort), source: &str, script: &str, text: &str) {
