@@ -2,9 +2,9 @@
 
 use crate::common::expect_same;
 use ags_card::{
-    Atom, Body, CardFault, Name, Term, cards_keep_to_their_form,
+    Atom, Body, Card, CardFault, Name, Term, cards_keep_to_their_form,
     each_line_is_a_card_or_has_a_fault, is_comment_card, lines_spell_what_is_read, read_card,
-    symbols_are_capitals_and_digits,
+    read_card_into, symbols_are_capitals_and_digits,
 };
 use ags_isa::Order;
 use ags_word::Word;
@@ -114,19 +114,19 @@ fn terms_have_their_signs(rt: HostRuntime) {
     expect_last(&rt, b" CLA 1-1A", true, symbol(&rt, b"1A"));
 }
 
-/// The word of a card that is a constant.
+/// The first word of a card that has constants.
 fn word_of(line: &[u8]) -> Option<Word> {
     let Ok(card) = read_card(line) else {
         return None;
     };
     match &card.body {
-        Body::Oct(word) => Some(*word),
-        Body::Dec(number) => ags_decimal::word(number),
+        Body::Oct(words) => words.items().first().copied(),
+        Body::Dec(numbers) => numbers.items().first().and_then(ags_decimal::word),
         _ => None,
     }
 }
 
-/// Whether a line is the card of a constant with this word.
+/// Whether a line is a card of constants, of which the first has this word.
 fn has_word(line: &[u8], number: u32) -> bool {
     let read = word_of(line);
     read == Word::of(number) && read.is_some()
@@ -155,6 +155,91 @@ fn constants_have_their_words(rt: HostRuntime) {
     }
 }
 
+/// How many constants a line has.
+fn constants_of(line: &[u8]) -> Option<usize> {
+    let Ok(card) = read_card(line) else {
+        return None;
+    };
+    match &card.body {
+        Body::Oct(words) => Some(words.items().len()),
+        Body::Dec(numbers) => Some(numbers.items().len()),
+        _ => None,
+    }
+}
+
+/// Lines, each with the number of its constants. No card has room for more than 58.
+const LISTS: [(&[u8], usize); 8] = [
+    (b" DEC 1", 1),
+    (b" DEC 1,2.5,-3E-1B2", 3),
+    (b" OCT 1,2", 2),
+    (b" OCT 1 ,2", 1),
+    (b"\tOCT\t-1,+2,-0\tA,B", 3),
+    (b"A OCT 1,2,3 ,4", 3),
+    (
+        b" OCT 1,1,1,1,1,1,1,1,1,1,1,1,1,1,1,1,1,1,1,1,1,1,1,1,1,1,1,1,1,1,1,1,1,1,1,1,1,1,1,1,1,1,1,1,1,1,1,1,1,1,1,1,1,1,1,1,1,1",
+        58,
+    ),
+    (
+        b" DEC 1,1,1,1,1,1,1,1,1,1,1,1,1,1,1,1,1,1,1,1,1,1,1,1,1,1,1,1,1,1,1,1,1,1,1,1,1,1,1,1,1,1,1,1,1,1,1,1,1,1,1,1,1,1,1,1,1,1",
+        58,
+    ),
+];
+
+#[test]
+fn constants_stand_in_lists(rt: HostRuntime) {
+    for &(line, count) in &LISTS {
+        expect_same(&rt, &(line, constants_of(line)), &(line, Some(count)));
+    }
+}
+
+/// What a card asks for, and how many terms or constants it has.
+fn kind_of(body: &Body) -> (&'static str, usize) {
+    match body {
+        Body::Comment => ("comment", 0),
+        Body::Order { terms, .. } => ("order", terms.items().len()),
+        Body::Org(terms) => ("org", terms.items().len()),
+        Body::Equ(terms) => ("equ", terms.items().len()),
+        Body::Bss(terms) => ("bss", terms.items().len()),
+        Body::Bes(terms) => ("bes", terms.items().len()),
+        Body::Dec(numbers) => ("dec", numbers.items().len()),
+        Body::Oct(words) => ("oct", words.items().len()),
+        Body::End => ("end", 0),
+    }
+}
+
+/// Lines that are read in the place of one another, one behind the other, each with what it asks for: a kind follows itself and
+/// others, with more and with fewer terms, and a line with a fault stands between.
+const IN_PLACE: [(&[u8], &str, usize); 15] = [
+    (b" CLA 1+2+3", "order", 3),
+    (b" CLA 1", "order", 1),
+    (b" COM", "order", 1),
+    (b"A EQU 1-2", "equ", 2),
+    (b"B SYN A", "equ", 1),
+    (b" ORG A+1", "org", 2),
+    (b" ORG 1", "org", 1),
+    (b"* NOTHING", "comment", 0),
+    (b" BSS 2", "bss", 1),
+    (b" BES 2-A", "bes", 2),
+    (b" BES 2", "bes", 1),
+    (b" DEC 1,2", "dec", 2),
+    (b" DEC 1", "dec", 1),
+    (b" OCT 1,2,3", "oct", 3),
+    (b"E END", "end", 0),
+];
+
+#[test]
+fn lines_are_read_in_place_of_others(rt: HostRuntime) {
+    let mut card = Card::comment();
+    for &(line, kind, count) in &IN_PLACE {
+        assert!(&rt; read_card_into(&mut card, line).is_ok());
+        assert!(&rt; kind_of(&card.body) == (kind, count));
+        assert!(&rt; read_card_into(&mut card, b" CLA 1+").is_err());
+        assert!(&rt; read_card_into(&mut card, b" OCT 1,,2").is_err());
+        assert!(&rt; read_card_into(&mut card, line).is_ok());
+        assert!(&rt; kind_of(&card.body) == (kind, count));
+    }
+}
+
 /// The fault of a line, and nothing of a card.
 fn fault_of(line: &[u8]) -> Option<CardFault> {
     match read_card(line) {
@@ -169,7 +254,7 @@ fn expect_fault(rt: &impl Abort, line: &[u8], wanted: Option<CardFault>) {
 }
 
 /// Lines that keep to their form.
-const FAULTLESS: [&[u8]; 9] = [
+const FAULTLESS: [&[u8]; 12] = [
     b"",
     b" \t",
     b"*",
@@ -179,6 +264,9 @@ const FAULTLESS: [&[u8]; 9] = [
     b"ORG ORG ORG",
     b"A EQU -1+A",
     b" BSS 0",
+    b"E BES 0",
+    b"A SYN -1+A",
+    b" DEC 1,2",
 ];
 
 #[test]
@@ -198,7 +286,7 @@ fn long_lines_are_told(rt: HostRuntime) {
 }
 
 /// Lines, each with its least fault.
-const FAULTS: [(&[u8], CardFault); 42] = [
+const FAULTS: [(&[u8], CardFault); 54] = [
     (b" CLA 1\0", CardFault::BadByte),
     (b"*\x7f", CardFault::BadByte),
     (b"\xff", CardFault::BadByte),
@@ -210,20 +298,23 @@ const FAULTS: [(&[u8], CardFault); 42] = [
     (b" EQU 1", CardFault::BadSymbol),
     (b" EQU", CardFault::BadSymbol),
     (b" EQU 1,2", CardFault::BadSymbol),
+    (b" SYN 1", CardFault::BadSymbol),
+    (b" SYN 1,2", CardFault::BadSymbol),
     (b"CLA", CardFault::UnknownOperation),
     (b"CLA 1", CardFault::UnknownOperation),
     (b" CLAX 1", CardFault::UnknownOperation),
     (b" cla 1", CardFault::UnknownOperation),
     (b" * REMARK", CardFault::UnknownOperation),
-    (b" SYN 1", CardFault::UnknownOperation),
+    (b" SYNX 1", CardFault::UnknownOperation),
     (b" CLA", CardFault::MissingOperand),
     (b"A EQU \t", CardFault::MissingOperand),
     (b" OCT", CardFault::MissingOperand),
     (b" ORG 1,1", CardFault::ExtraOperand),
     (b" BSS ,", CardFault::ExtraOperand),
     (b"A EQU 8A,", CardFault::ExtraOperand),
-    (b" DEC 1,2", CardFault::ExtraOperand),
-    (b" OCT ,9", CardFault::ExtraOperand),
+    (b"A SYN 1,2", CardFault::ExtraOperand),
+    (b" BES 1,2", CardFault::ExtraOperand),
+    (b" BSS 1,2", CardFault::ExtraOperand),
     (b" CLA 1,", CardFault::BadExpression),
     (b" CLA 1,2", CardFault::BadExpression),
     (b" CLA 1,1,1", CardFault::BadExpression),
@@ -241,6 +332,15 @@ const FAULTS: [(&[u8], CardFault); 42] = [
     (b" OCT 8", CardFault::BadOctal),
     (b" OCT 1234567", CardFault::BadOctal),
     (b" OCT -", CardFault::BadOctal),
+    (b" OCT ,9", CardFault::BadOctal),
+    (b" OCT ,", CardFault::BadOctal),
+    (b" OCT 1,", CardFault::BadOctal),
+    (b" OCT 1, 2", CardFault::BadOctal),
+    (b" OCT 1,,2", CardFault::BadOctal),
+    (b" OCT 1,8", CardFault::BadOctal),
+    (b" DEC ,1", CardFault::BadDecimal),
+    (b" DEC 1,2,", CardFault::BadDecimal),
+    (b" DEC 1,1B61", CardFault::BadDecimal),
 ];
 
 #[test]

@@ -60,9 +60,9 @@ impl Sink for FailingSink {
     }
 }
 
-/// The span, the place and the word of a card.
-pub(crate) fn parts_of(card: &Placed) -> (u32, u32, Option<u16>, u32) {
-    (card.start, card.end, card.place, card.word.number())
+/// The span of a card, the place of its first word, and how many words it has.
+pub(crate) fn parts_of(card: &Placed) -> (u32, u32, Option<u16>, u16) {
+    (card.start, card.end, card.place, card.count)
 }
 
 /// Asserts that what is told is what is wanted.

@@ -3,7 +3,7 @@
 use crate::common::{expect_same, parts_of};
 use ags_card::read_card;
 use ags_places::{
-    Placed, SourceError, SourceKind, card_lines_follow, each_symbol_has_a_pair, is_end,
+    Placed, SourceError, SourceKind, card_lines_follow, count_of, each_symbol_has_a_pair, is_end,
     one_list_of_pairs_fits, place_card, place_of_word, places_are_sums, words_stand_in_the_memory,
 };
 use ags_symbol::Symbols;
@@ -24,7 +24,7 @@ fn placed(rt: &impl Abort, alloc: Global, source: &[u8]) -> (Vec<Placed>, Symbol
         let next = place_card(&mut symbols, place, number, &card);
         assert!(rt; line.start <= 1000 && line.bytes.len() <= 1000);
         let at = place_of_word(place, &card.body);
-        assert!(rt; cards.push(Placed::at(line, at)).is_ok());
+        assert!(rt; cards.push(Placed::at(line, at, count_of(&card.body))).is_ok());
         place = next.ok().expect(rt, "a card without a fault");
         if is_end(&card.body) {
             return (cards, symbols);
@@ -33,11 +33,12 @@ fn placed(rt: &impl Abort, alloc: Global, source: &[u8]) -> (Vec<Placed>, Symbol
     (cards, symbols)
 }
 
-/// Compares cards, whose words aren't made yet, with the spans and the places that are wanted.
+/// Compares cards, each of one word or none, with the spans and the places that are wanted.
 fn expect_cards(rt: &impl Abort, cards: &[Placed], wanted: &[(u32, u32, Option<u16>)]) {
     expect_same(rt, &cards.len(), &wanted.len());
     for (card, (start, end, place)) in cards.iter().zip(wanted) {
-        expect_same(rt, &parts_of(card), &(*start, *end, *place, 0));
+        let count = u16::from(place.is_some());
+        expect_same(rt, &parts_of(card), &(*start, *end, *place, count));
     }
 }
 

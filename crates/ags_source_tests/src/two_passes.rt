@@ -3,6 +3,7 @@
 
 use ags_asm::{SourceError, SourceKind};
 use ags_card::{Body, Card, read_card};
+use ags_decimal::Decimal;
 use ags_isa::{Codes, encode};
 use ags_places::{Stop, is_end, kind_of, place_card, place_of_word};
 use ags_symbol::Symbols;
@@ -57,9 +58,30 @@ fn place_each(
     Ok((places, symbols))
 }
 
-/// The word of a card at its place, over all symbols, and 000000 where it has none.
-fn word_of(rt: &impl Abort, symbols: &Symbols, at: u16, body: &Body) -> Result<Word, SourceKind> {
+/// Decimals as words, or the fault of one.
+fn decimal_words(
+    rt: &impl Abort,
+    alloc: Global,
+    numbers: &[Decimal],
+) -> Result<Vec<Word>, SourceKind> {
+    let mut words = Vec::new(alloc);
+    for number in numbers {
+        let word = ags_decimal::word(number).ok_or(SourceKind::ValueRange)?;
+        assert!(rt; words.push(word).is_ok());
+    }
+    Ok(words)
+}
+
+/// The words of a card at its place, over all symbols.
+fn words_of(
+    rt: &impl Abort,
+    alloc: Global,
+    symbols: &Symbols,
+    at: u16,
+    body: &Body,
+) -> Result<Vec<Word>, SourceKind> {
     assert!(rt; at <= 4096);
+    let mut words = Vec::new(alloc);
     match body {
         Body::Order {
             order,
@@ -70,52 +92,77 @@ fn word_of(rt: &impl Abort, symbols: &Symbols, at: u16, body: &Body) -> Result<W
             if value < 0 || value > 4095 {
                 return Err(SourceKind::AddressRange { value });
             }
-            Ok(encode(&Codes::standard(), *order, *indexed, value as u16))
+            let word = encode(&Codes::standard(), *order, *indexed, value as u16);
+            assert!(rt; words.push(word).is_ok());
         }
-        Body::Dec(decimal) => ags_decimal::word(decimal).ok_or(SourceKind::ValueRange),
-        Body::Oct(word) => Ok(*word),
-        Body::Comment | Body::Org(_) | Body::Equ(_) | Body::Bss(_) | Body::End => Ok(Word::ZERO),
+        Body::Dec(numbers) => return decimal_words(rt, alloc, numbers.items()),
+        Body::Oct(list) => assert!(rt; words.extend_from_slice(list.items()).is_ok()),
+        Body::Comment
+        | Body::Org(_)
+        | Body::Equ(_)
+        | Body::Bss(_)
+        | Body::Bes(_)
+        | Body::End => {}
     }
+    Ok(words)
 }
 
-/// The number of the first of these places that is this one, counted from 1.
-fn first_at(places: &[Option<u16>], place: u16) -> Option<u32> {
-    let mut number = 0u32;
-    for other in places {
-        number = number.saturating_add(1);
-        if *other == Some(place) {
-            return Some(number);
+/// A card's number and the place of its word.
+type Taken = (u32, u16);
+
+/// The number of the card that has a word at this place.
+fn taker_of(taken: &[Taken], place: u16) -> Option<u32> {
+    for (number, other) in taken {
+        if *other == place {
+            return Some(*number);
         }
     }
     None
 }
 
-/// The place and the word of each card of a source, or the source's first fault.
+/// Takes so many places from one on for a card, or tells which card has the least of them that is taken.
+fn take_places(
+    rt: &impl Abort,
+    taken: &mut Vec<Taken>,
+    number: u32,
+    at: u16,
+    count: usize,
+) -> Result<(), SourceKind> {
+    let mut place = at;
+    for _ in 0..count {
+        if let Some(first) = taker_of(taken, place) {
+            return Err(SourceKind::PlaceTwice { first });
+        }
+        assert!(rt; taken.push((number, place)).is_ok());
+        place = place.saturating_add(1);
+    }
+    Ok(())
+}
+
+/// A card's place, where it has words, and its words.
+pub(crate) type Words = (Option<u16>, Vec<Word>);
+
+/// The place and the words of each card of a source, or the source's first fault.
 pub(crate) fn assemble_in_two_passes(
     rt: &impl Abort,
     alloc: Global,
     source: &[u8],
-) -> Result<Vec<(Option<u16>, Word)>, SourceError> {
+) -> Result<Vec<Words>, SourceError> {
     let cards = read_all(rt, alloc, source)?;
     let (places, symbols) = place_each(rt, alloc, &cards)?;
-    let mut taken: Vec<Option<u16>> = Vec::new(alloc);
-    let mut words = Vec::new(alloc);
+    let mut taken: Vec<Taken> = Vec::new(alloc);
+    let mut made = Vec::new(alloc);
     let mut number = 0u32;
     for (card, at) in cards.iter().zip(&places) {
         number = number.saturating_add(1);
-        let word = match word_of(rt, &symbols, *at, &card.body) {
-            Ok(word) => word,
+        let words = match words_of(rt, alloc, &symbols, *at, &card.body) {
+            Ok(words) => words,
             Err(kind) => return Err(SourceError { card: number, kind }),
         };
-        let place = place_of_word(*at, &card.body);
-        if let Some(at) = place {
-            if let Some(first) = first_at(&taken, at) {
-                let kind = SourceKind::PlaceTwice { first };
-                return Err(SourceError { card: number, kind });
-            }
+        if let Err(kind) = take_places(rt, &mut taken, number, *at, words.len()) {
+            return Err(SourceError { card: number, kind });
         }
-        assert!(rt; taken.push(place).is_ok());
-        assert!(rt; words.push((place, word)).is_ok());
+        assert!(rt; made.push((place_of_word(*at, &card.body), words)).is_ok());
     }
-    Ok(words)
+    Ok(made)
 }

@@ -31,12 +31,12 @@ fn in_two(
     building.finish()
 }
 
-/// Whether two cards have the same span, place and word.
+/// Whether two cards have the same span, place and number of words.
 fn is_same_card(one: &Placed, other: &Placed) -> bool {
     one.start == other.start
         && one.end == other.end
         && one.place == other.place
-        && one.word == other.word
+        && one.count == other.count
 }
 
 /// Whether two sources have the same cards, and equally many symbols.

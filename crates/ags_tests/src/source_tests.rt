@@ -53,7 +53,7 @@ fn says_which_field_is_no_symbol_and_no_operation(rt: HostRuntime) {
 /// The rows of `says_which_operand_is_wrong`.
 const SAYS_WHICH_OPERAND_IS_WRONG: [Faulty; 7] = [
     (b" CLA\n", "SOURCE CARD 0000001 ERROR 5 MissingOperand\n"),
-    (b" OCT 1,2\n", "SOURCE CARD 0000001 ERROR 6 ExtraOperand\n"),
+    (b" BSS 1,2\n", "SOURCE CARD 0000001 ERROR 6 ExtraOperand\n"),
     (b" ORG 5,1\n", "SOURCE CARD 0000001 ERROR 6 ExtraOperand\n"),
     (b" CLA 5,2\n", "SOURCE CARD 0000001 ERROR 7 BadExpression\n"),
     (
@@ -342,4 +342,58 @@ const FAULTS_OF_WORDS: [Faulty; 9] = [
 #[test]
 fn says_the_first_fault_of_words(rt: HostRuntime) {
     compare_faults(&rt, &FAULTS_OF_WORDS);
+}
+
+/// The rows of `says_which_list_is_wrong`.
+const SAYS_WHICH_LIST_IS_WRONG: [Faulty; 7] = [
+    (b" SYN 1\n", "SOURCE CARD 0000001 ERROR 3 BadSymbol\n"),
+    (b" BES 1,2\n", "SOURCE CARD 0000001 ERROR 6 ExtraOperand\n"),
+    (b" DEC 1,\n", "SOURCE CARD 0000001 ERROR 8 BadDecimal\n"),
+    (b" OCT 1,,2\n", "SOURCE CARD 0000001 ERROR 9 BadOctal\n"),
+    (
+        b" ORG 4095\n OCT 1,2\n",
+        "SOURCE CARD 0000002 ERROR 12 PlaceRange\n",
+    ),
+    (b" DEC 1,1B0\n", "SOURCE CARD 0000001 ERROR 15 ValueRange\n"),
+    (
+        b" ORG 2\n CLA 5\n ORG 0\n OCT 1,2,3\n",
+        "SOURCE CARD 0000004 ERROR 16 PlaceTwice 0000002\n",
+    ),
+];
+
+#[test]
+fn says_which_list_is_wrong(rt: HostRuntime) {
+    compare_faults(&rt, &SAYS_WHICH_LIST_IS_WRONG);
+}
+
+/// A source with lists, a BES and a SYN.
+const LISTS: &str = " ORG /4000\nT OCT 1,2,3\nE BES 2\nN SYN T+1\n TRA N\n DEC 1,-1\n";
+
+/// Its listing.
+const LISTS_LINES: &str = "0000001              ORG /4000
+0000002 4000 000001 T OCT 1,2,3
+0000002 4001 000002 
+0000002 4002 000003 
+0000003             E BES 2
+0000004             N SYN T+1
+0000005 4005 404001  TRA N
+0000006 4006 000001  DEC 1,-1
+0000006 4007 777777 
+";
+
+/// Its cross reference.
+const LISTS_NAMING: &str =
+    "E         2053 0000003\nN         2049 0000004 0000005\nT         2048 0000002 0000004\n";
+
+/// Its tape.
+const LISTS_TAPE: &str =
+    "4000 000001\n4001 000002\n4002 000003\n4005 404001\n4006 000001\n4007 777777\n";
+
+#[test]
+fn lists_have_further_lines(rt: HostRuntime) {
+    let source = LISTS.as_bytes();
+    compare(&rt, source, "assemble S", 1000, Status::Done, LISTS_LINES);
+    compare(&rt, source, "assemble S", 1, Status::Done, LISTS_LINES);
+    compare(&rt, source, "xref S", 1000, Status::Done, LISTS_NAMING);
+    compare(&rt, source, "tape S", 1000, Status::Done, LISTS_TAPE);
 }
