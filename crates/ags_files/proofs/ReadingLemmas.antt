@@ -1,14 +1,14 @@
 -- Readings, and what loaders answer by them. For the proofs of programs above stand here
 --     reading_loads   a file that is loaded by a reading is one of a kind of a program's plans that reads as the reading does
 --     reading_takes   and so are bytes that the program makes itself
-use Rattle.std.proofs.Common.{◌≡◌, ℕ, ◌<◌, ◌≤◌, Bool, false, List, length, Option, Some, Result, Ok, Err, refl, inl, inr, sym, subst, ap, ◌∙◌}
+use Rattle.std.proofs.Common.{◌≡◌, ℕ, ◌<◌, ◌≤◌, Bool, false, List, length, Some, Result, Ok, Err, refl, inl, inr, sym, subst, ap, ◌∙◌}
 use Rattle.std.specs.Result.{result_map_both}
 use Rattle.ags_outside.specs.Count.{HasCause}
 use Rattle.ags_outside.specs.ToldFile.{ToldFile}
 use Rattle.ags_plan.specs.declared.unloaded.Unloaded.{Unloaded}
 use Rattle.ags_plan.specs.declared.unloaded.Unloaded.TheVariants.{Absent, TooLong, Refused, ReadFault, NoMemory}
 use Rattle.ags_plan.specs.Loading.{FetchesFile, LoadsFile, TakesBytes, end_of, is_absence, is_read_fault}
-use Rattle.ags_plan.specs.Plan.{Definition, AbsentAt, LongAt, RefusedAt}
+use Rattle.ags_plan.specs.Plan.{Definition, AbsentAt, RefusedAt}
 use Rattle.ags_plan.specs.Walk.{Told, Agrees, EndsAtBytes}
 use Rattle.ags_files.specs.Reading.{Reading, ReadsAs, ReadsBytes, ReadsFile, with_refusal}
 

@@ -1,5 +1,5 @@
 -- What the loaders of files answer.
-use Rattle.std.proofs.Common.{◌≡◌, ℕ, ◌≤◌, Bool, false, List, Option, Result, Ok, Err, refl, subst, ◌∙◌, arith}
+use Rattle.std.proofs.Common.{◌≡◌, ℕ, Bool, false, List, Option, Result, Ok, Err, refl, subst, ◌∙◌, arith}
 use Rattle.std.specs.Prelude.{IfOk}
 use Rattle.ags_certtext.specs.declared.cert_error.CertError.{CertError}
 use Rattle.ags_certtext.specs.declared.cert_error.CertError.TheVariants as certificate
@@ -22,7 +22,6 @@ use Rattle.ags_script.specs.declared.commands.Command.{Command}
 use Rattle.ags_script.specs.declared.script_errors.ScriptError.{ScriptError}
 use Rattle.ags_script.specs.declared.script_errors.ScriptError.TheVariants as script
 use Rattle.ags_script.specs.Script.{IsReadFor}
-use Rattle.ags_program.specs.declared.refusal.Refusal.{Refusal}
 use Rattle.ags_program.specs.declared.refusal.Refusal.TheVariants as refusal
 use Rattle.ags_program.specs.Files.{Kind, MachineFile, Source, Listing, Certificate, Script, Assembly, Pair, Value, RefusesCertificate as RefusesCert, RefusesScript as RefusesCommands}
 use Rattle.ags_program.specs.Loaded.{LoadsPair}

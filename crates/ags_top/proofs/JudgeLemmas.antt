@@ -1,5 +1,5 @@
 -- What is judged of a source and a certificate that were read.
-use Rattle.std.proofs.Common.{◌≡◌, ℕ, List, Option, refl}
+use Rattle.std.proofs.Common.{◌≡◌, ℕ, List, Option}
 use Rattle.ags_cert.specs.Cert.{certificate_of}
 use Rattle.ags_domain.specs.Value.{value_meaning}
 use Rattle.ags_domain.specs.declared.values.Value.{Value}

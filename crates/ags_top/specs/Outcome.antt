@@ -11,10 +11,8 @@ use Rattle.ags_plan.specs.Walk.{Told, Agrees, Tells, EndsAt, IsGiven}
 use Rattle.ags_plan.specs.Outcome as plan
 use Rattle.ags_places.specs.declared.source_error.SourceError.{SourceError}
 use Rattle.ags_cert.specs.Length.{certificate_limit}
-use Rattle.ags_listing.specs.Limit.{listing_limit}
 use Rattle.ags_machfile.specs.Limit.{machine_limit}
 use Rattle.ags_places.specs.Limit.{source_limit}
-use Rattle.ags_script.specs.Limit.{script_limit}
 use Rattle.ags_asm.specs.Source.{CardWords, Defines, IsFaulty, placed_words}
 use Rattle.ags_cert.specs.Cert.{Stated, certificate_of}
 use Rattle.ags_certtext.specs.declared.cert_error.CertKind.{CertKind}
@@ -22,8 +20,7 @@ use Rattle.ags_cert.specs.Text.{IsCertOf, IsFaultyCert}
 use Rattle.ags_domain.specs.Value.{value_meaning}
 use Rattle.ags_domain.specs.declared.values.Value.{Value}
 use Rattle.ags_image.specs.Image.{IsImageOf}
-use Rattle.ags_listing.specs.declared.list_error.ListError.{ListError}
-use Rattle.ags_listing.specs.Reads.{IsFaultyListing, Reads}
+use Rattle.ags_listing.specs.Reads.{Reads}
 use Rattle.ags_machfile.specs.declared.mach_error.MachError.{MachError}
 use Rattle.ags_machfile.specs.MachineFile.{machine_of}
 use Rattle.ags_ports.specs.declared.events.Event.{Event}
@@ -35,8 +32,7 @@ use Rattle.ags_verdict.specs.Verdict.{IsVerdict}
 use Rattle.ags_verdict.specs.declared.verdicts.Refusal.{Refusal}
 use Rattle.ags_verdict.specs.declared.verdicts.Verdict.TheVariants.{Certified, Refused}
 use Rattle.ags_script.specs.declared.commands.Command.{Command}
-use Rattle.ags_script.specs.declared.script_errors.ScriptKind.{ScriptKind}
-use Rattle.ags_script.specs.Script.{IsScript, IsFaultyScript}
+use Rattle.ags_script.specs.Script.{IsScript}
 use Rattle.ags_play.specs.Begun.{IsRunOf}
 use Rattle.ags_play.specs.Bench.{begun_state}
 use Rattle.ags_play.specs.Cut.{IsSafeWhereCut}

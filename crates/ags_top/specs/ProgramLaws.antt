@@ -14,7 +14,6 @@ use Rattle.ags_places.specs.Deck.{cards}
 use Rattle.ags_places.proofs.RunningLemmas.{some_fits, fits_one}
 use Rattle.ags_cert.specs.Cert.{Stated, certificate_of}
 use Rattle.ags_certread.proofs.TextLaws as cert
-use Rattle.ags_cert.specs.Text.{IsCertOf}
 use Rattle.ags_certtext.specs.declared.cert_error.CertKind.{CertKind}
 use Rattle.ags_certtext.specs.declared.cert_error.CertError.TheVariants as certificate
 use Rattle.ags_domain.specs.Value.{value_meaning}

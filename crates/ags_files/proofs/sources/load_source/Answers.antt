@@ -1,4 +1,4 @@
-use Rattle.std.proofs.Common.{[], ◌∙◌, sym, subst, ℕ, List}
+use Rattle.std.proofs.Common.{[], ◌∙◌, subst, ℕ, List}
 use Rattle.std.proofs.lemmas.Result.{err_from_is_err_and}
 use Rattle.ags_files.specs.Reading.{ReadsBytes, source_reading}
 use Rattle.ags_files.proofs.ReadingLemmas.{absences_stay, faults_stay, fetch_stops, file_reads}

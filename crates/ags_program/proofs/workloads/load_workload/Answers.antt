@@ -1,14 +1,7 @@
 use Rattle.std.proofs.lemmas.Result.{err_from_is_err_and}
-use Rattle.std.proofs.Common.{Ok, refl}
-use Rattle.ags_load.specs.Workload.{source_text, cert_text}
 use Rattle.ags_plan.specs.Loading.{end_of}
-use Rattle.ags_plan.specs.Plan.{Do, Take}
-use Rattle.ags_plan.proofs.LoadingLemmas.{takes_on, takes_stop}
-use Rattle.ags_ports.specs.Machine.{standard_machine}
-use Rattle.ags_program.specs.Files.{Source, Certificate}
-use Rattle.ags_program.specs.Program.{program, workload_certificate, workload_source}
+use Rattle.ags_program.specs.Program.{program}
 use Rattle.ags_program.specs.Views.{assembly_of, line_of, status_of}
-use Rattle.ags_program.specs.Work.{JudgePair, CountsInstead}
 use Rattle.ags_program.proofs.FilesLemmas.{workload_stops, workload_stops_later, workload_loads}
 use Rattle.ags_program.proofs.workloads.load_workload.Goals as goal
 
