@@ -3,8 +3,8 @@
 ghost use Rattle.ags_outside.specs.ToldFile.{Untold};
 
 use crate::command_lines::{arguments_of, expect_same};
-use ags_decks::{DECK, DECK_LISTING};
 use ags_asm::{AssembleError, Assembled, Building, Placed, SOURCE_LIMIT, assemble};
+use ags_decks::{DECK, DECK_LISTING};
 use ags_isa::Codes;
 use ags_outside::{Pull, Shelf, SteadyShelf, SteadySink, Taker};
 use ags_top::{Status, ags_main};
