@@ -1,17 +1,9 @@
-//! Tests of domains, rows, certificates and the verdict, over what their crates make public. They stand in a crate of
+//! Tests of domains, rows, posts and the verdict, over what their crates make public. They stand in a crate of
 //! their own, so that the proofs of those crates aren't done a second time for them.
 #![tactic(auto)]
 
 #[cfg(test)]
 mod answered_tests;
-#[cfg(test)]
-mod cert_tests;
-#[cfg(test)]
-mod certread_tests;
-#[cfg(test)]
-mod certsend_tests;
-#[cfg(test)]
-mod certtext_tests;
 #[cfg(test)]
 mod check_tests;
 #[cfg(test)]
@@ -20,10 +12,6 @@ mod common;
 mod counted_tests;
 #[cfg(test)]
 mod domain_tests;
-#[cfg(test)]
-mod location_tests;
-#[cfg(test)]
-mod piece_tests;
 #[cfg(test)]
 mod posts_tests;
 #[cfg(test)]

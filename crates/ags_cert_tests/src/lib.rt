@@ -1,0 +1,18 @@
+//! Tests of certificates: of those in hand, of their texts read, whole and in pieces, and written, over what their crates make public. They
+//! stand in a crate of their own, so that the proofs of those crates aren't done a second time for them.
+#![tactic(auto)]
+
+#[cfg(test)]
+mod cert_tests;
+#[cfg(test)]
+mod certread_tests;
+#[cfg(test)]
+mod certsend_tests;
+#[cfg(test)]
+mod certtext_tests;
+#[cfg(test)]
+mod common;
+#[cfg(test)]
+mod location_tests;
+#[cfg(test)]
+mod piece_tests;
