@@ -157,10 +157,20 @@ RESULT      16 0000003 0000009
 START     2048 0000006 0000010
 END
 
+# --- the workload
+
+prints 0 workload 400 <<'END'
+WORKLOAD 400 CARDS 811 WORDS 807 ROWS 3201 CASES 3201 CERTIFIED
+END
+
+prints 3 workload 401 <<'END'
+WORDS
+END
+
 # --- what standard error says
 
 says 3 assemble <<'END'
-ags: the forms of arguments are: assemble S [M], compare S L [M], tape S [M], xref S [M], certify S C [M], run S P [M], guard S P C [M]
+ags: the forms of arguments are: assemble S [M], compare S L [M], tape S [M], xref S [M], certify S C [M], run S P [M], guard S P C [M], workload N
 END
 
 says 5 assemble examples <<'END'
