@@ -97,5 +97,6 @@ try xref scale.lem
 try certify deck.lem deck.cert
 try run deck.lem deck.script
 try guard deck.lem deck.script deck.cert
+try workload 1
 try assemble once.lem other.toml
 exit "$failed"

@@ -102,9 +102,16 @@ fn a_cross_reference_is_cut_off_at_each_call(rt: HostRuntime) {
     fail_each_call(&rt, "xref S", 2, "A         2048 0000003\n");
 }
 
+// A workload reads no file.
+#[test]
+fn a_workload_is_cut_off_at_each_call(rt: HostRuntime) {
+    let text = "WORKLOAD 1 CARDS 13 WORDS 9 ROWS 9 CASES 9 CERTIFIED\n";
+    fail_each_call(&rt, "workload 1", 0, text);
+}
+
 // The certified deck has 4 pulls and 41 puts: the 40 lines of its listing, and the verdict.
 #[test]
-fn a_certified_deck_is_cut_off_at_each_call(rt: HostRuntime) {
+fn a_certified_deck_is_cut_off_at_each_pull_and_line(rt: HostRuntime) {
     let text = joined(
         &rt,
         rt.alloc(),
@@ -112,7 +119,19 @@ fn a_certified_deck_is_cut_off_at_each_call(rt: HostRuntime) {
         "CERTIFIED ROWS 31 CASES 32\n",
     );
     assert!(&rt; text.as_str().lines().count() == 41);
-    fail_each_call(&rt, "certify D C", 4, text.as_str());
+    fail_each_pull(&rt, "certify D C", 4, text.as_str());
+    fail_each_put(&rt, "certify D C", text.as_str());
+}
+
+#[test]
+fn a_certified_deck_is_cut_off_at_each_byte(rt: HostRuntime) {
+    let text = joined(
+        &rt,
+        rt.alloc(),
+        DECK_LISTING,
+        "CERTIFIED ROWS 31 CASES 32\n",
+    );
+    fail_each_byte(&rt, "certify D C", text.as_str());
 }
 
 /// What the deck's script shows.
