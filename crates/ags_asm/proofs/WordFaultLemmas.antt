@@ -214,10 +214,10 @@ module _ (S : List Entry) (all : List Card) (fitting : Fits S all) where
     taken_sound kind is =
         let so = owned_somewhere (λ q. owner S q before) (place S before) (count card.body) kind is in
         rw (sym so.kind_is) (
-        so.there,
-        (so.from, so.below),
-        owner_stands S so.there before so.first so.owned_by,
-        λ other number here stands. least so.there other number so.none here stands,
+          so.there,
+          (so.from, so.below),
+          owner_stands S so.there before so.first so.owned_by,
+          λ other number here stands. least so.there other number so.none here stands,
         )
       where
         least : (there other number : ℕ) → ((q : ℕ) → place S before ≤ q → q < there → owner S q before ≡ None) → HasWordAt S before card other → StandsBefore S before number other → there ≤ other

@@ -74,8 +74,11 @@ impl Pass {
             Ok(next) => {
                 self.words
                     .add(codes, &self.symbols, number, at, &card.body)?;
-                self.cards
-                    .push(Placed::at(line, place_of_word(at, &card.body), count_of(&card.body)))?;
+                self.cards.push(Placed::at(
+                    line,
+                    place_of_word(at, &card.body),
+                    count_of(&card.body),
+                ))?;
                 self.place = next;
                 Ok(())
             }

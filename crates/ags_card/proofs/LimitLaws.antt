@@ -137,7 +137,6 @@ equ_has_symbol line card terms is asks =
       | inl comment ↦ let both : body.Equ terms ≡ body.Comment = sym asks ∙ ap (λ (c : Card). c.body) comment.0 in absurd (cc)
       | inr writes ↦ let written = rw asks at writes.written in equ_symbol card.symbol writes.operation writes.fits (gives writes.operation written.0)
     ]
-
   where
     gives : (operation : Operation) → (operation ≡ op.Equ) ⊎ (operation ≡ op.Syn) → gives_value operation ≡ true
     gives operation (inl equ) = rw equ refl

@@ -12,8 +12,8 @@ ghost use Rattle.ags_listing.specs.PlacedListing.{card_lines, further_lines, pla
 ghost use Rattle.ags_places.specs.Limit.{source_limit};
 
 use ags_asm::{Assembled, Placed};
-use ags_outside::{SendError, Sink, send};
 use ags_image::Image;
+use ags_outside::{SendError, Sink, send};
 use ags_text::{decimal7, octal4};
 use ags_word::{LOCATIONS, Word};
 use std::alloc::{AllocError, Global};

@@ -3,8 +3,9 @@
 
 use crate::common::{expect_same, parts_of};
 use ags_asm::{
-    AssembleError, Assembled, Placed, SourceError, SourceKind, assemble, each_card_has_its_definition, each_text_has_a_meaning,
-    source_defines_each_place_once, source_defines_words_of_the_memory, source_means_one_thing,
+    AssembleError, Assembled, Placed, SourceError, SourceKind, assemble,
+    each_card_has_its_definition, each_text_has_a_meaning, source_defines_each_place_once,
+    source_defines_words_of_the_memory, source_means_one_thing,
 };
 use ags_isa::Codes;
 use std::alloc::Global;

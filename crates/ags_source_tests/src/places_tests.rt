@@ -24,7 +24,11 @@ fn placed(rt: &impl Abort, alloc: Global, source: &[u8]) -> (Vec<Placed>, Symbol
         let next = place_card(&mut symbols, place, number, &card);
         assert!(rt; line.start <= 1000 && line.bytes.len() <= 1000);
         let at = place_of_word(place, &card.body);
-        assert!(rt; cards.push(Placed::at(line, at, count_of(&card.body))).is_ok());
+        assert!(rt;
+            cards
+                .push(Placed::at(line, at, count_of(&card.body)))
+                .is_ok()
+        );
         place = next.ok().expect(rt, "a card without a fault");
         if is_end(&card.body) {
             return (cards, symbols);

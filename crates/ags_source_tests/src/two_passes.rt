@@ -97,12 +97,7 @@ fn words_of(
         }
         Body::Dec(numbers) => return decimal_words(rt, alloc, numbers.items()),
         Body::Oct(list) => assert!(rt; words.extend_from_slice(list.items()).is_ok()),
-        Body::Comment
-        | Body::Org(_)
-        | Body::Equ(_)
-        | Body::Bss(_)
-        | Body::Bes(_)
-        | Body::End => {}
+        Body::Comment | Body::Org(_) | Body::Equ(_) | Body::Bss(_) | Body::Bes(_) | Body::End => {}
     }
     Ok(words)
 }

@@ -8,10 +8,9 @@ use Rattle.ags_card.proofs.lists.read_decimals.Goals as goal
 
 pub returns-in_default-clause-fault : goal.returns-in_default-clause-fault
 returns-in_default-clause-fault c =
-    let l = c.loop-number in
-    (
+    let l = c.loop-number in (
       list_none reading l.numbers.items l.rest.now c.split_at.result.0.now c.split_at.result.1.now (list_reading reading [] c.args.text.now) l.invariant.whole (rw c.comma_place.ensures.place at c.split_at.ensures.front)
-      (rw c.comma_place.ensures.place at c.split_at.ensures.back) (cc (c.read.ensures, c.in_default.is)),
+          (rw c.comma_place.ensures.place at c.split_at.ensures.back) (cc (c.read.ensures, c.in_default.is)),
       refl,
     )
 
