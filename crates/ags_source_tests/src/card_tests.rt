@@ -121,7 +121,10 @@ fn word_of(line: &[u8]) -> Option<Word> {
     };
     match &card.body {
         Body::Oct(words) => words.items().first().copied(),
-        Body::Dec(numbers) => numbers.items().first().and_then(ags_decimal::word),
+        Body::Dec(numbers) => match numbers.items() {
+            [first, ..] => ags_decimal::word(first),
+            [] => None,
+        },
         _ => None,
     }
 }

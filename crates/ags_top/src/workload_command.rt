@@ -1,8 +1,8 @@
 //! The command `workload`: the counts of a workload whose certificate is certified, or why it isn't.
 
-ghost use Rattle.std.specs.Prelude.{◌≡◌, IfOk, count_by, is_some, length};
+ghost use Rattle.std.specs.Prelude.{◌≡◌, ℕ, List, Option, IfOk, IfSome, length, map};
 ghost use Rattle.std.specs.String.{string_bytes};
-ghost use Rattle.ags_asm.specs.Source.{card_words, placed_words};
+ghost use Rattle.ags_asm.specs.Source.{card_words, defined, placed_words};
 ghost use Rattle.ags_cert.specs.Cert.{certificate_of};
 ghost use Rattle.ags_domain.specs.Value.{value_meaning};
 ghost use Rattle.ags_outside.specs.Count.{HasCause};
@@ -23,11 +23,25 @@ use ags_places::Placed;
 use ags_program::{ReadPair, Status};
 use std::alloc::{AllocError, Global};
 
-/// How many of these cards have a place.
-fn placed_count(cards: &[Placed]) -> usize
-    ensures { result ≡ count_by (λ card. is_some card.place) cards.now }
+/// How many words a card has.
+fn words_of(card: &Placed) -> u16
+    ensures { (image : List (Option ℕ)) → result ≡ length (defined image card.now) }
 {
-    cards.iter().filter(|card| card.place.is_some()).count()
+    match card.place {
+        Some(_) => card.count,
+        None => 0,
+    }
+}
+
+/// How many words these cards have, where the number has room: those of a source are 4096 at most.
+fn words_among(cards: &[Placed]) -> Option<u64>
+    ensures { IfSome result (λ count. (image : List (Option ℕ)) → count ≡ length (placed_words (map (defined image) cards.now))) }
+{
+    let mut count = 0u64;
+    for card in cards {
+        count = count.checked_add(u64::from(words_of(card)))?;
+    }
+    Some(count)
 }
 
 /// How many cards these are.
@@ -35,13 +49,6 @@ fn card_count(cards: &[Placed]) -> usize
     ensures { result ≡ length cards.now }
 {
     cards.len()
-}
-
-/// How many words an assembled source has.
-fn word_count(made: &Assembled) -> usize
-    ensures { result ≡ length (placed_words (card_words made.now)) }
-{
-    placed_count(&made.cards)
 }
 
 /// The line of a workload that is certified.
@@ -55,7 +62,9 @@ fn workload_line(
     ensures { IfOk result (λ line. string_bytes line ≡ workload_line size (length (card_words made.now)) (length (placed_words (card_words made.now))) rows cases) }
 {
     let cards = card_count(&made.cards);
-    let words = word_count(made);
+    let Some(words) = words_among(&made.cards) else {
+        return Err(AllocError);
+    };
     format!(in alloc;
         "WORKLOAD {size} CARDS {cards} WORDS {words} ROWS {rows} CASES {cases} CERTIFIED\n"
     )
