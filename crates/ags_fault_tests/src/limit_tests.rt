@@ -41,12 +41,15 @@ fn expect_file(
     expect_over(rt, &mut shelf, line, status, text);
 }
 
-/// So many of one byte, a multiple of 512.
+/// So many of one byte.
 fn many(rt: &impl Abort, alloc: Global, byte: u8, count: u32) -> Vec<u8> {
     let piece = [byte; 512];
     let mut bytes = Vec::new(alloc);
     for _ in 0..count / 512 {
         assert!(rt; bytes.extend_from_slice(&piece).is_ok());
+    }
+    for _ in 0..count % 512 {
+        assert!(rt; bytes.push(byte).is_ok());
     }
     bytes
 }
@@ -83,6 +86,29 @@ fn files_have_limits(rt: HostRuntime) {
         Status::LongFile,
         "LONG F 4194304\n",
     );
+}
+
+// A certificate of empty lines behind its first, as long as it may be and one byte longer. Its END is missing.
+#[test]
+fn certificates_have_a_limit(rt: HostRuntime) {
+    let alloc = rt.alloc();
+    let mut file = many(&rt, alloc, b'\n', 0);
+    assert!(&rt; file.extend_from_slice(b"AGSCERT 1\n").is_ok());
+    let lines = many(&rt, alloc, b'\n', 67_108_854);
+    assert!(&rt; file.extend_from_slice(lines.as_slice()).is_ok());
+    let text = "CERTIFICATE LINE 67108856 ERROR 1 BadLine\n";
+    expect_file(&rt, file.as_slice(), "certify S F", Status::BadCert, text);
+    assert!(&rt; file.push(b'\n').is_ok());
+    let text = "LONG F 67108864\n";
+    expect_file(&rt, file.as_slice(), "certify S F", Status::LongFile, text);
+}
+
+// A listing as long as it may be, whose first line is empty.
+#[test]
+fn listings_have_a_limit(rt: HostRuntime) {
+    let file = many(&rt, rt.alloc(), b'\n', 134_217_728);
+    let text = "LISTING LINE 1 ERROR 1 BadLine\n";
+    expect_file(&rt, file.as_slice(), "compare S F", Status::BadText, text);
 }
 
 /// A shelf with the source S, and whose every other file is zeros without an end.
@@ -192,6 +218,35 @@ fn sets_of_words_have_a_limit(rt: HostRuntime) {
     expect_file(&rt, file.as_bytes(), "certify S F", Status::BadCert, text);
     let file = joined(&rt, alloc, SIXTEEN, " 000020\nEND\n");
     let text = "CERTIFICATE LINE 2 ERROR 1 BadLine\n";
+    expect_file(&rt, file.as_bytes(), "certify S F", Status::BadCert, text);
+}
+
+/// A certificate of one row with so many cells.
+fn cells(rt: &impl Abort, alloc: Global, count: u8) -> String {
+    let mut file = joined(rt, alloc, "AGSCERT 1\n", "ROW 4000 A ANY Q ANY X 0 V 0\n");
+    for number in 0..count {
+        let line = format!(in alloc; "AT {number:04o} ANY\n").expect(rt, "memory for a line");
+        add(rt, &mut file, line.as_str());
+    }
+    add(rt, &mut file, "END\n");
+    file
+}
+
+#[test]
+fn cells_of_a_row_have_a_limit(rt: HostRuntime) {
+    let alloc = rt.alloc();
+    let listing = "0000001              ORG /4000\n0000002 4000 704000  DLY /4000\n";
+    let text = joined(&rt, alloc, listing, "CERTIFIED ROWS 1 CASES 1\n");
+    let file = cells(&rt, alloc, 64);
+    expect_file(
+        &rt,
+        file.as_bytes(),
+        "certify S F",
+        Status::Done,
+        text.as_str(),
+    );
+    let file = cells(&rt, alloc, 65);
+    let text = "CERTIFICATE LINE 67 ERROR 8 TooManyAt\n";
     expect_file(&rt, file.as_bytes(), "certify S F", Status::BadCert, text);
 }
 
