@@ -119,6 +119,25 @@ ends 0 certify examples/counter.lem examples/counter_named.cert <<'END'
 CERTIFIED ROWS 4 CASES 8
 END
 
+grep -v '^LINK 0020 10' examples/limiter.cert >"$room/unlinked.cert"
+ends 1 certify examples/limiter.lem "$room/unlinked.cert" <<'END'
+REFUSED 10 NotCovered ROW 3 WORD 464004 X 0 V 0 NEXT 4004
+END
+
+ends 0 certify examples/limiter.lem examples/limiter.cert <<'END'
+CERTIFIED ROWS 8 CASES 8
+END
+
+sed 's/^LINK 0020 10/LINK 0020 9/' examples/limiter.cert >"$room/mislinked.cert"
+ends 1 certify examples/limiter.lem "$room/mislinked.cert" <<'END'
+REFUSED 10 NotCovered ROW 2 WORD 244010 X 0 V 0 NEXT 4002
+END
+
+sed 's/^AGSCERT 2/AGSCERT 1/' examples/limiter.cert >"$room/first.cert"
+ends 8 certify examples/limiter.lem "$room/first.cert" <<'END'
+CERTIFICATE LINE 5 ERROR 1 BadLine
+END
+
 prints 0 guard examples/deck.lem examples/deck.script examples/deck.cert <<'END'
 CERTIFIED ROWS 31 CASES 32
 CELL 0020 001750

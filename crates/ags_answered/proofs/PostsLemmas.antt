@@ -1,7 +1,8 @@
 -- Each case has posts or a stop. Behind the law of the same name is
 --     some_posts    the outcome of a case
-use Rattle.std.proofs.Common.{◌≡◌, ℕ, ◌/◌, ◌%◌, ◌<◌, ◌^◌, Bool, true, false, refl, sym, arith, List}
-use Rattle.std.specs.Prelude.{◌-◌, ◌==◌, nat_eq, Option, Some, None, IfSome, Result, Ok, Err, MatchBool, if◌then◌else◌}
+use Rattle.std.proofs.Common.{◌≡◌, ℕ, ◌/◌, ◌%◌, ◌<◌, ◌^◌, Bool, true, false, refl, sym, arith, List, ℤ, ◌+ℤ◌}
+use Rattle.std.specs.Prelude.{◌-◌, ◌==◌, nat_eq, Option, Some, None, IfSome, Result, Ok, Err, MatchBool, neg_ℤ, if◌then◌else◌}
+use Rattle.ags_word.specs.Word.{val}
 use Rattle.ags_word.specs.Operation.{Operation, sum, difference, negative, size, left_shift, product_high, product_rounded, quotient, long_left_high}
 use Rattle.ags_isa.specs.declared.orders.Order.{Order}
 use Rattle.ags_isa.specs.declared.orders.Order.TheVariants.{Abs, Add, Adz, Als, Axt, Cla, Clz, Com, Dly, Dvp, Inp, Ldq, Lls, Lrs, Mpr, Mpy, Mpz, Out, Sto, Stq, Sub, Suz, Tix, Tmi, Tov, Tra, Tsq}
@@ -14,7 +15,7 @@ use Rattle.ags_ports.specs.Effect.{effective_at}
 use Rattle.ags_ports.specs.Machine.{IsMachine}
 use Rattle.ags_ports.specs.Port.{place_of}
 use Rattle.ags_image.specs.Image.{IsImage, word_at}
-use Rattle.ags_domain.specs.Domain.{Ends, IsPart, IsWithin, is_negative, is_not_negative}
+use Rattle.ags_domain.specs.Domain.{Ends, IsPart, IsWithin, is_negative, is_not_negative, has_value_between}
 use Rattle.ags_domain.specs.Hull.{no_cell}
 use Rattle.ags_domain.specs.Candidates.{sum_candidates, difference_candidates, sign_candidates, left_shift_candidates, product_candidates, long_left_candidates, quotient_candidates}
 use Rattle.ags_domain.specs.Value.{value_meaning, value_ends}
@@ -23,16 +24,18 @@ use Rattle.ags_domain.specs.declared.values.Value.{Value}
 use Rattle.ags_domain.proofs.HullLaws.{AreEnds}
 use Rattle.ags_row.specs.Limit.{cell_limit, input_limit, output_limit, is_named}
 use Rattle.ags_row.specs.Cover.{cell_value}
+use Rattle.ags_row.specs.declared.links.Link.{Link}
 use Rattle.ags_row.specs.declared.posts.Post.{Post}
 use Rattle.ags_posts.specs.Case.{Case, next_of_row, is_erasable}
 use Rattle.ags_posts.specs.Told.{Told, OneWord, These, EveryWord, IsTold}
+use Rattle.ags_posts.specs.Linked.{link_to, link_beside}
 use Rattle.ags_posts.specs.Line.{Line, moves_on, cell_in_case, code_cell, IsPostOf}
-use Rattle.ags_posts.specs.Posts.{Outcome, IsSingle, IsPostWhere, pair_of, IsSplit, HasPort, Stores, Decides, Computes, ComputesWith, IsStored, IsGiven, IsCleared, loads, frees_q, IsPosts, IsPostsOfWord, IsPostsOfCase}
+use Rattle.ags_posts.specs.Posts.{Outcome, IsSingle, IsPostLeft, IsPostLinked, IsPostOfPart, IsPostWhere, pair_of, IsSplit, HasPort, Stores, Decides, Computes, ComputesWith, IsStored, IsGiven, IsCleared, loads, frees_q, unlinks, grows_by, IsPosts, IsPostsOfWord, IsPostsOfCase}
 use Rattle.ags_posts.specs.declared.answers.PostPair.{PostPair}
 use Rattle.ags_posts.specs.declared.answers.Stop.{Stop}
 use Rattle.ags_posts.specs.declared.answers.Stop.TheVariants.{NoOrder, BadPort, FixedWrite, MayOverflow, CellRange, OutputRange}
 use Rattle.ags_answered.proofs.OperationLemmas.{HasAnswer, ends_are, sum_answer, difference_answer, high_answer, rounded_answer, quotient_answer, negative_answer, size_answer, left_answer, long_left_answer, long_right_interval}
-use Rattle.ags_answered.proofs.ToldLemmas.{CanBeTold, some_told, CanBeStored, some_cell, negative_part, rest_part, is_within}
+use Rattle.ags_answered.proofs.ToldLemmas.{CanBeTold, some_told, CanBeStored, some_cell, negative_part, rest_part, part_inside, is_within}
 
 -- ---- what a word was read as
 
@@ -54,7 +57,7 @@ some_decoding table word are = named_by table word are (order_of table (word / 2
 -- ---- lines that can be told
 
 abbrev CanBeLine : Line Value → Type 0
-CanBeLine line = CanBeTold line.a × CanBeTold line.q × CanBeStored line.stored
+CanBeLine line = CanBeTold line.a × CanBeTold line.q × CanBeStored line.stored × CanBeStored line.narrowed
 
 module _ (c : Case Value) (is_machine : IsMachine c.machine) (is_image : IsImage c.image) (word_is : c.word < 2 ^ 18) where
   abbrev HasOutcome : (Outcome Value → Type 0) → Type 0
@@ -76,13 +79,13 @@ module _ (c : Case Value) (is_machine : IsMachine c.machine) (is_image : IsImage
       by false d = is_image.words e
 
   moves_can : CanBeLine (moves_on c)
-  moves_can = (tt, tt, tt)
+  moves_can = (tt, tt, tt, tt)
 
   loads_can : (e : ℕ) → CanBeLine (loads value_meaning c e)
-  loads_can e = (cell_can e, tt, tt)
+  loads_can e = (cell_can e, tt, tt, tt)
 
   frees_can : CanBeLine (frees_q value_meaning c)
-  frees_can = (tt, tt, tt)
+  frees_can = (tt, tt, tt, tt)
 
   -- ---- posts
 
@@ -91,9 +94,10 @@ module _ (c : Case Value) (is_machine : IsMachine c.machine) (is_image : IsImage
       let a = some_told line.a can.0 in
       let q = some_told line.q can.1 in
       let stored = some_cell line.stored can.2 in
-      let code = some_cell (code_cell c) code_can in (
-        record { next = line.next; a = a.0; q = q.0; x = line.x; v0 = line.v0; v1 = line.v1; stored = stored.0; code = code.0 },
-        record { next = refl; a = a.1; q = q.1; x = refl; v0 = refl; v1 = refl; stored = stored.1; code = code.1 },
+      let code = some_cell (code_cell c) code_can in
+      let narrowed = some_cell line.narrowed can.3 in (
+        record { next = line.next; a = a.0; q = q.0; x = line.x; v0 = line.v0; v1 = line.v1; stored = stored.0; code = code.0; narrowed = narrowed.0; link = line.link },
+        record { next = refl; a = a.1; q = q.1; x = refl; v0 = refl; v1 = refl; stored = stored.1; code = code.1; narrowed = narrowed.1; link = refl },
       )
 
   some_pair : (line : Line Value) → CanBeLine line → (pair : PostPair Value) × IsSingle value_meaning c line (Ok pair)
@@ -104,19 +108,39 @@ module _ (c : Case Value) (is_machine : IsMachine c.machine) (is_image : IsImage
   single : (line : Line Value) → CanBeLine line → HasOutcome (IsSingle value_meaning c line)
   single line can = let pair = some_pair line can in (Ok pair.0, pair.1)
 
-  post_where : (chosen : ℕ → Bool) (line : Line Value) → CanBeTold line.q → CanBeStored line.stored
-      → (part : Option Value) → IsPart value_meaning chosen c.row.a part → (post : Option (Post Value)) × IsPostWhere value_meaning c chosen line post
-  post_where chosen line q stored None is = (None, (None, is, refl))
-  post_where chosen line q stored (Some part) is =
-      let post = some_post (record line { a = These part }) (tt, q, stored) in
-      (Some post.0, (Some part, is, post.1))
+  -- a post that may be there
+  abbrev HasPost : (Option (Post Value) → Type 0) → Type 0
+  HasPost follows = (post : Option (Post Value)) × follows post
+
+  post_left : (line : Line Value) → CanBeLine line → (address : ℕ) (left : Option Value) → HasPost (IsPostLeft value_meaning c line address left)
+  post_left line can address None = (None, refl)
+  post_left line can address (Some left) =
+      let post = some_post (record line { narrowed = Some (record { address = address; value = These left }) }) (can.0, can.1, can.2, tt) in
+      (Some post.0, post.1)
+
+  post_linked : (link : Option Link) (ends : Ends) (line : Line Value) → CanBeLine line → HasPost (IsPostLinked value_meaning c link ends line)
+  post_linked None ends line can = let post = some_post line can in (Some post.0, post.1)
+  post_linked (Some link) ends line can =
+      let m = some_told (cell_in_case c link.address) (cell_can link.address) in
+      let left = part_inside (val ends.least +ℤ link.offset) (val ends.greatest +ℤ link.offset) m.0 in
+      let post = post_left line can link.address left.0 in
+      (post.0, (m.0, m.1, left.0, left.1, post.1))
+
+  post_of_part : (line : Line Value) → CanBeLine line → (part : Option Value) → HasPost (IsPostOfPart value_meaning c line part)
+  post_of_part line can None = (None, refl)
+  post_of_part line can (Some part) =
+      post_linked c.row.link (value_ends part) (record line { a = These part }) (tt, can.1, can.2, can.3)
+
+  post_where : (chosen : ℕ → Bool) (line : Line Value) → CanBeLine line → (part : Option Value) → IsPart value_meaning chosen c.row.a part
+      → HasPost (IsPostWhere value_meaning c chosen line)
+  post_where chosen line can part is = let post = post_of_part line can part in (post.0, (part, is, post.1))
 
   splits : (taken other : Line Value) → CanBeLine taken → CanBeLine other → HasOutcome (IsSplit value_meaning c taken other)
   splits taken other taken_can other_can =
       let low = negative_part c.row.a in
       let high = rest_part c.row.a in
-      let first = post_where is_negative taken taken_can.1 taken_can.2 low.0 low.1 in
-      let second = post_where is_not_negative other other_can.1 other_can.2 high.0 high.1 in
+      let first = post_where is_negative taken taken_can low.0 low.1 in
+      let second = post_where is_not_negative other other_can high.0 high.1 in
       (Ok (pair_of value_meaning c first.0 second.0), (first.0, second.0, first.1, second.1, refl))
 
   -- ---- stops
@@ -139,9 +163,9 @@ module _ (c : Case Value) (is_machine : IsMachine c.machine) (is_image : IsImage
 
   decides : (line : Line Value) (follows : Line Value → Outcome Value → Type 0) → CanBeLine line → GoesOn follows
       → (answer : Result Value Operands) → HasOutcome (Decides value_meaning c line follows answer)
-  decides line follows can goes (Ok d) = goes (record line { a = These d }) (tt, can.1, can.2)
-  decides line follows can goes (Err o) = matched (is_named c.limits c.row.location) (follows (record line { a = EveryWord; v1 = true })) (MayOverflow o)
-      (goes (record line { a = EveryWord; v1 = true }) (tt, can.1, can.2))
+  decides line follows can goes (Ok d) = goes (record line { a = These d }) (tt, can.1, can.2, can.3)
+  decides line follows can goes (Err o) = matched (is_named c.limits c.row.location) (follows (record line { a = EveryWord; v1 = true; link = None })) (MayOverflow o)
+      (goes (record line { a = EveryWord; v1 = true; link = None }) (tt, can.1, can.2, can.3))
 
   computes : (operation : Operation) (candidates : Ends → Ends → List Operands) (m_ends : Ends) (line : Line Value)
       (follows : Line Value → Outcome Value → Type 0) → CanBeLine line → GoesOn follows → HasAnswer operation candidates (value_ends c.row.a) m_ends
@@ -151,12 +175,12 @@ module _ (c : Case Value) (is_machine : IsMachine c.machine) (is_image : IsImage
       (decided.0, (found.0, found.1, decided.1))
 
   computes_with : (operation : Operation) (candidates : Ends → Ends → List Operands)
-      → ((a m : Ends) → AreEnds a → AreEnds m → HasAnswer operation candidates a m) → (e : ℕ) (line : Line Value)
-      (follows : Line Value → Outcome Value → Type 0) → CanBeLine line → GoesOn follows
-      → HasOutcome (ComputesWith value_meaning c operation candidates e line follows)
-  computes_with operation candidates answers e line follows can goes =
+      → ((a m : Ends) → AreEnds a → AreEnds m → HasAnswer operation candidates a m) → (e : ℕ) (line_with : Ends → Line Value)
+      (follows : Line Value → Outcome Value → Type 0) → ((ends : Ends) → CanBeLine (line_with ends)) → GoesOn follows
+      → HasOutcome (ComputesWith value_meaning c operation candidates e line_with follows)
+  computes_with operation candidates answers e line_with follows can goes =
       let m = some_told (cell_in_case c e) (cell_can e) in
-      let computed = computes operation candidates (value_ends m.0) line follows can goes
+      let computed = computes operation candidates (value_ends m.0) (line_with (value_ends m.0)) follows (can (value_ends m.0)) goes
       (answers (value_ends c.row.a) (value_ends m.0) (ends_are c.row.a) (ends_are m.0)) in
       (computed.0, (m.0, m.1, computed.1))
 
@@ -166,7 +190,7 @@ module _ (c : Case Value) (is_machine : IsMachine c.machine) (is_image : IsImage
     where
       by : Dec (IsWithin value_meaning value.0 (cell_limit c.limits e)) → HasOutcome (IsStored value_meaning c e told line)
       by (yes within) =
-          let pair = some_pair (record line { stored = Some (record { address = e; value = told }) }) (can.0, can.1, told_can) in
+          let pair = some_pair (record line { stored = Some (record { address = e; value = told }) }) (can.0, can.1, told_can, can.3) in
           (Ok pair.0, (value.0, value.1, within, pair.1))
       by (no out) = (Err (CellRange e value.0), (value.0, value.1, out, refl))
 
@@ -194,44 +218,46 @@ module _ (c : Case Value) (is_machine : IsMachine c.machine) (is_image : IsImage
   tsq_below = order_word-below c.machine.codes is_machine.codes Tra false (next_of_row c.row) (omega arith)
 
   of_order : (order : Order) (e y : ℕ) → HasOutcome (IsPosts value_meaning c order e y)
-  of_order Cla e y = single (loads value_meaning c e) (loads_can e)
-  of_order Ldq e y = single (record (moves_on c) { q = cell_in_case c e }) (tt, cell_can e, tt)
-  of_order Sto e y = stores e (IsStored value_meaning c e (These c.row.a) (moves_on c)) (stored e (These c.row.a) (moves_on c) tt moves_can)
-  of_order Stq e y = stores e (IsStored value_meaning c e (These c.row.q) (moves_on c)) (stored e (These c.row.q) (moves_on c) tt moves_can)
-  of_order Add e y = computes_with sum sum_candidates sum_answer e (moves_on c) (IsSingle value_meaning c) moves_can single
-  of_order Sub e y = computes_with difference difference_candidates difference_answer e (moves_on c) (IsSingle value_meaning c) moves_can single
-  of_order Com e y = computes negative sign_candidates no_cell (moves_on c) (IsSingle value_meaning c) moves_can single
+  of_order Cla e y = single (record (loads value_meaning c e) { link = link_to e }) (loads_can e)
+  of_order Ldq e y = single (record (moves_on c) { q = cell_in_case c e }) (tt, cell_can e, tt, tt)
+  of_order Sto e y = stores e (IsStored value_meaning c e (These c.row.a) (record (moves_on c) { link = link_to e }))
+      (stored e (These c.row.a) (record (moves_on c) { link = link_to e }) tt moves_can)
+  of_order Stq e y = stores e (IsStored value_meaning c e (These c.row.q) (record (moves_on c) { link = link_beside c.row.link e }))
+      (stored e (These c.row.q) (record (moves_on c) { link = link_beside c.row.link e }) tt moves_can)
+  of_order Add e y = computes_with sum sum_candidates sum_answer e (grows_by value_meaning c (λ n. n)) (IsSingle value_meaning c) (λ ends. moves_can) single
+  of_order Sub e y = computes_with difference difference_candidates difference_answer e (grows_by value_meaning c neg_ℤ) (IsSingle value_meaning c) (λ ends. moves_can) single
+  of_order Com e y = computes negative sign_candidates no_cell (unlinks value_meaning c) (IsSingle value_meaning c) moves_can single
       (negative_answer (value_ends c.row.a) (ends_are c.row.a))
-  of_order Abs e y = computes size sign_candidates no_cell (moves_on c) (IsSingle value_meaning c) moves_can single
+  of_order Abs e y = computes size sign_candidates no_cell (unlinks value_meaning c) (IsSingle value_meaning c) moves_can single
       (size_answer (value_ends c.row.a) (ends_are c.row.a))
-  of_order Als e y = computes (left_shift (y % 64)) left_shift_candidates no_cell (moves_on c) (IsSingle value_meaning c) moves_can single
+  of_order Als e y = computes (left_shift (y % 64)) left_shift_candidates no_cell (unlinks value_meaning c) (IsSingle value_meaning c) moves_can single
       (left_answer (value_ends c.row.a) (ends_are c.row.a) (y % 64))
-  of_order Dvp e y = computes_with quotient quotient_candidates quotient_answer e (moves_on c) (IsSingle value_meaning c) moves_can single
-  of_order Mpy e y = computes_with product_high product_candidates high_answer e (frees_q value_meaning c) (IsSingle value_meaning c) frees_can single
-  of_order Mpr e y = computes_with product_rounded product_candidates rounded_answer e (frees_q value_meaning c) (IsSingle value_meaning c) frees_can single
+  of_order Dvp e y = computes_with quotient quotient_candidates quotient_answer e (λ ends. unlinks value_meaning c) (IsSingle value_meaning c) (λ ends. moves_can) single
+  of_order Mpy e y = computes_with product_high product_candidates high_answer e (λ ends. frees_q value_meaning c) (IsSingle value_meaning c) (λ ends. frees_can) single
+  of_order Mpr e y = computes_with product_rounded product_candidates rounded_answer e (λ ends. frees_q value_meaning c) (IsSingle value_meaning c) (λ ends. frees_can) single
   of_order Lls e y = computes (long_left_high (y % 64)) long_left_candidates no_cell (frees_q value_meaning c) (IsSingle value_meaning c) frees_can single
       (long_left_answer (value_ends c.row.a) (ends_are c.row.a) (y % 64))
   of_order Lrs e y =
       let d = long_right_interval (value_ends c.row.a) (ends_are c.row.a) (y % 64) in
-      let found = single (record (frees_q value_meaning c) { a = These d.0 }) (tt, tt, tt) in
+      let found = single (record (frees_q value_meaning c) { a = These d.0 }) (tt, tt, tt, tt) in
       (found.0, (d.0, d.1, found.1))
   of_order Clz e y = stores e (IsCleared value_meaning c e (loads value_meaning c e)) (cleared e (loads value_meaning c e) (loads_can e))
-  of_order Adz e y = stores e (ComputesWith value_meaning c sum sum_candidates e (moves_on c) (IsCleared value_meaning c e))
-      (computes_with sum sum_candidates sum_answer e (moves_on c) (IsCleared value_meaning c e) moves_can (cleared e))
-  of_order Suz e y = stores e (ComputesWith value_meaning c difference difference_candidates e (moves_on c) (IsCleared value_meaning c e))
-      (computes_with difference difference_candidates difference_answer e (moves_on c) (IsCleared value_meaning c e) moves_can (cleared e))
-  of_order Mpz e y = stores e (ComputesWith value_meaning c product_rounded product_candidates e (frees_q value_meaning c) (IsCleared value_meaning c e))
-      (computes_with product_rounded product_candidates rounded_answer e (frees_q value_meaning c) (IsCleared value_meaning c e) frees_can (cleared e))
-  of_order Tra e y = single (record (moves_on c) { next = e }) (tt, tt, tt)
-  of_order Tmi e y = splits (record (moves_on c) { next = e }) (moves_on c) (tt, tt, tt) moves_can
-  of_order Tov e y = single_if c.indicator (record (moves_on c) { next = e; v0 = true; v1 = false }) (moves_on c) (tt, tt, tt) moves_can
-  of_order Tix e y = single_if (nat_eq c.index 0) (moves_on c) (record (moves_on c) { next = y; x = c.index - 1 }) moves_can (tt, tt, tt)
-  of_order Axt e y = single (record (moves_on c) { x = y % 8 }) (tt, tt, tt)
-  of_order Tsq e y = single (record (moves_on c) { next = e; q = OneWord (order_word c.machine.codes Tra false (next_of_row c.row)) }) (tt, tsq_below, tt)
-  of_order Inp e y = with_port (place_of c.machine.ports.inputs y) (IsSingle value_meaning c (record (moves_on c) { a = These (input_limit c.limits y) }))
-      (single (record (moves_on c) { a = These (input_limit c.limits y) }) (tt, tt, tt))
+  of_order Adz e y = stores e (ComputesWith value_meaning c sum sum_candidates e (λ ends. unlinks value_meaning c) (IsCleared value_meaning c e))
+      (computes_with sum sum_candidates sum_answer e (λ ends. unlinks value_meaning c) (IsCleared value_meaning c e) (λ ends. moves_can) (cleared e))
+  of_order Suz e y = stores e (ComputesWith value_meaning c difference difference_candidates e (λ ends. unlinks value_meaning c) (IsCleared value_meaning c e))
+      (computes_with difference difference_candidates difference_answer e (λ ends. unlinks value_meaning c) (IsCleared value_meaning c e) (λ ends. moves_can) (cleared e))
+  of_order Mpz e y = stores e (ComputesWith value_meaning c product_rounded product_candidates e (λ ends. frees_q value_meaning c) (IsCleared value_meaning c e))
+      (computes_with product_rounded product_candidates rounded_answer e (λ ends. frees_q value_meaning c) (IsCleared value_meaning c e) (λ ends. frees_can) (cleared e))
+  of_order Tra e y = single (record (moves_on c) { next = e }) (tt, tt, tt, tt)
+  of_order Tmi e y = splits (record (moves_on c) { next = e }) (moves_on c) (tt, tt, tt, tt) moves_can
+  of_order Tov e y = single_if c.indicator (record (moves_on c) { next = e; v0 = true; v1 = false }) (moves_on c) (tt, tt, tt, tt) moves_can
+  of_order Tix e y = single_if (nat_eq c.index 0) (moves_on c) (record (moves_on c) { next = y; x = c.index - 1 }) moves_can (tt, tt, tt, tt)
+  of_order Axt e y = single (record (moves_on c) { x = y % 8 }) (tt, tt, tt, tt)
+  of_order Tsq e y = single (record (moves_on c) { next = e; q = OneWord (order_word c.machine.codes Tra false (next_of_row c.row)) }) (tt, tsq_below, tt, tt)
+  of_order Inp e y = with_port (place_of c.machine.ports.inputs y) (IsSingle value_meaning c (record (unlinks value_meaning c) { a = These (input_limit c.limits y) }))
+      (single (record (unlinks value_meaning c) { a = These (input_limit c.limits y) }) (tt, tt, tt, tt))
   of_order Out e y = with_port (place_of c.machine.ports.outputs y) (IsGiven value_meaning c y (moves_on c)) (given y (moves_on c) moves_can)
-  of_order Dly e y = single (record (moves_on c) { next = y }) (tt, tt, tt)
+  of_order Dly e y = single (record (moves_on c) { next = y }) (tt, tt, tt, tt)
 
   of_word : (named : Option Decoded) → HasOutcome (IsPostsOfWord value_meaning c named)
   of_word (Some decoded) =

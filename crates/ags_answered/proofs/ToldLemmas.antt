@@ -1,26 +1,28 @@
 -- Each set that a line tells is there, each set has its parts by sign or none, and inclusion is decided.
-use Rattle.std.proofs.Common.{◌≡◌, ℕ, zero, suc, ◌<◌, ◌-◌, ◌^◌, Bool, true, false, refl, sym, ap, subst, ◌∙◌, ⊎_elim, arith, List, [], ◌∷◌, length, pos}
-use Rattle.std.specs.Prelude.{◌&&◌, ◌||◌, eqb, int_lt, Option, Some, None, ⊤}
+use Rattle.std.proofs.Common.{◌≡◌, ℕ, zero, suc, ◌<◌, ◌-◌, ◌^◌, Bool, true, false, refl, sym, ap, subst, ◌∙◌, ⊎_elim, arith, List, [], ◌∷◌, length, pos, negsuc, ℤ, ◌≤ℤ◌}
+use Rattle.std.specs.Prelude.{◌&&◌, ◌||◌, eqb, Option, Some, None, ⊤}
+use Rattle.std.specs.Int.{int_max, int_min}
+use Rattle.std.specs.Int.RustNames.{int_le}
 use Rattle.std.specs.List.{filter}
 use Rattle.std.proofs.lemmas.Int.{ints}
 use Rattle.std.proofs.lemmas.Bool.{cases_eq}
-use Rattle.ags_word.specs.Word.{val}
+use Rattle.ags_word.specs.Word.{val, wrap, fits}
+use Rattle.ags_word.proofs.WordLaws.{val_least, val_most, val-wrap, wrap_below, fits_in}
 use Rattle.ags_domain.specs.LowBits.{all_ones}
 use Rattle.ags_domain.specs.WordSet.{ascends_from, lists}
-use Rattle.ags_domain.specs.Domain.{Ends, Ranged, IsAlone, IsPart, IsWithin, is_negative, is_not_negative}
-use Rattle.ags_domain.specs.Range.{range_ends, lies_between, lesser, greater, ends_of}
+use Rattle.ags_domain.specs.Domain.{Ends, Ranged, IsAlone, IsPart, IsWithin, is_negative, is_not_negative, has_value_between}
+use Rattle.ags_domain.specs.Range.{range_meaning, IsRangeOf}
 use Rattle.ags_domain.specs.Value.{value_meaning}
 use Rattle.ags_domain.specs.ListLaws.{ascends_cons, ascends_filter, length_filter}
-use Rattle.ags_domain.specs.MeaningLaws.{lies_from, lies_to}
 use Rattle.ags_domain.specs.declared.ranges.Range.{Range}
 use Rattle.ags_domain.specs.declared.word_sets.WordSet.{WordSet}
 use Rattle.ags_domain.specs.declared.values.Value.{Value}
 use Rattle.ags_domain.specs.declared.values.Value.TheVariants.{Range as ByEnds, Words}
-use Rattle.ags_domain.proofs.PartLaws.{first_last, full, negative_ordered, negative_lies, rest_ordered, rest_lies}
+use Rattle.ags_domain.proofs.PartLaws.{first_last, full, part_as, part_between, between_negative, between_rest}
 use Rattle.ags_domain.proofs.ValueLaws.{full_value, words_part, no_words_part}
 use Rattle.ags_row.specs.declared.ats.At.{At}
 use Rattle.ags_posts.specs.Told.{Told, OneWord, These, EveryWord, IsTold, Store, AreCellsTold}
-use Rattle.ags_answered.proofs.RangeLemmas.{some_range, some_set, lesser_word, greater_word}
+use Rattle.ags_answered.proofs.RangeLemmas.{some_range, some_set}
 
 -- ---- one word, and all words
 
@@ -83,36 +85,59 @@ part_of_set chosen set = by (filter chosen set.list) refl
         let part = some_set (filter chosen set.list) (ascends_filter chosen 0 set.list set.ascending) (omega arith) (omega arith) in
         (Some (Words part.0), words_part chosen set part.0 part.1)
 
-abbrev minus_one : ℕ
-minus_one = 2 ^ 18 - 1
+module _ (r : Range) (least greatest : ℤ) where
+  abbrev from : ℤ
+  from = int_max least (val r.least)
 
-part_of_range : (chosen : ℕ → Bool) (r part : Range) (ends : Ends) → range_ends part ≡ ends
-    → ((w : ℕ) → lies_between ends w ≡ (lies_between (range_ends r) w && chosen w)) → HasPart chosen (ByEnds r)
-part_of_range chosen r part ends ends_are just = (Some (ByEnds part), (refl {a = Ranged}, λ w word. ap (λ e. lies_between e w) ends_are ∙ just w))
+  abbrev to : ℤ
+  to = int_min greatest (val r.greatest)
 
-negative_of : (r : Range) (b : Bool) → int_lt (val r.least) (pos 0) ≡ b → HasPart is_negative (ByEnds r)
-negative_of r true is =
-    let last = lesser r.greatest minus_one in
-    let part = some_range r.least last r.least_word (lesser_word r.greatest minus_one r.greatest_word (omega arith))
-    (negative_ordered r.least r.greatest r.ordered (grind (arith, ints))) in
-    part_of_range is_negative r part.0 (ends_of r.least last) part.1 (negative_lies r.least r.greatest)
-negative_of r false is = (None, λ w word held. let from = lies_from (range_ends r) w held in grind (arith, ints))
+  least_from : val r.least ≤ℤ from
+  least_from = grind (arith, ints)
 
-rest_of : (r : Range) (b : Bool) → int_lt (val r.greatest) (pos 0) ≡ b → HasPart is_not_negative (ByEnds r)
-rest_of r false is =
-    let first = greater r.least 0 in
-    let part = some_range first r.greatest (greater_word r.least 0 r.least_word (omega arith)) r.greatest_word
-    (rest_ordered r.least r.greatest r.ordered (grind (arith, ints))) in
-    part_of_range is_not_negative r part.0 (ends_of first r.greatest) part.1 (rest_lies r.least r.greatest)
-rest_of r true is = (None, λ w word held. let to = lies_to (range_ends r) w held in grind (arith, ints))
+  to_greatest : to ≤ℤ val r.greatest
+  to_greatest = grind (arith, ints)
+
+  ends_fit : from ≤ℤ to → (fits from ≡ true) × (fits to ≡ true)
+  ends_fit ordered =
+      let low = least_from in
+      let high = to_greatest in
+      let least_is = val_least r.least r.least_word in
+      let most_is = val_most r.greatest r.greatest_word in
+      (fits_in from (omega (arith, ints)) (omega (arith, ints)), fits_in to (omega (arith, ints)) (omega (arith, ints)))
+
+  range_from : (b : Bool) → int_le from to ≡ b → (part : Option Range) × IsRangeOf from to part
+  range_from true is =
+      let ordered : from ≤ℤ to = grind (arith, ints, is) in
+      let fit = ends_fit ordered in
+      let low : val (wrap from) ≡ from = val-wrap from fit.0 in
+      let high : val (wrap to) ≡ to = val-wrap to fit.1 in
+      let range = some_range (wrap from) (wrap to) (wrap_below from) (wrap_below to) (omega (arith, ints)) in
+      (Some range.0, (fit.0, fit.1, ordered, range.1))
+  range_from false is = (None, λ from_fits to_fits. grind (arith, ints, is))
+
+  part_of_range : HasPart (has_value_between least greatest) (ByEnds r)
+  part_of_range =
+      let range = range_from (int_le from to) refl in
+      by range.0 (part_between r least greatest from to refl refl range.0 range.1)
+    where
+      by : (part : Option Range) → IsPart range_meaning (has_value_between least greatest) r part → HasPart (has_value_between least greatest) (ByEnds r)
+      by None is = (None, is)
+      by (Some part) is = (Some (ByEnds part), (refl {a = Ranged}, is.1))
+
+-- each set has the part of its words whose value lies between two numbers, or none
+pub part_inside : (least greatest : ℤ) (d : Value) → HasPart (has_value_between least greatest) d
+part_inside least greatest (ByEnds r) = part_of_range r least greatest
+part_inside least greatest (Words set) = part_of_set (has_value_between least greatest) set
+
+part_by : (p q : ℕ → Bool) (d : Value) → ((w : ℕ) → w < 2 ^ 18 → p w ≡ q w) → HasPart p d → HasPart q d
+part_by p q d same part = (part.0, part_as value_meaning p q same d part.0 part.1)
 
 pub negative_part : (d : Value) → HasPart is_negative d
-negative_part (ByEnds r) = negative_of r (int_lt (val r.least) (pos 0)) refl
-negative_part (Words set) = part_of_set is_negative set
+negative_part d = part_by (has_value_between (negsuc 131071) (negsuc 0)) is_negative d between_negative (part_inside (negsuc 131071) (negsuc 0) d)
 
 pub rest_part : (d : Value) → HasPart is_not_negative d
-rest_part (ByEnds r) = rest_of r (int_lt (val r.greatest) (pos 0)) refl
-rest_part (Words set) = part_of_set is_not_negative set
+rest_part d = part_by (has_value_between (pos 0) (pos 131071)) is_not_negative d between_rest (part_inside (pos 0) (pos 131071) d)
 
 -- ---- inclusion
 

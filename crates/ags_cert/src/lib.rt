@@ -5,7 +5,8 @@
 #![tactic(auto)]
 
 pub use ags_certread::{
-    CERT_LIMIT, CertReader, read, read_certificates_suit, text_has_one_meaning,
+    CERT_LIMIT, CertReader, first_version_has_no_links, read, read_certificates_suit,
+    text_has_one_meaning,
 };
 pub use ags_certsend::{send_cert, sent_certificate_reads_back, sent_lines_are_read};
 pub use ags_certtext::{CertError, CertKind};

@@ -22,6 +22,7 @@ fn row(rt: &impl Abort, alloc: Global, location: u16) -> Row<Value> {
         x: [true, false, false, false, false, false, false, false],
         v: [true, false],
         at,
+        link: None,
     })
     .expect(rt, "the parts of a row")
 }

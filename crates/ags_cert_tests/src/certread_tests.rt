@@ -6,7 +6,7 @@ use ags_certtext::{CertError, CertKind};
 use ags_certtype::Cert;
 use ags_domain::{Range, Value};
 use ags_ports::Ports;
-use ags_row::Row;
+use ags_row::{Link, Row};
 use std::alloc::Global;
 use std::process::Abort;
 
@@ -71,13 +71,52 @@ fn a_certificate_is_read(rt: HostRuntime) {
     }
 }
 
+/// A certificate of version 2 whose rows have a link before, between and behind their cells, and none.
+const LINKED: &[u8] = b"AGSCERT 2\n\
+    ROW 4000 A ANY Q ANY X 0 V 0\nLINK 0020 10\nAT 0017 RANGE 3 3\nAT 0020 RANGE 1 2\n\
+    ROW 4001 A ANY Q ANY X 0 V 0\nAT 0020 RANGE 1 2\nLINK 3777 -262143\nAT 0017 RANGE 3 3\n\
+    ROW 4002 A ANY Q ANY X 0 V 0\nAT 0017 RANGE 3 3\nAT 0020 RANGE 1 2\nLINK 0000 262143\n\
+    ROW 4003 A ANY Q ANY X 0 V 0\nAT 0017 RANGE 3 3\nAT 0020 RANGE 1 2\n\
+    END\n";
+
+/// The links of the rows of `LINKED`.
+const LINKS: [Option<Link>; 4] = [
+    Some(Link {
+        address: 0o20,
+        offset: 10,
+    }),
+    Some(Link {
+        address: 0o3777,
+        offset: -262_143,
+    }),
+    Some(Link {
+        address: 0,
+        offset: 262_143,
+    }),
+    None,
+];
+
+#[test]
+fn links_are_read_among_the_cells_of_their_rows(rt: HostRuntime) {
+    let cert = reading(&rt, rt.alloc(), LINKED).expect(&rt, "a certificate");
+    let rows = cert.rows();
+    assert!(&rt; rows.len() == LINKS.len());
+    for number in 0..LINKS.len() {
+        let row = &rows[number];
+        expect_same(&rt, &(row.link(), row.at().len()), &(LINKS[number], 2));
+    }
+}
+
 /// Texts, each with the line and the kind of its first fault.
-const FAULTS: [(&[u8], u32, CertKind); 24] = [
+const FAULTS: [(&[u8], u32, CertKind); 36] = [
     // a text opens, and has rows and an end
     (b"", 1, CertKind::BadLine),
     (b"AGSCERT 1\n", 2, CertKind::BadLine),
     (b"START 4000\nEND\n", 1, CertKind::BadLine),
-    (b"AGSCERT 2\nEND\n", 1, CertKind::Version),
+    (b"AGSCERT 0\nEND\n", 1, CertKind::Version),
+    (b"AGSCERT 003\nEND\n", 1, CertKind::Version),
+    (b"AGSCERT 02\nEND\n", 1, CertKind::BadLine),
+    (b"AGSCERT 2\nEND\n", 2, CertKind::NoRows),
     (b"AGSCERT 1\nEND\n", 2, CertKind::NoRows),
     // kinds stand in order
     (
@@ -98,6 +137,45 @@ const FAULTS: [(&[u8], u32, CertKind); 24] = [
     ),
     (
         b"AGSCERT 1\nROW 4000 A ANY Q ANY X 0 V 0\nEND\nEND\n",
+        4,
+        CertKind::BadLine,
+    ),
+    // a link stands in version 2, behind a row
+    (
+        b"AGSCERT 1\nROW 4000 A ANY Q ANY X 0 V 0\nLINK 0020 0\n",
+        3,
+        CertKind::BadLine,
+    ),
+    (b"AGSCERT 2\nLINK 0020 0\n", 2, CertKind::BadLine),
+    (b"AGSCERT 2\nMAY 4000\nLINK 0020 0\n", 3, CertKind::BadLine),
+    (
+        b"AGSCERT 2\nROW 4000 A ANY Q ANY X 0 V 0\nLINK 4000 0\n",
+        3,
+        CertKind::BadLine,
+    ),
+    (
+        b"AGSCERT 2\nROW 4000 A ANY Q ANY X 0 V 0\nLINK 0020 262144\n",
+        3,
+        CertKind::BadLine,
+    ),
+    (
+        b"AGSCERT 2\nROW 4000 A ANY Q ANY X 0 V 0\nEND\nLINK 0020 0\n",
+        4,
+        CertKind::BadLine,
+    ),
+    // a row has one
+    (
+        b"AGSCERT 2\nROW 4000 A ANY Q ANY X 0 V 0\nLINK 0020 0\nLINK 0021 0\n",
+        4,
+        CertKind::Twice,
+    ),
+    (
+        b"AGSCERT 2\nROW 4000 A ANY Q ANY X 0 V 0\nLINK 0020 0\nAT 0017 ANY\nLINK 0020 0\n",
+        5,
+        CertKind::Twice,
+    ),
+    (
+        b"AGSCERT 2\nROW 4000 A ANY Q ANY X 0 V 0\nLINK 0020 0\nLINK 4000 0\n",
         4,
         CertKind::BadLine,
     ),

@@ -50,6 +50,39 @@ const TWO_SETS: &[u8] = b"AGSCERT 1\nSTART 4000\n\
     777770 777771 777772 777773 777774 777775 777776 777777 X 01234567 V 01\n\
     END\n";
 
+/// A certificate with links as it is sent: the rows of a limiter, and one with a cell and a link.
+const LIMITER: &[u8] = b"AGSCERT 2\nSTART 4000\n\
+    CELL 0020 RANGE 0 10\n\
+    ROW 4000 A ANY Q ANY X 0 V 0\n\
+    ROW 4001 A RANGE 0 10 Q ANY X 0 V 0\n\
+    LINK 0020 0\n\
+    ROW 4002 A RANGE -10 0 Q ANY X 0 V 0\n\
+    LINK 0020 10\n\
+    ROW 4003 A ANY Q ANY X 0 V 0\n\
+    ROW 4004 A ANY Q ANY X 0 V 0\n\
+    AT 0020 RANGE 0 9\n\
+    ROW 4005 A RANGE 0 9 Q ANY X 0 V 0\n\
+    ROW 4006 A RANGE 1 10 Q ANY X 0 V 0\n\
+    AT 0017 ANY\n\
+    AT 0020 RANGE 0 9\n\
+    LINK 0020 -262143\n\
+    ROW 4007 A ANY Q ANY X 0 V 0\n\
+    END\n";
+
+/// A text whose cells and link stand in another order than they are sent.
+const UNSORTED: &[u8] =
+    b"AGSCERT 2\nROW 4000 A ANY Q ANY X 0 V 0\nLINK 0020 -3\nAT 0021 ANY\nAT 0017 ANY\nEND\n";
+
+/// `UNSORTED` as it is sent.
+const SORTED: &[u8] =
+    b"AGSCERT 2\nSTART 4000\nROW 4000 A ANY Q ANY X 0 V 0\nAT 0017 ANY\nAT 0021 ANY\nLINK 0020 -3\nEND\n";
+
+/// A text of version 2 without a link.
+const UNLINKED: &[u8] = b"AGSCERT 2\nROW 4000 A ANY Q ANY X 0 V 0\nEND\n";
+
+/// `UNLINKED` as it is sent.
+const PLAIN: &[u8] = b"AGSCERT 1\nSTART 4000\nROW 4000 A ANY Q ANY X 0 V 0\nEND\n";
+
 /// The value that is a set of some words, by their numbers.
 fn words(rt: &impl Abort, alloc: Global, numbers: &[u32]) -> Value {
     let mut list = Vec::new(alloc);
@@ -82,6 +115,7 @@ fn row(rt: &impl Abort, alloc: Global, location: u16, in_q: bool, in_cell: bool)
         x: [true, false, false, false, false, false, false, false],
         v: [true, false],
         at,
+        link: None,
     })
     .expect(rt, "the parts of a row")
 }
@@ -159,6 +193,7 @@ fn first_row(rt: &impl Abort, alloc: Global) -> Row<Value> {
         x: [true, true, true, false, false, false, false, true],
         v: [true, true],
         at,
+        link: None,
     })
     .expect(rt, "the parts of a row")
 }
@@ -172,6 +207,7 @@ fn second_row(rt: &impl Abort, alloc: Global) -> Row<Value> {
         x: [false, false, false, false, false, true, false, false],
         v: [false, true],
         at: Vec::new(alloc),
+        link: None,
     })
     .expect(rt, "the parts of a row")
 }
@@ -203,6 +239,7 @@ fn two_sets(rt: &impl Abort, alloc: Global) -> Cert {
         x: [true; 8],
         v: [true, true],
         at: Vec::new(alloc),
+        link: None,
     })
     .expect(rt, "the parts of a row");
     let mut rows = Vec::new(alloc);
@@ -226,20 +263,23 @@ fn certificates_are_sent(rt: HostRuntime) {
     expect_sent(&rt, alloc, &two_sets(&rt, alloc), 10_000, TWO_SETS);
 }
 
-/// Reads a text, and expects that the certificate is sent as that very text.
-fn expect_sent_again(rt: &impl Abort, alloc: Global, text: &[u8]) {
+/// Reads a text, and expects that the certificate is sent as another.
+fn expect_sent_as(rt: &impl Abort, alloc: Global, text: &[u8], sent: &[u8]) {
     assert!(rt; text.len() <= CERT_LIMIT);
     let Ok(cert) = read(alloc, text, &Ports::standard()) else {
         panic!(rt; "the text is no certificate");
     };
-    expect_sent(rt, alloc, &cert, 10_000, text);
+    expect_sent(rt, alloc, &cert, 10_000, sent);
 }
 
 #[test]
 fn sent_texts_read_back(rt: HostRuntime) {
     let alloc = rt.alloc();
-    expect_sent_again(&rt, alloc, RETURN_WORD);
-    expect_sent_again(&rt, alloc, TWO_SETS);
+    expect_sent_as(&rt, alloc, RETURN_WORD, RETURN_WORD);
+    expect_sent_as(&rt, alloc, TWO_SETS, TWO_SETS);
+    expect_sent_as(&rt, alloc, LIMITER, LIMITER);
+    expect_sent_as(&rt, alloc, UNSORTED, SORTED);
+    expect_sent_as(&rt, alloc, UNLINKED, PLAIN);
 }
 
 /// A sink that tells nothing, takes each piece whole, and fails at one of its puts.

@@ -6,6 +6,7 @@ use ags_certtext::{
 };
 use ags_domain::{Domain, Range, Value, WordSet};
 use ags_frame::{Line, Opening, read_line};
+use ags_row::Link;
 use ags_word::Word;
 use std::process::Abort;
 
@@ -192,8 +193,23 @@ fn rows_are_read(rt: HostRuntime) {
     );
 }
 
+/// Expects the link of a line.
+fn expect_link(rt: &impl Abort, line: &[u8], address: u16, offset: i32) {
+    expect_statement(rt, line, Statement::Linked(Link { address, offset }));
+}
+
+#[test]
+fn links_are_read(rt: HostRuntime) {
+    expect_link(&rt, b"LINK 0020 10", 0o20, 10);
+    expect_link(&rt, b"\tLINK  3777 -262143 ", 0o3777, -262_143);
+    expect_link(&rt, b"LINK 0000 262143", 0, 262_143);
+    expect_link(&rt, b"LINK 0020 -000009", 0o20, -9);
+    expect_link(&rt, b"LINK 0020 -0", 0o20, 0);
+    expect_link(&rt, b"LINK 4000 0", 0o4000, 0);
+}
+
 /// Lines that are malformed.
-const MALFORMED: [&[u8]; 64] = [
+const MALFORMED: [&[u8]; 74] = [
     // lines of another keyword or location
     b" # blanks before the sign",
     b"AGSCERT 1",
@@ -244,6 +260,17 @@ const MALFORMED: [&[u8]; 64] = [
     b"CELL 0017 WORDS 777777 000001",
     b"CELL 0017 WORDS 000001 ANY",
     b"AT 0017 WORDS 000000 000001 000002 000003 000004 000005 000006 000007 000010 000011 000012 000013 000014 000015 000016 000017 000020",
+    // links of another address or offset
+    b"LINK",
+    b"LINK 0020",
+    b"LINK 020 0",
+    b"LINK 0020 262144",
+    b"LINK 0020 -262144",
+    b"LINK 0020 0000010",
+    b"LINK 0020 +1",
+    b"LINK 0020 - 1",
+    b"LINK 0020 1 2",
+    b"LINK 0020 ANY",
     // rows of other fields
     b"ROW 4000",
     b"ROW 4000 A ANY Q ANY X 0",
@@ -301,15 +328,18 @@ fn long_lines_are_malformed(rt: HostRuntime) {
 }
 
 /// The rows of `first_lines_are_read`.
-const FIRST_LINES_ARE_READ: [(&[u8], Opening); 21] = [
+const FIRST_LINES_ARE_READ: [(&[u8], Opening); 24] = [
     (b"AGSCERT 1", Opening::Version(1)),
     (b"\t AGSCERT \t1 ", Opening::Version(1)),
+    (b"AGSCERT 2", Opening::Version(2)),
     (b"AGSCERT 0", Opening::Another),
     (b"AGSCERT 3", Opening::Another),
     (b"AGSCERT 10", Opening::Another),
     (b"AGSCERT 003", Opening::Another),
     (b"AGSCERT 999999", Opening::Another),
     (b"AGSCERT 01", Opening::Malformed),
+    (b"AGSCERT 02", Opening::Malformed),
+    (b"AGSCERT 2 2", Opening::Malformed),
     (b"AGSCERT 000001", Opening::Malformed),
     (b"AGSCERT 0000002", Opening::Malformed),
     (b"AGSCERT 1000000", Opening::Malformed),

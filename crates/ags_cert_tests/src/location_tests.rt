@@ -21,6 +21,7 @@ fn row(rt: &impl Abort, alloc: Global, location: u16, greatest: i32) -> Row<Valu
         x: [true, false, false, false, false, false, false, false],
         v: [true, false],
         at: Vec::new(alloc),
+        link: None,
     })
     .expect(rt, "the parts of a row")
 }
@@ -114,6 +115,8 @@ fn post(rt: &impl Abort, next: u16, greatest: i32) -> Post<Value> {
         v1: false,
         stored: None,
         code: None,
+        narrowed: None,
+        link: None,
     }
 }
 

@@ -29,8 +29,19 @@ const EVERY_KIND: &[u8] = b"AGSCERT 1\r\n# a comment\nSTART 4000\r\nCELL 0017 RA
     ROW 4000 A ANY Q WORDS 404001 X 0127 V 01\r\nAT 0020 RANGE 1 2\n AT\t0017 RANGE 3 4 \n\
     ROW 4000 A ANY Q ANY X 0 V 1\nAT 0017 RANGE 3 3\nEND\n\n# behind the end\n\r";
 
+/// One of version 2: that of a limiter, whose rows have links.
+const LIMITER: &[u8] = b"AGSCERT 2\nCELL 0020 RANGE 0 10\n\
+    ROW 4000 A ANY Q ANY X 0 V 0\n\
+    ROW 4001 A RANGE 0 10 Q ANY X 0 V 0\nLINK 0020 0\n\
+    ROW 4002 A RANGE -10 0 Q ANY X 0 V 0\nLINK 0020 10\n\
+    ROW 4003 A ANY Q ANY X 0 V 0\n\
+    ROW 4004 A ANY Q ANY X 0 V 0\nAT 0020 RANGE 0 9\n\
+    ROW 4005 A RANGE 0 9 Q ANY X 0 V 0\n\
+    ROW 4006 A RANGE 1 10 Q ANY X 0 V 0\n\
+    ROW 4007 A ANY Q ANY X 0 V 0\nEND\n";
+
 /// Short texts with an answer of each sort: certificates, and first faults.
-const SHORT: [&[u8]; 10] = [
+const SHORT: [&[u8]; 12] = [
     // no line feed at the end, with a return and without
     b"AGSCERT 1\nROW 4000 A ANY Q ANY X 0 V 0\nEND",
     b"AGSCERT 1\nROW 4000 A ANY Q ANY X 0 V 0\nEND\r",
@@ -44,7 +55,10 @@ const SHORT: [&[u8]; 10] = [
     b"\r",
     // a fault, and a later one of a lesser number
     b"AGSCERT 1\nCELL 0017 RANGE 5 9\nINIT 0017 RANGE 4 6\nIN\nEND\n",
-    b"AGSCERT 2\nROW 4000\n",
+    b"AGSCERT 3\nROW 4000\n",
+    // a link in version 1, and a second one of a row in version 2
+    b"AGSCERT 1\nROW 4000 A ANY Q ANY X 0 V 0\nLINK 0020 0\nEND\n",
+    b"AGSCERT 2\nROW 4000 A ANY Q ANY X 0 V 0\nLINK 0020 0\nLINK 0020 0\nEND\n",
 ];
 
 /// Whether two rows are the same.
@@ -53,6 +67,7 @@ fn is_same_row(one: &Row<Value>, other: &Row<Value>) -> bool {
         && (one.a(), one.q()) == (other.a(), other.q())
         && (one.x(), one.v()) == (other.x(), other.v())
         && one.at() == other.at()
+        && one.link() == other.link()
 }
 
 /// Whether what two certificates state of the addresses that the texts here name is the same.
@@ -145,6 +160,12 @@ fn the_return_word_is_read_alike_in_pieces(rt: HostRuntime) {
 fn every_kind_of_line_is_read_alike_in_pieces(rt: HostRuntime) {
     assert!(&rt; whole(&rt, rt.alloc(), EVERY_KIND).is_ok());
     expect_same_by_pieces(&rt, rt.alloc(), EVERY_KIND);
+}
+
+#[test]
+fn links_are_read_alike_in_pieces(rt: HostRuntime) {
+    assert!(&rt; whole(&rt, rt.alloc(), LIMITER).is_ok());
+    expect_same_by_pieces(&rt, rt.alloc(), LIMITER);
 }
 
 #[test]

@@ -20,24 +20,25 @@ use Rattle.ags_certtext.specs.declared.cert_error.CertKind.{CertKind}
 use Rattle.ags_certtext.specs.declared.cert_error.CertKind.TheVariants.{BadLine}
 use Rattle.ags_certtext.specs.declared.statements.RowLine.{RowLine}
 use Rattle.ags_certtext.specs.declared.statements.Statement.{Statement}
-use Rattle.ags_certtext.specs.declared.statements.Statement.TheVariants.{Entry as EntryOf}
+use Rattle.ags_certtext.specs.declared.statements.Statement.TheVariants.{Entry as EntryOf, Linked}
 use Rattle.ags_certtext.specs.declared.statements.Table.TheVariants.{At}
 use Rattle.ags_certtext.specs.declared.kinds.Kind.TheVariants as kind
 use Rattle.ags_frame.specs.Reading.{Opening, OtherOpening, Stated, Skipped, Malformed, Ended, statement_of}
 use Rattle.ags_certtext.specs.Reading.{Reading, IsFirstReading, IsReading}
+use Rattle.ags_frame.specs.Fault.{version_of}
 use Rattle.ags_certtext.specs.Fault.{reading_fault}
 use Rattle.ags_certtext.specs.Kind.{is_last}
 use Rattle.ags_certtext.specs.Statement.{IsStatement}
 use Rattle.ags_certtext.specs.Text.{IsCertOf, IsFaultyCert, IsLimit}
 use Rattle.ags_certtext.proofs.ReadingLaws.{some_first_reading, some_reading}
 use Rattle.ags_certtext.proofs.StatementLemmas.{stated_is}
-use Rattle.ags_certread.specs.Gathering.{Gathering, Closes, ClosesBefore, Takes, IsOpenRow, IsFinished, AreLimitsOf, IsCertOfGathering, nothing_stated, stated, with_statement}
+use Rattle.ags_certread.specs.Gathering.{Gathering, Closes, ClosesBefore, Takes, IsOpenRow, IsFinished, AreLimitsOf, IsCertOfGathering, opened, stated, with_statement}
 use Rattle.ags_certread.specs.LineTaken.{HaveReadings, behind_first, opening_fault}
 use Rattle.ags_certread.proofs.FinishLemmas.{cert_made, finished}
 use Rattle.ags_certread.proofs.ReadLemmas.{SoFar, SoFar-first, SoFar-faulty, one_more, SoFar-missing, SoFar-all, empty_refused, opening_refused}
 use Rattle.ags_certread.specs.Sound.{IsSound}
-use Rattle.ags_certread.proofs.FaultLemmas.{last_end}
-use Rattle.ags_certread.proofs.TakeLemmas.{taken}
+use Rattle.ags_certread.proofs.FaultLemmas.{after_none, last_end}
+use Rattle.ags_certread.proofs.TakeLemmas.{taken, version_taken}
 use Rattle.ags_certread.specs.Before.{Stands}
 
 -- ---- the row before a statement
@@ -47,7 +48,7 @@ some_value None is = absurd cc
 some_value (Some held) is = (held, refl)
 
 -- the open row, if there is one, can be closed
-some_closed : (line : Option RowLine) (g : Gathering) → IsOpenRow line g.row_cells → (m : Gathering) × Closes line g m
+some_closed : (line : Option RowLine) (g : Gathering) → IsOpenRow line g.row_cells g.row_link → (m : Gathering) × Closes line g m
 some_closed None g whole = (g, refl)
 some_closed (Some line) g whole =
     let (a, a_is) = some_value line.a whole.a in
@@ -59,6 +60,7 @@ some_closed (Some line) g whole =
       x = line.x;
       v = line.v;
       at = g.row_cells;
+      link = g.row_link;
       below = whole.line.location;
       some_index = whole.line.some_index;
       some_indicator = whole.line.some_indicator;
@@ -66,13 +68,15 @@ some_closed (Some line) g whole =
       indicators = whole.line.indicators;
       few = whole.few;
       ascending = whole.ascending;
+      linked = whole.link;
     } in (
-      record g { rows = g.rows ++ row ∷ []; line = None; row_cells = [] },
-      (row, record { location = refl; a = sym a_is; q = sym q_is; x = refl; v = refl; at = refl }, refl),
+      record g { rows = g.rows ++ row ∷ []; line = None; row_cells = []; row_link = None },
+      (row, record { location = refl; a = sym a_is; q = sym q_is; x = refl; v = refl; at = refl; link = refl }, refl),
     )
 
 some_before : (statement : Statement) (g : Gathering) → IsSound g → (m : Gathering) × ClosesBefore statement g m
 some_before (EntryOf At entry) g sound = (g, refl)
+some_before (Linked link) g sound = (g, refl)
 some_before _ g sound = some_closed g.line g sound.closable
 
 -- a statement can be taken
@@ -158,11 +162,15 @@ module _ (ports : Registers) (text : List ℕ) where
   Onward left = (g : Gathering) (number : ℕ) → SoFar ports text left g number → Meaning
 
   stands_on : (line : LineAt) (left : List LineAt) (g : Gathering) (number : ℕ) (so : SoFar ports text (line ∷ left) g number) (reading : Reading) → IsReading line.bytes reading
-      → reading_fault ports so.before reading ≡ None → (h : Gathering) × Stands (filter_map statement_of (reading ∷ so.before)) h
+      → reading_fault ports so.before reading ≡ None → (h : Gathering) × Stands (filter_map statement_of (reading ∷ so.before)) h × (h.version ≡ g.version)
   stands_on line left g number so (Stated statement) is none =
-      let (h, takes) = some_taken statement g so.stands.sound in
-      (h, taken (filter_map statement_of so.before) g so.stands ports statement h (lawful line.bytes statement is) none takes)
-  stands_on line left g number so Skipped is none = (g, so.stands)
+      let (h, takes) = some_taken statement g so.stands.sound in (
+        h,
+        taken (filter_map statement_of so.before) g so.stands ports statement h (lawful line.bytes statement is)
+            (after_none ports (version_of so.before) (filter_map statement_of so.before) statement none) takes,
+        version_taken g statement h takes,
+      )
+  stands_on line left g number so Skipped is none = (g, so.stands, refl)
   stands_on line left g number so Malformed is none = absurd cc
   stands_on line left g number so (Opening version) is none = absurd is
   stands_on line left g number so OtherOpening is none = absurd is
@@ -174,8 +182,8 @@ module _ (ports : Registers) (text : List ℕ) where
   by_fault line left g number reading (Some kind) onward is so found =
       inr (number + 1, kind, SoFar-faulty ports text line left g number so reading kind is found (have_readings (behind_first (lines_of text))))
   by_fault line left g number reading None onward is so none =
-      let (h, stands) = stands_on line left g number so reading is none in
-      onward h (number + 1) (one_more ports text line left g number so reading h is none stands)
+      let (h, stands, version) = stands_on line left g number so reading is none in
+      onward h (number + 1) (one_more ports text line left g number so reading h is none stands version)
 
   further : (left : List LineAt) → Onward left
   unfolding Onward
@@ -189,8 +197,13 @@ module _ (ports : Registers) (text : List ℕ) where
   unfolding Onward
   by_opening first left reading (Some kind) whole is found =
       inr (1, kind, opening_refused ports text first left reading kind whole is found (have_readings (behind_first (lines_of text))))
-  by_opening first left reading None whole is none =
-      further left nothing_stated 1 (SoFar-first ports text first left reading nothing_stated whole is none refl)
+  by_opening first left (Opening version) None whole is none =
+      further left (opened version) 1 (SoFar-first ports text first left version (opened version) whole is refl)
+  by_opening first left OtherOpening None whole is none = absurd cc
+  by_opening first left Malformed None whole is none = absurd cc
+  by_opening first left (Stated statement) None whole is none = absurd is
+  by_opening first left Skipped None whole is none = absurd is
+  by_opening first left Ended None whole is none = absurd is
 
   by_lines : (lines : List LineAt) → lines_of text ≡ lines → Meaning
   by_lines [] none = inr (1, BadLine, empty_refused ports text none)

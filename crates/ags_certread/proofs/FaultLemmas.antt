@@ -1,9 +1,10 @@
 -- What it says of what is kept that the next statement has no fault.
-use Rattle.std.proofs.Common.{◌≡◌, ℕ, ◌+◌, ◌<◌, ◌≤◌, Bool, true, false, not, ◌&&◌, ◌==◌, refl, ◌∙◌, List, length, get_or, Option, Some, None, arith}
+use Rattle.std.proofs.Common.{◌≡◌, ℕ, ◌+◌, ◌<◌, ◌≤◌, Bool, true, false, not, ◌&&◌, ◌==◌, refl, ◌∙◌, List, [], ◌∷◌, length, get_or, Option, Some, None, arith}
 use Rattle.std.specs.Prelude.{nat_le, is_some}
 use Rattle.std.proofs.lemmas.Bool.Decides.{nat_tests}
 use Rattle.ags_domain.specs.declared.values.Value.{Value}
 use Rattle.ags_ports.specs.Port.{Registers}
+use Rattle.ags_row.specs.declared.links.Link.{Link}
 use Rattle.ags_certtext.specs.declared.cert_error.CertKind.{CertKind}
 use Rattle.ags_certtext.specs.declared.cert_error.CertKind.TheVariants.{BadLine, Twice, EmptyRange, OutsideGlobal, NoZero, TooManyAt}
 use Rattle.ags_certtext.specs.declared.kinds.Kind.{Kind}
@@ -11,12 +12,13 @@ use Rattle.ags_certtext.specs.declared.kinds.Kind.TheVariants as kind
 use Rattle.ags_certtext.specs.declared.statements.Entry.{Entry}
 use Rattle.ags_certtext.specs.declared.statements.RowLine.{RowLine}
 use Rattle.ags_certtext.specs.declared.statements.Statement.{Statement}
-use Rattle.ags_certtext.specs.declared.statements.Statement.TheVariants.{Start, Entry as EntryOf, May, Row, End}
+use Rattle.ags_certtext.specs.declared.statements.Statement.TheVariants.{Start, Entry as EntryOf, May, Row, Linked, End}
 use Rattle.ags_certtext.specs.declared.statements.Table.{Table}
 use Rattle.ags_certtext.specs.declared.statements.Table.TheVariants.{Cell, Init, In, Out, At}
-use Rattle.ags_certtext.specs.Fault.{entry_fault, fault_after, fault_if, is_empty, is_full_with, lacks_word, leaves_limit, may_stand, statement_fault}
+use Rattle.ags_certtext.specs.Fault.{entry_fault, fault_after, fault_if, fault_in, is_empty, is_fixed, is_full_with, is_of_version, lacks_word, leaves_limit, may_stand, statement_fault}
 use Rattle.ags_certtext.specs.Kind.{follows, is_kind, is_last, is_second_start, kinds_before, last_kind, stands_in_order}
-use Rattle.ags_certtext.specs.Statement.{IsStatement, entries, entries_before, has_address, value_at}
+use Rattle.ags_certtext.specs.Statement.{IsStatement, entries, entries_before, has_address, row_links, value_at}
+use Rattle.ags_certtext.specs.Text.{IsLinkOf}
 use Rattle.ags_certread.specs.Before.{Gathered}
 use Rattle.ags_certread.specs.Sound.{kinds_come}
 use Rattle.ags_certread.specs.Gathering.{Gathering, is_stated_in, row_count, stated, IsPlaced}
@@ -99,11 +101,17 @@ pub record IsClearRow (g : Gathering) (row : RowLine) : Type 0 where
   pub few : row_count g < 20000
   pub room : get_or g.counts row.location 0 < 512
 
+-- the cell is erasable, and the open row has no link yet
+pub record IsClearLink (g : Gathering) (link : Link) : Type 0 where
+  pub erasable : is_fixed link.address ≡ false
+  pub once : is_some g.row_link ≡ false
+
 abbrev pub IsClear : Gathering → Statement → Type 0
 IsClear g (Start location) = Unit {0}
 IsClear g (EntryOf table entry) = IsClearEntry g table entry
 IsClear g (May location) = Unit {0}
 IsClear g (Row row) = IsClearRow g row
+IsClear g (Linked link) = IsClearLink g link
 IsClear g End = 1 ≤ row_count g
 
 -- a statement has no fault: it stands in order, and has none by its kind
@@ -114,6 +122,7 @@ pub record IsFine (g : Gathering) (statement : Statement) : Type 0 where
 -- the statement doesn't belong to the row before it, which ends
 abbrev pub EndsRow : Statement → Type 0
 EndsRow (EntryOf At entry) = ⊥
+EndsRow (Linked link) = ⊥
 EndsRow _ = Unit {0}
 
 -- what is kept has an entry at the address where the statements before have one
@@ -133,6 +142,15 @@ full_before before g is Init = refl
 full_before before g is In = refl
 full_before before g is Out = refl
 full_before before g is At = rw is.rows.cells.count refl
+
+-- and has a link where the row before has one
+pub linked_before : (before : List Statement) (g : Gathering) → Gathered before g → is_some g.row_link ≡ nat_le 1 (length (row_links before))
+linked_before before g is = linked (row_links before) g.row_link is.rows.link
+  where
+    linked : (links : List Link) (kept : Option Link) → IsLinkOf links kept → is_some kept ≡ nat_le 1 (length links)
+    linked [] kept is = rw is refl
+    linked (only ∷ []) kept is = rw is refl
+    linked (first ∷ second ∷ links) kept is = absurd is
 
 -- what it says of the statements before that an entry has no fault
 pub record HasNoFault (ports : Registers) (before : List Statement) (table : Table) (entry : Entry) : Type 0 where
@@ -188,6 +206,9 @@ module _ (ports : Registers) (before : List Statement) (g : Gathering) (is : Gat
   clear_part (EntryOf table entry) none = clear_entry table entry none
   clear_part (May location) none = tt
   clear_part (Row row) none = clear_row row none
+  clear_part (Linked link) none =
+      let first = clear (is_fixed link.address) BadLine (fault_if (nat_le 1 (length (row_links before))) Twice None) none in
+      record { erasable = first.0; once = linked_before before g is ∙ (clear (nat_le 1 (length (row_links before))) Twice None first.1).0 }
   clear_part End none = rw is.count (some_left _ (clear _ _ _ none).0)
 
   pub fine : (statement : Statement) → fault_after ports before statement ≡ None → IsFine g statement
@@ -195,6 +216,20 @@ module _ (ports : Registers) (before : List Statement) (g : Gathering) (is : Gat
       let first = clear (is_second_start (last_kind before) statement) Twice _ none in
       let second = clear (not (stands_in_order (last_kind before) statement)) BadLine (statement_fault ports before statement) first.1 in
       record { order = rw is.tables.last (not_false (stands_in_order (last_kind before) statement) second.0); part = clear_part statement second.1 }
+
+-- what is of the version and without a fault has none of the others
+pub after_none : (ports : Registers) (version : ℕ) (before : List Statement) (statement : Statement) → fault_in ports version before statement ≡ None
+    → fault_after ports before statement ≡ None
+after_none ports version before statement none = (clear (not (is_of_version version statement)) BadLine (fault_after ports before statement) none).1
+
+-- what is not of the version is a bad line
+pub other_version : (ports : Registers) (version : ℕ) (before : List Statement) (statement : Statement) → is_of_version version statement ≡ false
+    → fault_in ports version before statement ≡ Some BadLine
+other_version ports version before statement other = rw other refl
+
+pub same_version : (ports : Registers) (version : ℕ) (before : List Statement) (statement : Statement) → is_of_version version statement ≡ true
+    → fault_in ports version before statement ≡ fault_after ports before statement
+same_version ports version before statement its = rw its refl
 
 -- ---- a statement without a fault can be added
 
@@ -207,6 +242,7 @@ placed g (EntryOf Out entry) fine is = is
 placed g (EntryOf At entry) fine is = tt
 placed g (May location) fine is = is
 placed g (Row row) fine is = (is.location, fine.part.room)
+placed g (Linked link) fine is = tt
 placed g End fine is = tt
 
 -- a cell of a row is erasable

@@ -19,7 +19,7 @@ use Rattle.ags_certtext.specs.declared.statements.Statement.{Statement}
 use Rattle.ags_certtext.specs.declared.kinds.Kind.TheVariants as kind
 use Rattle.ags_certtext.specs.declared.statements.Table.{Table}
 use Rattle.ags_certtext.specs.declared.statements.Table.TheVariants.{Cell, Init, In, Out}
-use Rattle.ags_certtext.specs.Statement.{entry_in, may_place, entries, row_entries, value_at, is_within}
+use Rattle.ags_certtext.specs.Statement.{entry_in, may_place, entries, row_entries, row_links, value_at, is_within}
 use Rattle.ags_certtext.specs.Fault.{is_outside}
 use Rattle.ags_certtext.specs.Text.{IsLimit, RowOfLines, rows_of, AreRowsOf, IsWhatIsStated}
 use Rattle.ags_certread.specs.Gathering.{Gathering, AreLimitsOf, IsCertOfGathering, IsFinished, stated}
@@ -155,7 +155,8 @@ place_turned before location = sym (any_reversed (λ (place : ℕ). place == loc
 
 all_rows : (before : List Statement) → open_line before ≡ None → reverse (closed_rows before) ≡ rows_of (reverse before)
 all_rows before none =
-    ap (λ (l : List RowOfLines). reverse l) (sym (rows_are [] before ∙ ap (λ (l : Option RowLine). with_open l (reverse (row_entries before) ++ []) (closed_rows before)) none))
+    ap (λ (l : List RowOfLines). reverse l) (sym (rows_are [] [] before
+    ∙ ap (λ (l : Option RowLine). with_open l (reverse (row_entries before) ++ []) (reverse (row_links before) ++ []) (closed_rows before)) none))
     ∙ sym (rows_of_reversed before)
 
 pub what_is_stated : (before : List Statement) (g : Gathering) (cert : Stated) → Gathered before g → IsSound g → g.last ≡ Some kind.End → IsCertOfGathering g cert

@@ -5,18 +5,19 @@ use Rattle.std.specs.List.{list_any, filter_map}
 use Rattle.std.proofs.lemmas.List.{length-append}
 use Rattle.ags_domain.specs.declared.values.Value.{Value}
 use Rattle.ags_row.specs.declared.ats.At.{At as Cell_at}
+use Rattle.ags_row.specs.declared.links.Link.{Link}
 use Rattle.ags_row.specs.declared.rows.Row.{Row as Row_of}
 use Rattle.ags_certtext.specs.declared.kinds.Kind.{Kind}
 use Rattle.ags_certtext.specs.declared.kinds.Kind.TheVariants as kind
 use Rattle.ags_certtext.specs.declared.statements.Entry.{Entry}
 use Rattle.ags_certtext.specs.declared.statements.RowLine.{RowLine}
 use Rattle.ags_certtext.specs.declared.statements.Statement.{Statement}
-use Rattle.ags_certtext.specs.declared.statements.Statement.TheVariants.{Start, Entry as EntryOf, May, Row}
+use Rattle.ags_certtext.specs.declared.statements.Statement.TheVariants.{Start, Entry as EntryOf, May, Row, Linked}
 use Rattle.ags_certtext.specs.declared.statements.Table.TheVariants.{Cell, Init, In, Out, At}
 use Rattle.ags_certtext.specs.Fault.{rows_at}
 use Rattle.ags_certtext.specs.Kind.{is_last, last_kind}
-use Rattle.ags_certtext.specs.Statement.{may_place, row_line, entries, row_entries}
-use Rattle.ags_certtext.specs.Text.{start_of}
+use Rattle.ags_certtext.specs.Statement.{may_place, row_line, entries, row_entries, row_links}
+use Rattle.ags_certtext.specs.Text.{IsLinkOf, start_of}
 use Rattle.ags_certread.specs.Before.{AreCounted, AreGatheredRows, AreNamed, AreTables, Gathered, IsTable}
 use Rattle.ags_certread.specs.Gathering.{Gathering, Closes, IsPlaced, IsSized, nothing_stated, row_count, stated, with_statement}
 use Rattle.ags_certread.proofs.TableLemmas.{IsTable-none, IsTable-more, each_same, set_read, same_of}
@@ -27,7 +28,7 @@ use Rattle.ags_certread.proofs.FaultLemmas.{EndsRow, IsFine, last_row, none_last
 -- what is kept stands for the statements, where no row is open
 pub record IsShut (before : List Statement) (g : Gathering) : Type 0 where
   pub tables : AreTables before g
-  pub rows : AreShutRows before g.rows g.line g.row_cells
+  pub rows : AreShutRows before g.rows g.line g.row_cells g.row_link
   pub count : length g.rows ≡ length (filter_map row_line before)
 
 pub Gathered-none : Gathered [] nothing_stated
@@ -42,7 +43,7 @@ Gathered-none = record {
     places = λ location. each_same {E = Bool} 4096 false location;
     counts = λ location. each_same {E = ℕ} 4096 0 location;
   };
-  rows = record { line = refl; cells = AreCells-none; closed = tt };
+  rows = record { line = refl; cells = AreCells-none; link = refl; closed = tt };
   count = refl;
   some_line = λ row none. let clash : ◌≡◌ {A = Option Kind} None (Some kind.Row) = row in absurd cc;
 }
@@ -50,9 +51,9 @@ Gathered-none = record {
 -- ---- the open row is closed
 
 -- the tables stay whatever is kept of the rows
-tables_kept : (before : List Statement) (g : Gathering) (rows : List (Row_of Value)) (line : Option RowLine) (row_cells : List (Cell_at Value)) → AreTables before g
-    → AreTables before (record g { rows = rows; line = line; row_cells = row_cells })
-tables_kept before g rows line row_cells are = record {
+tables_kept : (before : List Statement) (g : Gathering) (rows : List (Row_of Value)) (line : Option RowLine) (row_cells : List (Cell_at Value)) (row_link : Option Link)
+    → AreTables before g → AreTables before (record g { rows = rows; line = line; row_cells = row_cells; row_link = row_link })
+tables_kept before g rows line row_cells row_link are = record {
   last = are.last;
   start = are.start;
   cells = are.cells;
@@ -67,17 +68,18 @@ one_more : (count : ℕ) (rows : List (Row_of Value)) (row : Row_of Value) → l
 one_more count rows row is = length-append rows (row ∷ []) ∙ is
 
 pub shut : (before : List Statement) (g m : Gathering) (line : Option RowLine) → g.line ≡ line → Closes line g m → Gathered before g
-    → (g.line ≡ None → g.row_cells ≡ []) → IsShut before m
-shut before g m None is closes gathered empty = subst (λ (h : Gathering). IsShut before h) (sym closes) (record {
+    → (g.line ≡ None → g.row_cells ≡ []) → (g.line ≡ None → g.row_link ≡ None) → IsShut before m
+shut before g m None is closes gathered empty unlinked = subst (λ (h : Gathering). IsShut before h) (sym closes) (record {
   tables = gathered.tables;
-  rows = subst (λ (l : Option RowLine). AreShutRows before g.rows l g.row_cells) (sym is)
-      (shut_open before g.rows g.row_cells (subst (λ (l : Option RowLine). AreGatheredRows before g.rows l g.row_cells) is gathered.rows) (empty is));
+  rows = subst (λ (l : Option RowLine). AreShutRows before g.rows l g.row_cells g.row_link) (sym is)
+      (shut_open before g.rows g.row_cells g.row_link
+      (subst (λ (l : Option RowLine). AreGatheredRows before g.rows l g.row_cells g.row_link) is gathered.rows) (empty is) (unlinked is));
   count = (let count : length g.rows + 0 ≡ length (filter_map row_line before) = rw is at gathered.count in omega (arith, count));
 })
-shut before g m (Some line) is closes gathered empty = subst (λ (h : Gathering). IsShut before h) (sym closes.2) (record {
-  tables = tables_kept before g (g.rows ++ closes.0 ∷ []) None [] gathered.tables;
-  rows = shut_closed before g.rows line g.row_cells closes.0
-      (subst (λ (l : Option RowLine). AreGatheredRows before g.rows l g.row_cells) is gathered.rows) closes.1;
+shut before g m (Some line) is closes gathered empty unlinked = subst (λ (h : Gathering). IsShut before h) (sym closes.2) (record {
+  tables = tables_kept before g (g.rows ++ closes.0 ∷ []) None [] None gathered.tables;
+  rows = shut_closed before g.rows line g.row_cells g.row_link closes.0
+      (subst (λ (l : Option RowLine). AreGatheredRows before g.rows l g.row_cells g.row_link) is gathered.rows) closes.1;
   count = one_more (length (filter_map row_line before)) g.rows closes.0 (rw is at gathered.count);
 })
 
@@ -163,13 +165,15 @@ module _ (before : List Statement) (m : Gathering) (are : AreTables before m) (s
 
 -- ---- and to all that is kept
 
--- a statement that isn't a cell of a row
+-- a statement that doesn't belong to a row
 module _ (before : List Statement) (m : Gathering) (is : IsShut before m) (sized : IsSized m) where
   rows_more : (statement : Statement) → EndsRow statement
       → AreGatheredRows (statement ∷ before) (with_statement m statement).rows (with_statement m statement).line (with_statement m statement).row_cells
-  rows_more (Row row) ends = record { line = refl; cells = rw is.rows.cells AreCells-none; closed = is.rows.closed }
+      (with_statement m statement).row_link
+  rows_more (Row row) ends = record { line = refl; cells = rw is.rows.cells AreCells-none; link = is.rows.link; closed = is.rows.closed }
   rows_more (EntryOf At entry) ends = absurd ends
-  rows_more _ ends = record { line = is.rows.line; cells = rw is.rows.cells AreCells-none; closed = is.rows.closed }
+  rows_more (Linked link) ends = absurd ends
+  rows_more _ ends = record { line = is.rows.line; cells = rw is.rows.cells AreCells-none; link = is.rows.link; closed = is.rows.closed }
 
   count_more : (statement : Statement) → row_count (with_statement m statement) ≡ length (filter_map row_line (statement ∷ before))
   count_more (Row row) = let count = is.count in omega (arith, count)
@@ -179,6 +183,7 @@ module _ (before : List Statement) (m : Gathering) (is : IsShut before m) (sized
   some_line_more : (statement : Statement) → EndsRow statement → (with_statement m statement).last ≡ Some kind.Row → (with_statement m statement).line ≡ None → ⊥
   some_line_more (Row row) ends last none = let clash : ◌≡◌ {A = Option RowLine} (Some row) None = none in absurd cc
   some_line_more (EntryOf At entry) ends last none = absurd ends
+  some_line_more (Linked link) ends last none = absurd ends
   some_line_more _ ends last none = let clash : false ≡ true = ap (λ (k : Option Kind). is_last kind.Row k) last in absurd cc
 
   pub Gathered-more : (statement : Statement) → IsFine m statement → IsPlaced m.counts statement → EndsRow statement
@@ -198,8 +203,47 @@ Gathered-at before g entry is sized fine = record {
   rows = record {
     line = is.rows.line;
     cells = AreCells-more (row_entries before) g.row_cells entry is.rows.cells fine.part.once entry.value refl fine.part.some;
+    link = is.rows.link;
     closed = is.rows.closed;
   };
   count = is.count;
   some_line = λ row none. is.some_line (last_row g.last fine.order) none;
+}
+
+-- its link
+pub Gathered-link : (before : List Statement) (g : Gathering) (link : Link) → Gathered before g → IsSized g → IsFine g (Linked link)
+    → Gathered (Linked link ∷ before) (with_statement g (Linked link))
+Gathered-link before g link is sized fine = record {
+  tables = tables_more before g is.tables sized (Linked link) fine tt;
+  rows = record {
+    line = is.rows.line;
+    cells = is.rows.cells;
+    link = first_link (row_links before) g.row_link is.rows.link fine.part.once;
+    closed = is.rows.closed;
+  };
+  count = is.count;
+  some_line = λ row none. is.some_line (last_row g.last fine.order) none;
+}
+  where
+    first_link : (links : List Link) (kept : Option Link) → IsLinkOf links kept → is_some kept ≡ false → IsLinkOf (link ∷ links) (Some link)
+    first_link [] kept is none = refl
+    first_link (only ∷ []) kept is none = let clash : true ≡ false = rw is at none in absurd cc
+    first_link (one ∷ other ∷ links) kept is none = absurd is
+
+-- the version that was opened says nothing of the statements
+pub Gathered-opened : (before : List Statement) (g : Gathering) (version : ℕ) → Gathered before g → Gathered before (record g { version = version })
+Gathered-opened before g version is = record {
+  tables = record {
+    last = is.tables.last;
+    start = is.tables.start;
+    cells = is.tables.cells;
+    init = is.tables.init;
+    inputs = is.tables.inputs;
+    outputs = is.tables.outputs;
+    places = is.tables.places;
+    counts = is.tables.counts;
+  };
+  rows = is.rows;
+  count = is.count;
+  some_line = is.some_line;
 }

@@ -15,4 +15,5 @@ pub mod MeaningLemmas
 pub mod UniqueLemmas
 pub mod ExistenceLemmas
 pub mod TextLaws
+pub mod VersionLemmas
 pub mod StandLemmas

@@ -15,18 +15,18 @@ use Rattle.ags_certtext.specs.declared.cert_error.CertError.TheVariants.{At as A
 use Rattle.ags_certtext.specs.declared.statements.Statement.{Statement}
 use Rattle.ags_certtext.specs.declared.kinds.Kind.{Kind}
 use Rattle.ags_certtext.specs.declared.kinds.Kind.TheVariants as kind
-use Rattle.ags_certtext.specs.Fault.{reading_fault}
+use Rattle.ags_certtext.specs.Fault.{fault_in, reading_fault}
 use Rattle.ags_certtext.specs.Kind.{is_kind, is_last, kind_of, last_kind}
-use Rattle.ags_frame.specs.Fault.{has_ended}
+use Rattle.ags_frame.specs.Fault.{has_ended, version_of}
 use Rattle.ags_frame.specs.Reading.{Opening, OtherOpening, Stated, Skipped, Malformed, Ended, statement_of}
 use Rattle.ags_certtext.specs.Reading.{Reading, IsFirstReading, IsReading, AreLineReadings, AreReadings}
 use Rattle.ags_certtext.specs.Text.{IsCertOf, IsFaultyCert, IsRefused, IsWhatIsStated}
-use Rattle.ags_certread.specs.Gathering.{Gathering, IsCertOfGathering, IsClosable, IsCounting, IsSized, nothing_stated}
+use Rattle.ags_certread.specs.Gathering.{Gathering, IsCertOfGathering, IsClosable, IsCounting, IsSized, nothing_stated, opened}
 use Rattle.ags_certread.specs.LineTaken.{HaveReadings, TakesLine, TakesReading, TellsFault, behind_first, further_fault, opening_fault}
 use Rattle.ags_certread.proofs.TableLemmas.{chosen_reversed, reverse-more}
 use Rattle.ags_certread.proofs.FaultLemmas.{last_end}
-use Rattle.ags_certread.proofs.GatherLemmas.{Gathered-none}
-use Rattle.ags_certread.proofs.SoundLemmas.{IsSound-none}
+use Rattle.ags_certread.proofs.GatherLemmas.{Gathered-none, Gathered-opened}
+use Rattle.ags_certread.proofs.SoundLemmas.{IsSound-none, sound_opened}
 use Rattle.ags_certread.proofs.FinishLemmas.{what_is_stated}
 use Rattle.ags_certread.specs.Before.{Stands}
 use Rattle.ags_certread.specs.Sound.{IsSound}
@@ -68,8 +68,8 @@ left_readings (line ∷ lines) others (reading ∷ readings) are = left_readings
 
 -- ---- so many lines are read
 
--- Of a text's lines so many are read without a fault, with these readings, nearest first; what is kept stands for their statements; and
--- these lines are left.
+-- Of a text's lines so many are read without a fault, with these readings, nearest first; what is kept stands for their statements,
+-- and has the version that was opened; and these lines are left.
 pub record SoFar (ports : Registers) (text : List ℕ) (left : List LineAt) (g : Gathering) (number : ℕ) : Type 0 where
   pub first : LineAt
   pub more : List LineAt
@@ -78,31 +78,37 @@ pub record SoFar (ports : Registers) (text : List ℕ) (left : List LineAt) (g :
   pub readings : AreLineReadings (first ∷ more) (reverse before)
   pub faultless : (rest : List Reading) → first_fault (reading_fault ports) [] (reverse before ++ rest) ≡ first_fault (reading_fault ports) before rest
   pub stands : Stands (filter_map statement_of before) g
+  pub version : version_of before ≡ g.version
   pub so_many : number ≡ length before
 
 -- the first line opens the certificate
-pub SoFar-first : (ports : Registers) (text : List ℕ) (first : LineAt) (left : List LineAt) (reading : Reading) (g : Gathering) → lines_of text ≡ first ∷ left
-    → IsFirstReading first.bytes reading → opening_fault reading ≡ None → g ≡ nothing_stated → SoFar ports text left g 1
-SoFar-first ports text first left (Opening version) g whole is none same = record {
+pub SoFar-first : (ports : Registers) (text : List ℕ) (first : LineAt) (left : List LineAt) (version : ℕ) (g : Gathering) → lines_of text ≡ first ∷ left
+    → IsFirstReading first.bytes (Opening version) → g ≡ opened version → SoFar ports text left g 1
+SoFar-first ports text first left version g whole is same = record {
   first = first;
   more = [];
   whole = whole;
   before = Opening version ∷ [];
   readings = (is, tt);
   faultless = λ rest. first_fault-faultless (reading_fault ports) [] (Opening version) rest refl;
-  stands = subst (λ (h : Gathering). Stands [] h) (sym same) (record { gathered = Gathered-none; sound = IsSound-none });
+  stands = subst (λ (h : Gathering). Stands [] h) (sym same) (record { gathered = Gathered-opened [] nothing_stated version Gathered-none; sound = sound_opened nothing_stated version IsSound-none });
+  version = sym (ap (λ (h : Gathering). h.version) same);
   so_many = refl;
 }
-SoFar-first ports text first left OtherOpening g whole is none same = absurd cc
-SoFar-first ports text first left Malformed g whole is none same = absurd cc
-SoFar-first ports text first left (Stated statement) g whole is none same = absurd is
-SoFar-first ports text first left Skipped g whole is none same = absurd is
-SoFar-first ports text first left Ended g whole is none same = absurd is
+
+-- a further line opens no version
+pub opens_none : (line : List ℕ) (reading : Reading) (before : List Reading) → IsReading line reading → version_of (reading ∷ before) ≡ version_of before
+opens_none line (Opening version) before is = absurd is
+opens_none line OtherOpening before is = refl
+opens_none line (Stated statement) before is = refl
+opens_none line Skipped before is = refl
+opens_none line Malformed before is = refl
+opens_none line Ended before is = refl
 
 module _ (ports : Registers) (text : List ℕ) (line : LineAt) (left : List LineAt) (g : Gathering) (number : ℕ) (so : SoFar ports text (line ∷ left) g number) where
   pub one_more : (reading : Reading) (h : Gathering) → IsReading line.bytes reading → reading_fault ports so.before reading ≡ None
-      → Stands (filter_map statement_of (reading ∷ so.before)) h → SoFar ports text left h (number + 1)
-  one_more reading h is none stands = record {
+      → Stands (filter_map statement_of (reading ∷ so.before)) h → h.version ≡ g.version → SoFar ports text left h (number + 1)
+  one_more reading h is none stands version = record {
     first = so.first;
     more = so.more ++ line ∷ [];
     whole = so.whole ∙ ap (λ (l : List LineAt). so.first ∷ l) (sym (append_assoc so.more (line ∷ []) left));
@@ -113,13 +119,17 @@ module _ (ports : Registers) (text : List ℕ) (line : LineAt) (left : List Line
         ap (λ (l : List Reading). first_fault (reading_fault ports) [] l) (ap (λ (l : List Reading). l ++ rest) (reverse-more reading so.before) ∙ append_assoc (reverse so.before) (reading ∷ []) rest)
         ∙ so.faultless (reading ∷ rest) ∙ first_fault-faultless (reading_fault ports) so.before reading rest none;
     stands = stands;
+    version = opens_none line.bytes reading so.before is ∙ so.version ∙ sym version;
     so_many = omega (arith, so.so_many);
   }
 
   by_reading : (reading : Reading) (h : Gathering) → IsReading line.bytes reading → TakesReading ports g reading h → SoFar ports text left h (number + 1)
   by_reading (Stated statement) h is takes =
-      let taken = takes (filter_map statement_of so.before) so.stands in one_more (Stated statement) h is taken.0 taken.1
-  by_reading Skipped h is takes = one_more Skipped h is refl (subst (λ (k : Gathering). Stands (filter_map statement_of so.before) k) (sym takes) so.stands)
+      let taken = takes.0 (filter_map statement_of so.before) so.stands in
+      let none = subst (λ (version : ℕ). fault_in ports version (filter_map statement_of so.before) statement ≡ None) (sym so.version) taken.0 in
+      one_more (Stated statement) h is none taken.1 takes.1
+  by_reading Skipped h is takes =
+      one_more Skipped h is refl (subst (λ (k : Gathering). Stands (filter_map statement_of so.before) k) (sym takes) so.stands) (ap (λ (k : Gathering). k.version) takes)
   by_reading (Opening version) h is takes = absurd takes
   by_reading OtherOpening h is takes = absurd takes
   by_reading Malformed h is takes = absurd takes
@@ -131,7 +141,7 @@ module _ (ports : Registers) (text : List ℕ) (line : LineAt) (left : List Line
 
   -- ---- the next line is at fault
 
-  same_further : (reading : Reading) (kind : CertKind) → further_fault ports (filter_map statement_of so.before) reading ≡ Some kind
+  same_further : (reading : Reading) (kind : CertKind) → further_fault ports (version_of so.before) (filter_map statement_of so.before) reading ≡ Some kind
       → reading_fault ports so.before reading ≡ Some kind
   same_further (Stated statement) kind is = is
   same_further Malformed kind is = is
@@ -170,7 +180,9 @@ module _ (ports : Registers) (text : List ℕ) (line : LineAt) (left : List Line
 
   pub SoFar-fault : (error : CertError) → TellsFault ports (number + 1) g line.bytes error → HaveReadings (behind_first (lines_of text)) → IsRefused ports text error
   SoFar-fault (AtLine place kind) tells have =
-      let fault = same_further tells.1.0 kind (tells.1.2 (filter_map statement_of so.before) so.stands) in
+      let fault = same_further tells.1.0 kind
+      (subst (λ (version : ℕ). further_fault ports version (filter_map statement_of so.before) tells.1.0 ≡ Some kind) (sym so.version)
+      (tells.1.2 (filter_map statement_of so.before) so.stands)) in
       subst (λ (n : ℕ). IsFaultyCert ports text n kind) (sym tells.0) (SoFar-faulty tells.1.0 kind tells.1.1 fault have)
   SoFar-fault NoMemory tells have = tt
 

@@ -1,22 +1,25 @@
 -- What is kept is sound by itself: it has its sizes, the rows are few, what is stated of a cell is within its limit, and the kinds came
 -- in order. So a certificate comes of it.
 use Rattle.std.proofs.Common.{◌≡◌, ℕ, ◌+◌, ◌<◌, ◌≤◌, Bool, true, false, ◌==◌, refl, sym, ap, ◌∙◌, subst, List, [], ◌∷◌, ◌++◌, length, get_or, set, Option, Some, None, arith}
-use Rattle.std.specs.Prelude.{replicate, if◌then◌else◌}
+use Rattle.std.specs.Prelude.{◌&&◌, nat_le, nat_lt, replicate, if◌then◌else◌}
+use Rattle.std.proofs.lemmas.Bool.Decides.{nat_tests}
 use Rattle.std.proofs.lemmas.List.{length-append, length-set, length-replicate}
 use Rattle.std.proofs.lemmas.List.Elements.{All-append, All-nil, All-cons}
 use Rattle.std.proofs.lemmas.List.Sums.{sum_by-append}
 use Rattle.ags_domain.specs.declared.values.Value.{Value}
 use Rattle.ags_row.specs.Cell.{value_among}
 use Rattle.ags_row.specs.declared.ats.At.{At as Cell_at}
+use Rattle.ags_row.specs.declared.links.Link.{Link}
 use Rattle.ags_row.specs.declared.rows.Row.{Row as Row_of}
 use Rattle.ags_certtype.specs.Cert.{rows_at}
 use Rattle.ags_certtext.specs.declared.statements.Entry.{Entry}
 use Rattle.ags_certtext.specs.declared.statements.RowLine.{RowLine}
 use Rattle.ags_certtext.specs.declared.statements.Statement.{Statement}
-use Rattle.ags_certtext.specs.declared.statements.Statement.TheVariants.{Start, Entry as EntryOf, May, Row, End}
+use Rattle.ags_certtext.specs.declared.statements.Statement.TheVariants.{Start, Entry as EntryOf, May, Row, Linked, End}
 use Rattle.ags_certtext.specs.declared.statements.Table.TheVariants.{Cell, Init, In, Out, At}
 use Rattle.ags_certtext.specs.declared.kinds.Kind.{Kind}
 use Rattle.ags_certtext.specs.declared.kinds.Kind.TheVariants as kind
+use Rattle.ags_certtext.specs.Spelling.{is_offset}
 use Rattle.ags_certtext.specs.Statement.{IsStatement}
 use Rattle.ags_certtext.specs.Fault.{is_outside}
 use Rattle.ags_certread.specs.Sound.{AreFew, AreInside, IsEarly, IsSound, RowInside, kinds_come, open_at}
@@ -25,8 +28,8 @@ use Rattle.ags_certread.proofs.TableLemmas.{each_same, set_read, same_of}
 use Rattle.ags_certread.proofs.CellLemmas.{count_more, value_more, ascend_more}
 use Rattle.ags_certread.proofs.FaultLemmas.{EndsRow, IsClear, IsFine, none_last, below_fixed, last_row, no_higher, room}
 
-no_row_open : IsOpenRow None []
-no_row_open = record { line = tt; a = tt; q = tt; few = omega arith; ascending = refl }
+no_row_open : IsOpenRow None [] None
+no_row_open = record { line = tt; a = tt; q = tt; few = omega arith; ascending = refl; link = refl }
 
 pub IsSound-none : IsSound nothing_stated
 IsSound-none = record {
@@ -55,6 +58,7 @@ IsSound-none = record {
     no_rows = λ low. refl;
     no_line = λ low. refl;
     no_cells = λ none. refl;
+    no_link = λ none. refl;
     ended = λ end. refl;
     some_row = λ end. let clash : ◌≡◌ {A = Option Kind} None (Some kind.End) = end in absurd cc;
   };
@@ -63,9 +67,9 @@ IsSound-none = record {
 -- ---- the open row is closed
 
 -- the tables keep their sizes whatever is kept of the rows
-pub sized_beside : (g : Gathering) (rows : List (Row_of Value)) (line : Option RowLine) (row_cells : List (Cell_at Value)) → IsSized g
-    → IsSized (record g { rows = rows; line = line; row_cells = row_cells })
-sized_beside g rows line row_cells s = record { cells = s.cells; init = s.init; inputs = s.inputs; outputs = s.outputs; places = s.places; counts = s.counts }
+pub sized_beside : (g : Gathering) (rows : List (Row_of Value)) (line : Option RowLine) (row_cells : List (Cell_at Value)) (row_link : Option Link) → IsSized g
+    → IsSized (record g { rows = rows; line = line; row_cells = row_cells; row_link = row_link })
+sized_beside g rows line row_cells row_link s = record { cells = s.cells; init = s.init; inputs = s.inputs; outputs = s.outputs; places = s.places; counts = s.counts }
 
 added_at : (rows : List (Row_of Value)) (row : Row_of Value) (line : RowLine) (location : ℕ) → row.location ≡ line.location
     → rows_at (rows ++ row ∷ []) location + 0 ≡ rows_at rows location + (if line.location == location then 1 else 0)
@@ -75,7 +79,7 @@ added_at rows row line location same =
     ap {B = ℕ} (λ (n : ℕ). if n == location then 1 else 0) same in
     omega (arith, parts, here)
 
-module _ (g : Gathering) (line : RowLine) (row : Row_of Value) (is : g.line ≡ Some line) (closed : IsClosed line g.row_cells row) (sound : IsSound g) where
+module _ (g : Gathering) (line : RowLine) (row : Row_of Value) (is : g.line ≡ Some line) (closed : IsClosed line g.row_cells g.row_link row) (sound : IsSound g) where
   never_none : g.line ≡ None → ⊥
   never_none none = let clash : ◌≡◌ {A = Option RowLine} (Some line) None = sym is ∙ none in absurd cc
 
@@ -92,9 +96,9 @@ module _ (g : Gathering) (line : RowLine) (row : Row_of Value) (is : g.line ≡ 
   row_inside : RowInside g.cells row
   row_inside address = rw closed.at (sound.inside.in_cells address)
 
-  pub sound_closed : IsSound (record g { rows = g.rows ++ row ∷ []; line = None; row_cells = [] })
+  pub sound_closed : IsSound (record g { rows = g.rows ++ row ∷ []; line = None; row_cells = []; row_link = None })
   sound_closed = record {
-    sized = sized_beside g (g.rows ++ row ∷ []) None [] sound.sized;
+    sized = sized_beside g (g.rows ++ row ∷ []) None [] None sound.sized;
     start = sound.start;
     closable = no_row_open;
     few = few_closed;
@@ -108,6 +112,7 @@ module _ (g : Gathering) (line : RowLine) (row : Row_of Value) (is : g.line ≡ 
       no_rows = λ low. absurd (never_none (sound.early.no_line low));
       no_line = λ low. refl;
       no_cells = λ none. refl;
+      no_link = λ none. refl;
       ended = λ end. refl;
       some_row = λ end. absurd (never_none (sound.early.ended end));
     };
@@ -128,7 +133,7 @@ count_kept : (g : Gathering) (line : RowLine) (row : Row_of Value) → g.line �
 count_kept g line row is = let longer = length-append g.rows (row ∷ []) in rw is (omega (arith, longer))
 
 clear_kept : (g : Gathering) (line : RowLine) (row : Row_of Value) → g.line ≡ Some line → (statement : Statement) → EndsRow statement → IsClear g statement
-    → IsClear (record g { rows = g.rows ++ row ∷ []; line = None; row_cells = [] }) statement
+    → IsClear (record g { rows = g.rows ++ row ∷ []; line = None; row_cells = []; row_link = None }) statement
 clear_kept g line row kept (Start location) ends is = tt
 clear_kept g line row kept (EntryOf Cell entry) ends is = record { place = is.place; once = is.once; some = is.some; within = is.within; room = refl }
 clear_kept g line row kept (EntryOf Init entry) ends is = record { place = is.place; once = is.once; some = is.some; within = is.within; room = refl }
@@ -136,6 +141,7 @@ clear_kept g line row kept (EntryOf In entry) ends is = record { place = is.plac
 clear_kept g line row kept (EntryOf Out entry) ends is = record { place = is.place; once = is.once; some = is.some; within = is.within; room = refl }
 clear_kept g line row kept (EntryOf At entry) ends is = absurd ends
 clear_kept g line row kept (May location) ends is = tt
+clear_kept g line row kept (Linked link) ends is = absurd ends
 clear_kept g line row kept (Row next) ends is =
     record { a = is.a; q = is.q; few = subst (λ (n : ℕ). n < 20000) (sym (count_kept g line row kept)) is.few; room = is.room }
 clear_kept g line row kept End ends is = subst (λ (n : ℕ). 1 ≤ n) (sym (count_kept g line row kept)) is
@@ -185,12 +191,13 @@ module _ (m : Gathering) (sound : IsSound m) (shut : m.line ≡ None) where
 
   -- a kind up to the named places: no row was stated
   early_kind : (its : Option Kind) (number : ℕ) (init : List (Option Value)) → kinds_come its ≡ number → kinds_come m.last ≤ number → number ≤ 6
-      → (number ≤ 2 → (address : ℕ) → stated init address ≡ None) → IsEarly its init m.rows m.line m.row_cells
+      → (number ≤ 2 → (address : ℕ) → stated init address ≡ None) → IsEarly its init m.rows m.line m.row_cells m.row_link
   early_kind its number init own order low none = record {
     no_init = λ least. none (let few : kinds_come its ≤ 2 = least in omega (arith, few, own));
     no_rows = λ least. no_rows_yet (omega (arith, order, low));
     no_line = λ least. shut;
     no_cells = sound.early.no_cells;
+    no_link = sound.early.no_link;
     ended = λ end. shut;
     some_row = λ end. absurd (let last : kinds_come its ≡ 8 = ap kinds_come end in omega (arith, last, own, low));
   }
@@ -200,12 +207,13 @@ module _ (m : Gathering) (sound : IsSound m) (shut : m.line ≡ None) where
 
   -- a row, or the end
   late_kind : (its : Option Kind) (number : ℕ) (line : Option RowLine) → kinds_come its ≡ number → 7 ≤ number → (its ≡ Some kind.End → line ≡ None)
-      → (its ≡ Some kind.End → 1 ≤ length m.rows) → IsEarly its m.init m.rows line m.row_cells
+      → (its ≡ Some kind.End → 1 ≤ length m.rows) → IsEarly its m.init m.rows line m.row_cells m.row_link
   late_kind its number line own late ended some_row = record {
     no_init = λ low. absurd (let few : kinds_come its ≤ 2 = low in omega (arith, few, own, late));
     no_rows = λ low. absurd (let few : kinds_come its ≤ 6 = low in omega (arith, few, own, late));
     no_line = λ low. absurd (let few : kinds_come its ≤ 6 = low in omega (arith, few, own, late));
     no_cells = λ none. no_cells;
+    no_link = λ none. sound.early.no_link shut;
     ended = ended;
     some_row = some_row;
   }
@@ -261,9 +269,10 @@ module _ (m : Gathering) (sound : IsSound m) (shut : m.line ≡ None) where
   start_more _ is = sound.start
 
   closable_more : (statement : Statement) → IsFine m statement → IsStatement statement → EndsRow statement
-      → IsOpenRow (with_statement m statement).line (with_statement m statement).row_cells
-  closable_more (Row row) fine is ends = record { line = is; a = fine.part.a; q = fine.part.q; few = sound.closable.few; ascending = sound.closable.ascending }
+      → IsOpenRow (with_statement m statement).line (with_statement m statement).row_cells (with_statement m statement).row_link
+  closable_more (Row row) fine is ends = record { line = is; a = fine.part.a; q = fine.part.q; few = sound.closable.few; ascending = sound.closable.ascending; link = sound.closable.link }
   closable_more (EntryOf At entry) fine is ends = absurd ends
+  closable_more (Linked link) fine is ends = absurd ends
   closable_more _ fine is ends = sound.closable
 
   few_more : (statement : Statement) → IsFine m statement → IsPlaced m.counts statement
@@ -288,7 +297,8 @@ module _ (m : Gathering) (sound : IsSound m) (shut : m.line ≡ None) where
   behind_start least init late low = absurd (omega (arith, late, low))
 
   early_more : (statement : Statement) → IsFine m statement → EndsRow statement
-      → IsEarly (with_statement m statement).last (with_statement m statement).init (with_statement m statement).rows (with_statement m statement).line (with_statement m statement).row_cells
+      → IsEarly (with_statement m statement).last (with_statement m statement).init (with_statement m statement).rows (with_statement m statement).line
+      (with_statement m statement).row_cells (with_statement m statement).row_link
   early_more (Start location) fine ends =
       let none : kinds_come m.last ≡ 0 = ap kinds_come (none_last m.last fine.order) in
       early_kind (Some kind.Start) 1 m.init refl (omega (arith, none)) (omega arith) (λ low. no_init_yet (omega (arith, none)))
@@ -302,6 +312,7 @@ module _ (m : Gathering) (sound : IsSound m) (shut : m.line ≡ None) where
   early_more (EntryOf Out entry) fine ends =
       early_kind (Some kind.Out) 5 m.init refl (no_higher m.last kind.Out fine.order) (omega arith) (behind_start 5 m.init (omega arith))
   early_more (EntryOf At entry) fine ends = absurd ends
+  early_more (Linked link) fine ends = absurd ends
   early_more (May location) fine ends =
       early_kind (Some kind.May) 6 m.init refl (no_higher m.last kind.May fine.order) (omega arith) (behind_start 6 m.init (omega arith))
   early_more (Row row) fine ends = late_kind (Some kind.Row) 7 (Some row) refl (omega arith) (λ end. absurd (no_end end)) (λ end. absurd (no_end end))
@@ -336,7 +347,7 @@ module _ (g : Gathering) (sound : IsSound g) (entry : Entry) (once : has_cell g.
   at_sound : (value : Option Value) → entry.value ≡ value → (g.line ≡ None → ⊥) → IsSound (record g { row_cells = with_entry entry value g.row_cells })
   at_sound None is never = sound
   at_sound (Some value) is never = record {
-    sized = sized_beside g g.rows g.line (with_entry entry (Some value) g.row_cells) sound.sized;
+    sized = sized_beside g g.rows g.line (with_entry entry (Some value) g.row_cells) g.row_link sound.sized;
     start = sound.start;
     closable = record {
       line = sound.closable.line;
@@ -344,6 +355,7 @@ module _ (g : Gathering) (sound : IsSound g) (entry : Entry) (once : has_cell g.
       q = sound.closable.q;
       few = (let more = count_more (record { address = entry.address; value = value }) g.row_cells in omega (arith, more, few));
       ascending = ascend_more (record { address = entry.address; value = value }) 0 g.row_cells (omega arith) below once sound.closable.ascending;
+      link = sound.closable.link;
     };
     few = sound.few;
     inside = record {
@@ -357,6 +369,7 @@ module _ (g : Gathering) (sound : IsSound g) (entry : Entry) (once : has_cell g.
       no_rows = sound.early.no_rows;
       no_line = sound.early.no_line;
       no_cells = λ none. absurd (never none);
+      no_link = λ none. absurd (never none);
       ended = sound.early.ended;
       some_row = sound.early.some_row;
     };
@@ -367,3 +380,54 @@ pub sound_at : (g : Gathering) (entry : Entry) → IsSound g → IsFine g (Entry
 sound_at g entry sound fine never =
     subst (λ (last : Option Kind). IsSound (record g { last = last; row_cells = with_entry entry entry.value g.row_cells })) (last_row g.last fine.order)
     (at_sound g sound entry fine.part.once (below_fixed g entry fine) (room (length g.row_cells) 64 fine.part.room) fine.part.within entry.value refl never)
+
+-- ---- the link of the open row
+
+erasable_link : (address : ℕ) (offset : Bool) → nat_le 2048 address ≡ false → offset ≡ true → (nat_lt address 2048 && offset) ≡ true
+erasable_link address offset erasable is = grind (arith, nat_tests)
+
+pub sound_link : (g : Gathering) (link : Link) → IsSound g → IsFine g (Linked link) → IsStatement (Linked link) → (g.line ≡ None → ⊥)
+    → IsSound (with_statement g (Linked link))
+sound_link g link sound fine is never =
+    subst (λ (last : Option Kind). IsSound (record g { last = last; row_link = Some link })) (last_row g.last fine.order) (record {
+      sized = sized_beside g g.rows g.line g.row_cells (Some link) sound.sized;
+      start = sound.start;
+      closable = record {
+        line = sound.closable.line;
+        a = sound.closable.a;
+        q = sound.closable.q;
+        few = sound.closable.few;
+        ascending = sound.closable.ascending;
+        link = erasable_link link.address (is_offset link.offset) fine.part.erasable is.offset;
+      };
+      few = sound.few;
+      inside = sound.inside;
+      early = record {
+        no_init = sound.early.no_init;
+        no_rows = sound.early.no_rows;
+        no_line = sound.early.no_line;
+        no_cells = λ none. absurd (never none);
+        no_link = λ none. absurd (never none);
+        ended = sound.early.ended;
+        some_row = sound.early.some_row;
+      };
+    })
+
+-- ---- the version that was opened says nothing of the statements
+
+pub sound_opened : (g : Gathering) (version : ℕ) → IsSound g → IsSound (record g { version = version })
+sound_opened g version sound = record {
+  sized = record {
+    cells = sound.sized.cells;
+    init = sound.sized.init;
+    inputs = sound.sized.inputs;
+    outputs = sound.sized.outputs;
+    places = sound.sized.places;
+    counts = sound.sized.counts;
+  };
+  start = sound.start;
+  closable = sound.closable;
+  few = sound.few;
+  inside = sound.inside;
+  early = sound.early;
+}

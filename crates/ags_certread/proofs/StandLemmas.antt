@@ -1,5 +1,5 @@
 -- Lines that were taken one after the other, and the reader that took them in pieces.
-use Rattle.std.proofs.Common.{◌≡◌, ℕ, zero, suc, ◌+◌, ◌-◌, ◌^◌, ◌<◌, ◌≤◌, min, eqb, true, false, refl, sym, subst, ◌∙◌, List, [], ◌∷◌, ◌++◌, length, Some, None, append_assoc, length-append, arith}
+use Rattle.std.proofs.Common.{◌≡◌, ℕ, zero, suc, ◌+◌, ◌-◌, ◌^◌, ◌<◌, ◌≤◌, min, eqb, true, false, refl, sym, ap, subst, ◌∙◌, List, [], ◌∷◌, ◌++◌, length, Some, append_assoc, length-append, arith}
 use Rattle.std.specs.Prelude.{Result, Ok, Err, IfOk, IfErr, OnOk}
 use Rattle.std.specs.Str.Lines.{strip_carriage_return}
 use Rattle.std.proofs.lemmas.List.{append-nil}
@@ -17,57 +17,49 @@ use Rattle.ags_certtext.specs.Kind.{is_last}
 use Rattle.ags_frame.specs.Reading.{Opening, OtherOpening, Stated, Skipped, Malformed, Ended}
 use Rattle.ags_certtext.specs.Reading.{Reading, IsFirstReading}
 use Rattle.ags_certtext.specs.Text.{IsCertOf, IsFaultyCert, IsRefused}
-use Rattle.ags_certread.specs.Gathering.{Gathering, IsCertOfGathering, nothing_stated}
+use Rattle.ags_certread.specs.Gathering.{Gathering, IsCertOfGathering, nothing_stated, opened}
 use Rattle.ags_certread.specs.Length.{certificate_limit}
 use Rattle.ags_certread.specs.LineTaken.{TakesLine, TakesReading, TellsFault, behind_first, opening_fault}
 use Rattle.ags_text.specs.Piece.{HasEnded, line_of}
-use Rattle.ags_certread.specs.Before.{Stands}
+use Rattle.ags_certread.specs.Before.{IsOfStatements, Stands}
 use Rattle.ags_certread.specs.Kept.{Kept, KeptLines}
 use Rattle.ags_certread.specs.NextState.{GoesOn, HasRead, IsNext, IsWhole, is_open}
 use Rattle.ags_certread.specs.Pieces.{Standing, TookCert, took_cert}
-use Rattle.ags_certread.specs.Sound.{IsSound}
-use Rattle.ags_certread.specs.Gathered.{Gathers, IsOpening, AreTaken, IsOfLines}
+use Rattle.ags_certread.specs.Gathered.{Gathers, IsOpening, AreTaken}
 use Rattle.ags_certread.specs.declared.states.State.{State}
 use Rattle.ags_certread.specs.declared.states.State.TheVariants as state
 use Rattle.ags_certread.proofs.ExistenceLemmas.{have_readings}
-use Rattle.ags_certread.proofs.GatherLemmas.{Gathered-none}
+use Rattle.ags_certread.proofs.GatherLemmas.{Gathered-none, Gathered-opened}
 use Rattle.ags_text.proofs.PieceLemmas.{ended_none, ended_more, ended_feed, ended_all, ended_long}
 use Rattle.ags_certread.proofs.ReadLemmas.{SoFar, SoFar-first, SoFar-more, SoFar-fault, SoFar-missing, SoFar-all, opening_refused, empty_refused}
-use Rattle.ags_certread.proofs.SoundLemmas.{IsSound-none}
+use Rattle.ags_certread.proofs.SoundLemmas.{IsSound-none, sound_opened}
 
 -- ---- what was gathered of lines is sound
 
 stands_line : (ports : Registers) (before : List Statement) (g h : Gathering) → Stands before g → (reading : Reading) → TakesReading ports g reading h
     → (after : List Statement) × Stands after h
-stands_line ports before g h stands (Stated statement) takes = (statement ∷ before, (takes before stands).1)
+stands_line ports before g h stands (Stated statement) takes = (statement ∷ before, (takes.0 before stands).1)
 stands_line ports before g h stands Skipped same = (before, subst (λ (k : Gathering). Stands before k) (sym same) stands)
 stands_line ports before g h stands (Opening version) takes = absurd takes
 stands_line ports before g h stands OtherOpening takes = absurd takes
 stands_line ports before g h stands Malformed takes = absurd takes
 stands_line ports before g h stands Ended takes = absurd takes
 
-stands_lines : (ports : Registers) (before : List Statement) (g : Gathering) (lines : List LineAt) (h : Gathering) → Stands before g → Gathers ports g lines h
-    → (after : List Statement) × Stands after h
-stands_lines ports before g [] h stands same = (before, subst (λ (k : Gathering). Stands before k) (sym same) stands)
-stands_lines ports before g (line ∷ lines) h stands gathers =
-    let next = stands_line ports before g gathers.0 stands gathers.1.0 gathers.1.2 in
-    stands_lines ports next.0 gathers.0 lines h next.1 gathers.2
-
-pub stood : (ports : Registers) (g : Gathering) → IsOfLines ports g → (before : List Statement) × Stands before g
-stood ports g (lines, gathers) = stands_lines ports [] nothing_stated lines g (record { gathered = Gathered-none; sound = IsSound-none }) gathers
-
-pub stood_sound : (ports : Registers) (g : Gathering) → IsOfLines ports g → IsSound g
-stood_sound ports g is = (stood ports g is).1.sound
-
 pub gathers_push : (ports : Registers) (g : Gathering) (lines : List LineAt) (m h : Gathering) (line : LineAt) → Gathers ports g lines m → TakesLine ports m line.bytes h
     → Gathers ports g (lines ++ line ∷ []) h
 gathers_push ports g [] m h line same takes = (h, subst (λ (k : Gathering). TakesLine ports k line.bytes h) same takes, refl)
 gathers_push ports g (first ∷ lines) m h line (mid, took, rest) takes = (mid, took, gathers_push ports mid lines m h line rest takes)
 
-pub stood_more : (ports : Registers) (g h : Gathering) (bytes : List ℕ) → IsOfLines ports g → TakesLine ports g bytes h → IsOfLines ports h
-stood_more ports g h bytes (lines, gathers) takes =
-    let line : LineAt = record { start = 0; bytes = bytes } in
-    (lines ++ line ∷ [], gathers_push ports nothing_stated lines g h line gathers takes)
+pub stood_more : (ports : Registers) (g h : Gathering) (bytes : List ℕ) → IsOfStatements g → TakesLine ports g bytes h → IsOfStatements h
+stood_more ports g h bytes (before, stands) (reading, is, takes) = stands_line ports before g h stands reading takes
+
+-- the version that was opened says nothing of the statements
+pub stood_opened : (g : Gathering) (version : ℕ) → IsOfStatements g → IsOfStatements (record g { version = version })
+stood_opened g version (before, stands) =
+    (before, record { gathered = Gathered-opened before g version stands.gathered; sound = sound_opened g version stands.sound })
+
+pub stood_nothing : (g : Gathering) → g ≡ nothing_stated → IsOfStatements g
+stood_nothing g same = subst (λ (h : Gathering). IsOfStatements h) (sym same) ([], record { gathered = Gathered-none; sound = IsSound-none })
 
 -- ---- so many lines are read
 
@@ -81,23 +73,24 @@ gathered_so_far ports text g (line ∷ lines) left h number so (mid, takes, rest
     let sum : number + 1 + length lines ≡ number + length (line ∷ lines) = omega arith in
     subst (λ (n : ℕ). SoFar ports text left h n) sum (gathered_so_far ports text mid lines left h (number + 1) next rest)
 
-opened : (ports : Registers) (text : List ℕ) (first : LineAt) (left : List LineAt) → lines_of text ≡ first ∷ left → IsOpening first → SoFar ports text left nothing_stated 1
-opened ports text first left whole (reading, is, none) =
-    SoFar-first ports text first left reading nothing_stated whole is none refl
+opened_so_far : (ports : Registers) (text : List ℕ) (first : LineAt) (left : List LineAt) (version : ℕ) → lines_of text ≡ first ∷ left → IsOpening first version
+    → SoFar ports text left (opened version) 1
+opened_so_far ports text first left version whole is = SoFar-first ports text first left version (opened version) whole is refl
 
 taken_so_far : (ports : Registers) (text : List ℕ) (ended left : List LineAt) (g : Gathering) → lines_of text ≡ ended ++ left → AreTaken ports ended g → 0 < length ended
     → SoFar ports text left g (length ended)
 taken_so_far ports text [] left g whole are some = absurd (omega (arith, some))
-taken_so_far ports text (first ∷ more) left g whole (opens, gathers) some =
+taken_so_far ports text (first ∷ more) left g whole (version, opens, gathers) some =
     let sum : 1 + length more ≡ length (first ∷ more) = omega arith in
-    subst (λ (n : ℕ). SoFar ports text left g n) sum (gathered_so_far ports text nothing_stated more left g 1 (opened ports text first (more ++ left) whole opens) gathers)
+    subst (λ (n : ℕ). SoFar ports text left g n) sum
+    (gathered_so_far ports text (opened version) more left g 1 (opened_so_far ports text first (more ++ left) version whole opens) gathers)
 
 -- ---- a line that comes next
 
 taken_more : (ports : Registers) (ended : List LineAt) (line : LineAt) (g h : Gathering) → AreTaken ports ended g
-    → (length ended ≡ 0 → IsOpening line × (h ≡ g)) → (0 < length ended → TakesLine ports g line.bytes h) → AreTaken ports (ended ++ line ∷ []) h
-taken_more ports [] line g h same first further = let here = first refl in (here.0, here.1 ∙ same)
-taken_more ports (opening ∷ more) line g h (opens, gathers) first further = (opens, gathers_push ports nothing_stated more g h line gathers (further (omega arith)))
+    → (length ended ≡ 0 → (version : ℕ) × IsOpening line version × (h ≡ record g { version = version })) → (0 < length ended → TakesLine ports g line.bytes h) → AreTaken ports (ended ++ line ∷ []) h
+taken_more ports [] line g h same first further = let here = first refl in (here.0, here.1, here.2 ∙ ap (λ (k : Gathering). record k { version = here.0 }) same)
+taken_more ports (opening ∷ more) line g h (version, opens, gathers) first further = (version, opens, gathers_push ports (opened version) more g h line gathers (further (omega arith)))
 
 fault_first : (ports : Registers) (text : List ℕ) (ended left : List LineAt) (line : LineAt) (g : Gathering) (l : ℕ) (kind : CertKind) → lines_of text ≡ ended ++ line ∷ left
     → length ended ≡ 0 → (l ≡ 1) × ((reading : Reading) × IsFirstReading line.bytes reading × (opening_fault reading ≡ Some kind)) → IsFaultyCert ports text l kind
@@ -177,7 +170,7 @@ module _ (ports : Registers) (rest : List ℕ) (number : ℕ) (g : Gathering) (t
   some_before some = none_or_some number (0 < number) (λ none. absurd (omega (arith, so.none none, some))) (λ is. is)
 
   pub feed_open : (h : Gathering) (next : ℕ) → next ≡ min (number + 1) (2 ^ 32 - 1)
-      → (number ≡ 0 → ((reading : Reading) × IsFirstReading (strip_carriage_return rest) reading × (opening_fault reading ≡ None)) × (h ≡ g))
+      → (number ≡ 0 → (version : ℕ) × IsFirstReading (strip_carriage_return rest) (Opening version) × (h ≡ record g { version = version }))
       → (0 < number → TakesLine ports g (strip_carriage_return rest) h) → Standing ports [] next h (text ++ 10 ∷ [])
   feed_open h next is first further = record {
     ended = so.ended ++ line_of so.cut ∷ [];
@@ -307,7 +300,7 @@ module _ (ports : Registers) (rest : List ℕ) (number : ℕ) (g : Gathering) (t
   last_line some = let all = ended_all text rest so.ended so.cut in rw some at all
 
   pub last_taken : eqb (length (strip_carriage_return rest)) 0 ≡ false → (h : Gathering) (next : ℕ) → next ≡ min (number + 1) (2 ^ 32 - 1)
-      → (number ≡ 0 → ((reading : Reading) × IsFirstReading (strip_carriage_return rest) reading × (opening_fault reading ≡ None)) × (h ≡ g))
+      → (number ≡ 0 → (version : ℕ) × IsFirstReading (strip_carriage_return rest) (Opening version) × (h ≡ record g { version = version }))
       → (0 < number → TakesLine ports g (strip_carriage_return rest) h) → IsWhole ports text h next
   last_taken some h next is first further =
       let at = next_number number (length text) (length so.ended) next is within so.few (so.many within) in

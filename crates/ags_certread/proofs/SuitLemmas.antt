@@ -25,10 +25,11 @@ use Rattle.ags_certtext.specs.declared.statements.Table.TheVariants.{In, Out}
 use Rattle.ags_certtext.specs.Statement.{entry_in, entries, value_at}
 use Rattle.ags_certtext.specs.Kind.{is_second_start, last_kind, stands_in_order}
 use Rattle.ags_certtext.specs.Fault.{fault_if, has_register, is_unmet, lacks_zero, reading_fault, statement_fault, fault_after}
+use Rattle.ags_frame.specs.Fault.{version_of}
 use Rattle.ags_frame.specs.Reading.{Stated, statement_of}
 use Rattle.ags_certtext.specs.Reading.{Reading}
 use Rattle.ags_certtext.specs.Text.{IsCertOf, IsLimit}
-use Rattle.ags_certread.proofs.FaultLemmas.{clear, no_fault}
+use Rattle.ags_certread.proofs.FaultLemmas.{after_none, clear, no_fault}
 use Rattle.ags_certread.proofs.CheckLemmas.{is_false}
 use Rattle.ags_certread.proofs.TableLemmas.{same_of}
 
@@ -44,7 +45,7 @@ here_none : (number : ℕ) (found : Option CertKind) (later : Option (ℕ × Cer
 here_none number None later none = (refl, none)
 here_none number (Some kind) later none = let clash : ◌≡◌ {A = Option (ℕ × CertKind)} (Some (number, kind)) None = none in absurd cc
 
-first_none : (ports : Registers) (before : List Reading) (reading : Reading) (rest : List Reading) → first_fault (reading_fault ports) before (reading ∷ rest) ≡ None
+pub first_none : (ports : Registers) (before : List Reading) (reading : Reading) (rest : List Reading) → first_fault (reading_fault ports) before (reading ∷ rest) ≡ None
     → (reading_fault ports before reading ≡ None) × (first_fault (reading_fault ports) (reading ∷ before) rest ≡ None)
 unfolding first_fault
 first_none ports before reading rest none = here_none (length before + 1) (reading_fault ports before reading) (first_fault (reading_fault ports) (reading ∷ before) rest) none
@@ -67,7 +68,8 @@ module _ (ports : Registers) (table : Table) (Holds : Entry → Type 0)
   entries_hold before [] none = tt
   entries_hold before (Stated statement ∷ rest) none =
       let parts = first_none ports before (Stated statement) rest none in
-      let here = holds (filter_map statement_of before) statement (part_none ports (filter_map statement_of before) statement parts.0) in
+      let here = holds (filter_map statement_of before) statement (part_none ports (filter_map statement_of before) statement
+      (after_none ports (version_of before) (filter_map statement_of before) statement parts.0)) in
       with_one (entry_in table statement) (entries table (filter_map statement_of rest)) here (entries_hold (Stated statement ∷ before) rest parts.1)
   entries_hold before (reading ∷ rest) none = entries_hold (reading ∷ before) rest (first_none ports before reading rest none).1
 

@@ -16,13 +16,15 @@ use Rattle.ags_ports.specs.Port.{Registers}
 use Rattle.ags_row.specs.Cell.{cells_ascend, value_among}
 use Rattle.ags_row.specs.Flag.{some_flag}
 use Rattle.ags_row.specs.Limit.{Limiting, cell_limit, input_limit, output_limit, is_named}
+use Rattle.ags_row.specs.Link.{is_link}
 use Rattle.ags_row.specs.declared.ats.At.{At as Cell_at}
+use Rattle.ags_row.specs.declared.links.Link.{Link}
 use Rattle.ags_row.specs.declared.rows.Row.{Row as Row_of}
 use Rattle.ags_certtype.specs.Cert.{Stated as Cert_stated}
 use Rattle.ags_certtext.specs.declared.statements.Statement.{Statement}
 use Rattle.ags_frame.specs.Reading.{statement_of}
 use Rattle.ags_certtext.specs.Reading.{Reading}
-use Rattle.ags_certtext.specs.Text.{IsLimit, LimitsAreStated, RowOfLines, IsRowOfLines, AreRowsOf, rows_of, IsWhatIsStated, IsCertOf}
+use Rattle.ags_certtext.specs.Text.{IsLimit, IsLinkOf, LimitsAreStated, RowOfLines, IsRowOfLines, AreRowsOf, rows_of, IsWhatIsStated, IsCertOf}
 use Rattle.ags_certread.specs.OneMeaning.{HasNoTwoReadings}
 use Rattle.ags_certread.proofs.TableLemmas.{apart}
 
@@ -174,6 +176,7 @@ record Held : Type 0 where
   x : List Bool
   v : List Bool
   at : List (Cell_at Value)
+  link : Option Link
 
 -- what is known of what a row holds
 record IsHeld (held : Held) : Type 0 where
@@ -184,6 +187,7 @@ record IsHeld (held : Held) : Type 0 where
   indicators : length held.v ≡ 2
   few : length held.at ≤ 64
   ascending : cells_ascend 0 held.at ≡ true
+  linked : is_link held.link ≡ true
 
 abbrev row_of : (held : Held) → IsHeld held → Row_of Value
 row_of held is = record {
@@ -193,6 +197,7 @@ row_of held is = record {
   x = held.x;
   v = held.v;
   at = held.at;
+  link = held.link;
   below = is.below;
   some_index = is.some_index;
   some_indicator = is.some_indicator;
@@ -200,6 +205,7 @@ row_of held is = record {
   indicators = is.indicators;
   few = is.few;
   ascending = is.ascending;
+  linked = is.linked;
 }
 
 known_one : (held : Held) (is too : IsHeld held) → is ≡ too
@@ -211,6 +217,7 @@ known_one held is too =
     let indicators : IsProp (length held.v ≡ 2) = hlevel props in
     let few : IsProp (length held.at ≤ 64) = hlevel props in
     let ascending : IsProp (cells_ascend 0 held.at ≡ true) = hlevel props in
+    let linked : IsProp (is_link held.link ≡ true) = hlevel props in
     λ k. record {
       below = below is.below too.below k;
       some_index = some_index is.some_index too.some_index k;
@@ -219,6 +226,7 @@ known_one held is too =
       indicators = indicators is.indicators too.indicators k;
       few = few is.few too.few k;
       ascending = ascending is.ascending too.ascending k;
+      linked = linked is.linked too.linked k;
     }
 
 held_one : (one other : Held) → one ≡ other → (is : IsHeld one) (too : IsHeld other) → row_of one is ≡ row_of other too
@@ -226,7 +234,7 @@ held_one one other same = subst (λ (other : Held). (is : IsHeld one) (too : IsH
     (λ is too. ap (row_of one) (known_one one is too))
 
 abbrev held_by : Row_of Value → Held
-held_by row = record { location = row.location; a = row.a; q = row.q; x = row.x; v = row.v; at = row.at }
+held_by row = record { location = row.location; a = row.a; q = row.q; x = row.x; v = row.v; at = row.at; link = row.link }
 
 abbrev is_held : (row : Row_of Value) → IsHeld (held_by row)
 is_held row = record {
@@ -237,7 +245,14 @@ is_held row = record {
   indicators = row.indicators;
   few = row.few;
   ascending = row.ascending;
+  linked = row.linked;
 }
+
+-- there is one link of some lines
+link_one : (links : List Link) (one other : Option Link) → IsLinkOf links one → IsLinkOf links other → one ≡ other
+link_one [] one other is too = is ∙ sym too
+link_one (only ∷ []) one other is too = is ∙ sym too
+link_one (first ∷ second ∷ links) one other is too = absurd is
 
 row_one : (lines : RowOfLines) (one other : Row_of Value) → IsRowOfLines lines one → IsRowOfLines lines other → one ≡ other
 row_one lines one other is too =
@@ -247,7 +262,8 @@ row_one lines one other is too =
     let x : one.x ≡ other.x = is.x ∙ sym too.x in
     let v : one.v ≡ other.v = is.v ∙ sym too.v in
     let at : one.at ≡ other.at = among_one 0 0 one.at other.at one.ascending other.ascending (λ address. is.cells address ∙ sym (too.cells address)) in
-    held_one (held_by one) (held_by other) (λ k. record { location = location k; a = a k; q = q k; x = x k; v = v k; at = at k }) (is_held one) (is_held other)
+    let link : one.link ≡ other.link = link_one lines.links one.link other.link is.link too.link in
+    held_one (held_by one) (held_by other) (λ k. record { location = location k; a = a k; q = q k; x = x k; v = v k; at = at k; link = link k }) (is_held one) (is_held other)
 
 pub rows_one : (lines : List RowOfLines) (one other : List (Row_of Value)) → AreRowsOf lines one → AreRowsOf lines other → one ≡ other
 rows_one [] [] [] are too = refl

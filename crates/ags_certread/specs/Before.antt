@@ -4,17 +4,18 @@ use Rattle.std.specs.List.{list_any, filter_map}
 use Rattle.ags_domain.specs.declared.values.Value.{Value}
 use Rattle.ags_row.specs.Cell.{value_among}
 use Rattle.ags_row.specs.declared.ats.At.{At as Cell_at}
+use Rattle.ags_row.specs.declared.links.Link.{Link}
 use Rattle.ags_row.specs.declared.rows.Row.{Row as Row_of}
 use Rattle.ags_certtext.specs.declared.kinds.Kind.TheVariants as kind
 use Rattle.ags_certtext.specs.declared.statements.Entry.{Entry}
 use Rattle.ags_certtext.specs.declared.statements.RowLine.{RowLine}
 use Rattle.ags_certtext.specs.declared.statements.Statement.{Statement}
-use Rattle.ags_certtext.specs.declared.statements.Statement.TheVariants.{Entry as EntryOf, Row}
+use Rattle.ags_certtext.specs.declared.statements.Statement.TheVariants.{Entry as EntryOf, Row, Linked}
 use Rattle.ags_certtext.specs.declared.statements.Table.TheVariants.{Cell, Init, In, Out, At}
 use Rattle.ags_certtext.specs.Fault.{rows_at}
 use Rattle.ags_certtext.specs.Kind.{last_kind}
-use Rattle.ags_certtext.specs.Statement.{may_place, row_line, entries, has_address, row_entries, value_at}
-use Rattle.ags_certtext.specs.Text.{RowOfLines, AreRowsOf, start_of}
+use Rattle.ags_certtext.specs.Statement.{may_place, row_line, entries, has_address, row_entries, row_links, value_at}
+use Rattle.ags_certtext.specs.Text.{RowOfLines, AreRowsOf, IsLinkOf, start_of}
 use Rattle.ags_certread.specs.Gathering.{Gathering, has_cell, row_count, stated}
 use Rattle.ags_certread.specs.Sound.{IsSound}
 
@@ -40,17 +41,19 @@ pub record AreCells (found : List Entry) (cells : List (Cell_at Value)) : Type 0
 
 -- ---- rows
 
--- the rows of statements, where these cells stand behind them
-abbrev pub rows_back : List Entry → List Statement → List RowOfLines
-rows_back cells [] = []
-rows_back cells (EntryOf At entry ∷ before) = rows_back (entry ∷ cells) before
-rows_back cells (Row line ∷ before) = record { line = line; cells = cells } ∷ rows_back [] before
-rows_back cells (_ ∷ before) = rows_back [] before
+-- the rows of statements, where these cells and links stand behind them
+abbrev pub rows_back : List Entry → List Link → List Statement → List RowOfLines
+rows_back cells links [] = []
+rows_back cells links (EntryOf At entry ∷ before) = rows_back (entry ∷ cells) links before
+rows_back cells links (Linked link ∷ before) = rows_back cells (link ∷ links) before
+rows_back cells links (Row line ∷ before) = record { line = line; cells = cells; links = links } ∷ rows_back [] [] before
+rows_back cells links (_ ∷ before) = rows_back [] [] before
 
 -- the line of the row that is open behind the statements
 abbrev pub open_line : List Statement → Option RowLine
 open_line [] = None
 open_line (EntryOf At entry ∷ before) = open_line before
+open_line (Linked link ∷ before) = open_line before
 open_line (Row line ∷ before) = Some line
 open_line (_ ∷ before) = None
 
@@ -58,13 +61,15 @@ open_line (_ ∷ before) = None
 abbrev pub closed_rows : List Statement → List RowOfLines
 closed_rows [] = []
 closed_rows (EntryOf At entry ∷ before) = closed_rows before
-closed_rows (Row line ∷ before) = rows_back [] before
-closed_rows (_ ∷ before) = rows_back [] before
+closed_rows (Linked link ∷ before) = closed_rows before
+closed_rows (Row line ∷ before) = rows_back [] [] before
+closed_rows (_ ∷ before) = rows_back [] [] before
 
 -- what is kept of the rows of some statements
-pub record AreGatheredRows (before : List Statement) (rows : List (Row_of Value)) (kept : Option RowLine) (kept_cells : List (Cell_at Value)) : Type 0 where
+pub record AreGatheredRows (before : List Statement) (rows : List (Row_of Value)) (kept : Option RowLine) (kept_cells : List (Cell_at Value)) (kept_link : Option Link) : Type 0 where
   pub line : kept ≡ open_line before
   pub cells : AreCells (row_entries before) kept_cells
+  pub link : IsLinkOf (row_links before) kept_link
   pub closed : AreRowsOf (reverse (closed_rows before)) rows
 
 -- ---- all of it
@@ -91,7 +96,7 @@ pub record AreTables (before : List Statement) (g : Gathering) : Type 0 where
 -- what is kept stands for the statements
 pub record Gathered (before : List Statement) (g : Gathering) : Type 0 where
   pub tables : AreTables before g
-  pub rows : AreGatheredRows before g.rows g.line g.row_cells
+  pub rows : AreGatheredRows before g.rows g.line g.row_cells g.row_link
   pub count : row_count g ≡ length (filter_map row_line before)
   pub some_line : g.last ≡ Some kind.Row → g.line ≡ None → ⊥
 
@@ -99,3 +104,7 @@ pub record Gathered (before : List Statement) (g : Gathering) : Type 0 where
 pub record Stands (before : List Statement) (g : Gathering) : Type 0 where
   pub gathered : Gathered before g
   pub sound : IsSound g
+
+-- what is kept stands for some statements, whatever they are
+abbrev pub IsOfStatements : Gathering → Type 0
+IsOfStatements g = (before : List Statement) × Stands before g

@@ -1,10 +1,12 @@
 -- Lines that were taken one after the other, and what was gathered of them.
-use Rattle.std.specs.Prelude.{◌≡◌, List, [], ◌∷◌, None}
+use Rattle.std.specs.Prelude.{◌≡◌, ℕ, List, [], ◌∷◌}
 use Rattle.ags_text.specs.Line.{LineAt}
 use Rattle.ags_ports.specs.Port.{Registers}
-use Rattle.ags_certtext.specs.Reading.{Reading, IsFirstReading}
-use Rattle.ags_certread.specs.Gathering.{Gathering, nothing_stated}
-use Rattle.ags_certread.specs.LineTaken.{TakesLine, opening_fault}
+use Rattle.ags_frame.specs.Reading.{Opening}
+use Rattle.ags_certtext.specs.Reading.{IsFirstReading}
+use Rattle.ags_certread.specs.Before.{IsOfStatements}
+use Rattle.ags_certread.specs.Gathering.{Gathering, nothing_stated, opened}
+use Rattle.ags_certread.specs.LineTaken.{TakesLine}
 use Rattle.ags_certread.specs.declared.states.State.{State}
 use Rattle.ags_certread.specs.declared.states.State.TheVariants.{Open, Told, Spent}
 
@@ -13,21 +15,17 @@ abbrev pub Gathers : Registers → (old : Gathering) → List LineAt → (new : 
 Gathers ports old [] new = new ≡ old
 Gathers ports old (line ∷ lines) new = (mid : Gathering) × TakesLine ports old line.bytes mid × Gathers ports mid lines new
 
--- the line opens a certificate
-abbrev pub IsOpening : LineAt → Type 0
-IsOpening line = (reading : Reading) × IsFirstReading line.bytes reading × (opening_fault reading ≡ None)
+-- the line opens a certificate of a version
+abbrev pub IsOpening : LineAt → (version : ℕ) → Type 0
+IsOpening line version = IsFirstReading line.bytes (Opening version)
 
--- the first lines of a text were taken without a fault, of which the very first opens it
+-- the first lines of a text were taken without a fault, of which the very first opens its version
 abbrev pub AreTaken : Registers → List LineAt → Gathering → Type 0
 AreTaken ports [] g = g ≡ nothing_stated
-AreTaken ports (first ∷ more) g = IsOpening first × Gathers ports nothing_stated more g
+AreTaken ports (first ∷ more) g = (version : ℕ) × IsOpening first version × Gathers ports (opened version) more g
 
--- what was gathered is of some lines, whatever they are
-abbrev pub IsOfLines : Registers → Gathering → Type 0
-IsOfLines ports g = (lines : List LineAt) × Gathers ports nothing_stated lines g
-
--- so it is where no fault was found
-abbrev pub IsStateOfLines : Registers → Gathering → State → Type 0
-IsStateOfLines ports g Open = IsOfLines ports g
-IsStateOfLines ports g (Told line kind) = Unit {0}
-IsStateOfLines ports g Spent = Unit {0}
+-- what is kept is of some statements where no fault was found
+abbrev pub IsStateOfStatements : Gathering → State → Type 0
+IsStateOfStatements g Open = IsOfStatements g
+IsStateOfStatements g (Told line kind) = Unit {0}
+IsStateOfStatements g Spent = Unit {0}

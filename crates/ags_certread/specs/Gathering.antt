@@ -6,13 +6,15 @@ use Rattle.ags_domain.specs.Value.{value_meaning}
 use Rattle.ags_domain.specs.declared.values.Value.{Value}
 use Rattle.ags_row.specs.Cell.{cells_ascend, value_among}
 use Rattle.ags_row.specs.Limit.{Limiting, AreLimits, cell_limit, input_limit, output_limit, is_named}
+use Rattle.ags_row.specs.Link.{is_link}
 use Rattle.ags_row.specs.declared.ats.At.{At as Cell_at}
+use Rattle.ags_row.specs.declared.links.Link.{Link}
 use Rattle.ags_row.specs.declared.rows.Row.{Row as Row_of}
 use Rattle.ags_certtype.specs.Cert.{Stated, IsCert, rows_at}
 use Rattle.ags_certtext.specs.declared.statements.Entry.{Entry}
 use Rattle.ags_certtext.specs.declared.statements.RowLine.{RowLine}
 use Rattle.ags_certtext.specs.declared.statements.Statement.{Statement}
-use Rattle.ags_certtext.specs.declared.statements.Statement.TheVariants.{Start, Entry as EntryOf, May, Row, End}
+use Rattle.ags_certtext.specs.declared.statements.Statement.TheVariants.{Start, Entry as EntryOf, May, Row, Linked, End}
 use Rattle.ags_certtext.specs.declared.statements.Table.{Table}
 use Rattle.ags_certtext.specs.declared.statements.Table.TheVariants.{Cell, Init, In, Out, At}
 use Rattle.ags_certtext.specs.declared.kinds.Kind.{Kind}
@@ -22,9 +24,11 @@ use Rattle.ags_certtext.specs.Fault.{is_outside}
 use Rattle.ags_certtext.specs.Text.{IsLimit}
 use Rattle.ags_certread.specs.declared.gatherer.Gatherer.{Gatherer}
 
--- What is kept: the last kind; the start; for each address what is stated there, by table; the named places; the rows before the
--- one that may be open, and how many stand at each location with it; and of the open row its line and its cells, which ascend.
+-- What is kept: the version that the first line opened; the last kind; the start; for each address what is stated there, by table; the
+-- named places; the rows before the one that may be open, and how many stand at each location with it; and of the open row its line,
+-- its cells, which ascend, and its link.
 pub record Gathering : Type 0 where
+  pub version : ℕ
   pub last : Option Kind
   pub start : ℕ
   pub cells : List (Option Value)
@@ -36,10 +40,12 @@ pub record Gathering : Type 0 where
   pub counts : List ℕ
   pub line : Option RowLine
   pub row_cells : List (Cell_at Value)
+  pub row_link : Option Link
 
 -- what a gatherer keeps
 abbrev pub gathering_of : Gatherer → Gathering
 gathering_of g = record {
+  version = g.version;
   last = g.last;
   start = g.start;
   cells = g.cells.items;
@@ -51,6 +57,7 @@ gathering_of g = record {
   counts = g.counts.items;
   line = g.line;
   row_cells = g.row_cells.items;
+  row_link = g.row_link;
 }
 
 -- the tables have their sizes
@@ -66,9 +73,10 @@ pub record IsSized (g : Gathering) : Type 0 where
 abbrev pub IsCounting : Gathering → Type 0
 IsCounting g = length g.rows ≤ 20000
 
--- nothing is stated yet
+-- nothing is stated yet, and no version is opened
 abbrev pub nothing_stated : Gathering
 nothing_stated = record {
+  version = 0;
   last = None;
   start = 2048;
   cells = replicate 2048 None;
@@ -80,7 +88,12 @@ nothing_stated = record {
   counts = replicate 4096 0;
   line = None;
   row_cells = [];
+  row_link = None;
 }
+
+-- nothing is stated behind a first line that opened a version
+abbrev pub opened : (version : ℕ) → Gathering
+opened version = record nothing_stated { version = version }
 
 -- ---- what is asked of it
 
@@ -126,6 +139,7 @@ IsPlaced counts (EntryOf Out entry) = entry.address < 4096
 IsPlaced counts (EntryOf At entry) = Unit {0}
 IsPlaced counts (May location) = location < 4096
 IsPlaced counts (Row row) = (row.location < 4096) × (get_or counts row.location 0 < 512)
+IsPlaced counts (Linked link) = Unit {0}
 IsPlaced counts End = Unit {0}
 
 -- what is kept once an entry was put into its table
@@ -142,6 +156,7 @@ with_part g (Start location) = record g { start = location }
 with_part g (EntryOf table entry) = with_entry_in g table entry
 with_part g (May location) = record g { places = set g.places location true }
 with_part g (Row row) = record g { counts = set g.counts row.location (get_or g.counts row.location 0 + 1); line = Some row }
+with_part g (Linked link) = record g { row_link = Some link }
 with_part g End = g
 
 -- what is kept once a statement without a fault was added, where the row before it is closed unless the statement belongs to it
@@ -150,37 +165,40 @@ with_statement g statement = record (with_part g statement) { last = Some (kind_
 
 -- ---- the open row
 
--- the row is the one of its line and its cells
-pub record IsClosed (line : RowLine) (cells : List (Cell_at Value)) (row : Row_of Value) : Type 0 where
+-- the row is the one of its line, its cells and its link
+pub record IsClosed (line : RowLine) (cells : List (Cell_at Value)) (row_link : Option Link) (row : Row_of Value) : Type 0 where
   pub location : row.location ≡ line.location
   pub a : Some row.a ≡ line.a
   pub q : Some row.q ≡ line.q
   pub x : row.x ≡ line.x
   pub v : row.v ≡ line.v
   pub at : row.at ≡ cells
+  pub link : row.link ≡ row_link
 
 -- the open row, if there is one, is added to the rows, and nothing else changes
 abbrev pub Closes : Option RowLine → (old new : Gathering) → Type 0
 Closes None old new = new ≡ old
-Closes (Some line) old new = (row : Row_of Value) × IsClosed line old.row_cells row
-    × (new ≡ record old { rows = old.rows ++ row ∷ []; line = None; row_cells = [] })
+Closes (Some line) old new = (row : Row_of Value) × IsClosed line old.row_cells old.row_link row
+    × (new ≡ record old { rows = old.rows ++ row ∷ []; line = None; row_cells = []; row_link = None })
 
 -- the row before a statement is closed, unless the statement belongs to it
 abbrev pub ClosesBefore : Statement → (old new : Gathering) → Type 0
 ClosesBefore (EntryOf At entry) old new = new ≡ old
+ClosesBefore (Linked link) old new = new ≡ old
 ClosesBefore statement old new = Closes old.line old new
 
--- the open row, if there is one, is whole, and its cells ascend
-pub record IsOpenRow (open_line : Option RowLine) (cells : List (Cell_at Value)) : Type 0 where
+-- the open row, if there is one, is whole, its cells ascend, and its link may stand in a row
+pub record IsOpenRow (open_line : Option RowLine) (cells : List (Cell_at Value)) (row_link : Option Link) : Type 0 where
   pub line : IfSome open_line IsRowLine
   pub a : IfSome open_line (λ line. is_some line.a ≡ true)
   pub q : IfSome open_line (λ line. is_some line.q ≡ true)
   pub few : length cells ≤ 64
   pub ascending : cells_ascend 0 cells ≡ true
+  pub link : is_link row_link ≡ true
 
 -- the open row can be closed
 abbrev pub IsClosable : Gathering → Type 0
-IsClosable g = IsOpenRow g.line g.row_cells
+IsClosable g = IsOpenRow g.line g.row_cells g.row_link
 
 -- a statement is taken: the row before it is closed unless the statement belongs to it, and the statement is added
 pub record Takes (old : Gathering) (statement : Statement) (new : Gathering) : Type 0 where

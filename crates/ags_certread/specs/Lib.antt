@@ -2,6 +2,7 @@
 pub mod Length
 pub mod Kept
 pub mod Pieces
+pub mod Version
 -- what serves inside
 pub mod Gathered
 pub mod Gathering

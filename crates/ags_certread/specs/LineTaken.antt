@@ -10,7 +10,7 @@ use Rattle.ags_certtext.specs.declared.cert_error.CertError.TheVariants.{At as A
 use Rattle.ags_frame.specs.Reading.{Opening, OtherOpening, Stated, Skipped, Malformed, Ended}
 use Rattle.ags_certtext.specs.Reading.{Reading, IsReading}
 use Rattle.ags_certtext.specs.declared.statements.Statement.{Statement}
-use Rattle.ags_certtext.specs.Fault.{fault_after}
+use Rattle.ags_certtext.specs.Fault.{fault_in}
 use Rattle.ags_certread.specs.Before.{Stands}
 use Rattle.ags_certread.specs.Gathering.{Gathering}
 
@@ -23,11 +23,12 @@ opening_fault (Stated statement) = None
 opening_fault Skipped = None
 opening_fault Ended = None
 
--- The statement is taken, whatever the statements are that what is kept stands for: it has no fault behind them, and what is kept
--- then stands for it too.
+-- The statement is taken, whatever the statements are that what is kept stands for: it has no fault behind them in a text of the version,
+-- which stays, and what is kept then stands for it too.
 abbrev pub TakesStatement : Registers → (old : Gathering) → Statement → (new : Gathering) → Type 0
 TakesStatement ports old statement new =
-    (before : List Statement) → Stands before old → (fault_after ports before statement ≡ None) × Stands (statement ∷ before) new
+    ((before : List Statement) → Stands before old → (fault_in ports old.version before statement ≡ None) × Stands (statement ∷ before) new)
+    × (new.version ≡ old.version)
 
 -- the reading of a further line is taken: its statement, if it makes one, is taken
 abbrev pub TakesReading : Registers → (old : Gathering) → Reading → (new : Gathering) → Type 0
@@ -42,18 +43,18 @@ TakesReading ports old Ended new = ⊥
 abbrev pub TakesLine : Registers → (old : Gathering) → List ℕ → (new : Gathering) → Type 0
 TakesLine ports old line new = (reading : Reading) × IsReading line reading × TakesReading ports old reading new
 
--- the fault of a further line's reading, given the statements before it
-abbrev pub further_fault : Registers → List Statement → Reading → Option CertKind
-further_fault ports before (Stated statement) = fault_after ports before statement
-further_fault ports before Malformed = Some BadLine
-further_fault ports before Skipped = None
-further_fault ports before (Opening version) = None
-further_fault ports before OtherOpening = None
-further_fault ports before Ended = None
+-- the fault of a further line's reading in a text of a version, given the statements before it
+abbrev pub further_fault : Registers → (version : ℕ) → List Statement → Reading → Option CertKind
+further_fault ports version before (Stated statement) = fault_in ports version before statement
+further_fault ports version before Malformed = Some BadLine
+further_fault ports version before Skipped = None
+further_fault ports version before (Opening other) = None
+further_fault ports version before OtherOpening = None
+further_fault ports version before Ended = None
 
 -- the reading has this fault, whatever the statements are that what is kept stands for
 abbrev pub HasReadingFault : Registers → Gathering → Reading → CertKind → Type 0
-HasReadingFault ports g reading kind = (before : List Statement) → Stands before g → further_fault ports before reading ≡ Some kind
+HasReadingFault ports g reading kind = (before : List Statement) → Stands before g → further_fault ports g.version before reading ≡ Some kind
 
 -- the error tells the fault of a further line, by its reading, where it isn't want of memory
 abbrev pub TellsFault : Registers → (number : ℕ) → Gathering → List ℕ → CertError → Type 0

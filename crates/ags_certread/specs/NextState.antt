@@ -1,8 +1,9 @@
 -- What comes of one line, and of the end of a text.
-use Rattle.std.specs.Prelude.{◌≡◌, ℕ, ◌+◌, ◌-◌, ◌^◌, ◌<◌, min, Bool, true, false, List, length, Some, None}
+use Rattle.std.specs.Prelude.{◌≡◌, ℕ, ◌+◌, ◌-◌, ◌^◌, ◌<◌, min, Bool, true, false, List, length, Some}
 use Rattle.ags_text.specs.Line.{LineAt, lines_of}
 use Rattle.ags_ports.specs.Port.{Registers}
 use Rattle.ags_certtext.specs.declared.cert_error.CertError.TheVariants.{At as AtLine}
+use Rattle.ags_frame.specs.Reading.{Opening}
 use Rattle.ags_certtext.specs.Reading.{Reading, IsFirstReading}
 use Rattle.ags_certtext.specs.Text.{IsFaultyCert}
 use Rattle.ags_certread.specs.Gathered.{AreTaken}
@@ -15,7 +16,7 @@ use Rattle.ags_certread.specs.declared.states.State.TheVariants.{Open, Told, Spe
 -- what comes of the next line, behind so many: what is gathered with it, and how far the reader is
 abbrev pub IsNext : Registers → (number : ℕ) → (old : Gathering) → List ℕ → (new : Gathering) → State → Type 0
 IsNext ports number old line new Open =
-    (number ≡ 0 → ((reading : Reading) × IsFirstReading line reading × (opening_fault reading ≡ None)) × (new ≡ old))
+    (number ≡ 0 → (version : ℕ) × IsFirstReading line (Opening version) × (new ≡ record old { version = version }))
     × (0 < number → TakesLine ports old line new)
 IsNext ports number old line new (Told l kind) =
     (number ≡ 0 → (l ≡ 1) × ((reading : Reading) × IsFirstReading line reading × (opening_fault reading ≡ Some kind)))

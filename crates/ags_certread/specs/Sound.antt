@@ -5,6 +5,7 @@ use Rattle.std.specs.List.{All}
 use Rattle.ags_domain.specs.declared.values.Value.{Value}
 use Rattle.ags_row.specs.Cell.{value_among}
 use Rattle.ags_row.specs.declared.ats.At.{At as Cell_at}
+use Rattle.ags_row.specs.declared.links.Link.{Link}
 use Rattle.ags_row.specs.declared.rows.Row.{Row as Row_of}
 use Rattle.ags_certtype.specs.Cert.{rows_at}
 use Rattle.ags_certtext.specs.declared.kinds.Kind.{Kind}
@@ -41,11 +42,12 @@ pub record AreInside (cells init : List (Option Value)) (rows : List (Row_of Val
   pub in_cells : (address : ℕ) → is_outside (value_among row_cells address) (stated cells address) ≡ false
 
 -- nothing of a later kind was stated, and at the end a row was
-pub record IsEarly (last : Option Kind) (init : List (Option Value)) (rows : List (Row_of Value)) (line : Option RowLine) (row_cells : List (Cell_at Value)) : Type 0 where
+pub record IsEarly (last : Option Kind) (init : List (Option Value)) (rows : List (Row_of Value)) (line : Option RowLine) (row_cells : List (Cell_at Value)) (row_link : Option Link) : Type 0 where
   pub no_init : kinds_come last ≤ kinds_come (Some kind.Cell) → (address : ℕ) → stated init address ≡ None
   pub no_rows : kinds_come last ≤ kinds_come (Some kind.May) → rows ≡ []
   pub no_line : kinds_come last ≤ kinds_come (Some kind.May) → line ≡ None
   pub no_cells : line ≡ None → row_cells ≡ []
+  pub no_link : line ≡ None → row_link ≡ None
   pub ended : last ≡ Some kind.End → line ≡ None
   pub some_row : last ≡ Some kind.End → 1 ≤ length rows
 
@@ -53,7 +55,7 @@ pub record IsEarly (last : Option Kind) (init : List (Option Value)) (rows : Lis
 pub record IsSound (g : Gathering) : Type 0 where
   pub sized : IsSized g
   pub start : g.start < 4096
-  pub closable : IsOpenRow g.line g.row_cells
+  pub closable : IsOpenRow g.line g.row_cells g.row_link
   pub few : AreFew g.rows g.line g.counts
   pub inside : AreInside g.cells g.init g.rows g.row_cells
-  pub early : IsEarly g.last g.init g.rows g.line g.row_cells
+  pub early : IsEarly g.last g.init g.rows g.line g.row_cells g.row_link

@@ -1,10 +1,10 @@
 //! What is asked of one statement, a question a function.
 
 ghost use Rattle.std.specs.Prelude.{◌≡◌, ◌<◌, ◌&&◌, ◌==◌, length, get_or, false, is_some, Some};
-ghost use Rattle.ags_certtext.specs.Fault.{fault_if, has_register, is_empty, is_fixed, is_full_with, is_outside, is_unmet, lacks_word, lacks_zero, leaves_limit, may_stand};
+ghost use Rattle.ags_certtext.specs.Fault.{fault_if, has_register, is_empty, is_fixed, is_full_with, is_of_version, is_outside, is_unmet, lacks_word, lacks_zero, leaves_limit, may_stand};
 ghost use Rattle.ags_certread.specs.Gathering.{stated};
 
-use ags_certtext::{CertKind, Entry, Table};
+use ags_certtext::{CertKind, Entry, Statement, Table};
 use ags_domain::{Domain, Value};
 use ags_ports::{Port, Ports};
 use ags_row::{At, MOST_CELLS};
@@ -21,10 +21,24 @@ pub(crate) fn fault_if(found: bool, kind: CertKind, later: Option<CertKind>) -> 
 }
 
 /// Whether the cell is a fixed one.
-fn is_fixed(address: u16) -> bool
+pub(crate) fn is_fixed(address: u16) -> bool
     ensures { result ≡ is_fixed address }
 {
     address >= ERASABLE
+}
+
+/// Whether a statement is one of a version: there are links from version 2 on.
+pub(crate) fn is_of_version(version: u32, statement: &Statement) -> bool
+    ensures { result ≡ is_of_version version statement.now }
+{
+    match statement {
+        Statement::Start(_) => true,
+        Statement::Entry(_, _) => true,
+        Statement::May(_) => true,
+        Statement::Row(_) => true,
+        Statement::Linked(_) => version >= 2,
+        Statement::End => true,
+    }
 }
 
 /// Whether the range of an entry, or of a row, is empty.

@@ -19,7 +19,7 @@ pub(crate) struct EndedLines {
 }
 
 impl Model for EndedLines {
-    ghost use Rattle.ags_certread.specs.Gathered.{IsStateOfLines};
+    ghost use Rattle.ags_certread.specs.Gathered.{IsStateOfStatements};
     ghost use Rattle.ags_certread.specs.Gathering.{gathering_of};
     ghost use Rattle.ags_certread.specs.Kept.{KeptLines};
 
@@ -27,5 +27,5 @@ impl Model for EndedLines {
 
     ghost view = { λ lines. record { ports = lines.ports; number = lines.number; gathered = gathering_of lines.gatherer; state = lines.state } };
 
-    ghost invariant = { λ lines. IsStateOfLines lines.ports (gathering_of lines.gatherer) lines.state };
+    ghost invariant = { λ lines. IsStateOfStatements (gathering_of lines.gatherer) lines.state };
 }

@@ -3,14 +3,15 @@
 ghost use Rattle.std.specs.Prelude.{◌≡◌, ◌<◌, true, List, length};
 ghost use Rattle.ags_row.specs.Cell.{cells_ascend};
 ghost use Rattle.ags_certtext.specs.declared.statements.Statement.{Statement};
-ghost use Rattle.ags_certtext.specs.declared.statements.Statement.TheVariants.{End, May, Row};
-ghost use Rattle.ags_certtext.specs.Fault.{entry_fault, fault_after, statement_fault};
+ghost use Rattle.ags_certtext.specs.declared.statements.Statement.TheVariants.{End, Linked, May, Row};
+ghost use Rattle.ags_certtext.specs.Fault.{entry_fault, fault_after, fault_in, statement_fault};
 ghost use Rattle.ags_certtext.specs.Statement.{IsStatement};
 ghost use Rattle.ags_certread.specs.Before.{Gathered};
 ghost use Rattle.ags_certread.specs.Gathering.{IsCounting, IsSized, gathering_of, is_stated_in, row_count};
 
 use crate::checks::{
-    count_at, fault_if, is_empty, is_full, is_named, is_stated, lacks_word, leaves_limit, may_stand,
+    count_at, fault_if, is_empty, is_fixed, is_full, is_named, is_of_version, is_stated,
+    lacks_word, leaves_limit, may_stand,
 };
 use crate::gatherer::Gatherer;
 use crate::open_rows::has_cell;
@@ -18,6 +19,7 @@ use crate::order::{is_second_start, stands_in_order};
 use ags_certtext::{CertKind, Entry, RowLine, Statement, Table};
 use ags_certtype::{MOST_ROWS, MOST_ROWS_AT_ONE};
 use ags_ports::Ports;
+use ags_row::Link;
 
 impl Gatherer {
     /// How many rows there are, the open one with them.
@@ -91,6 +93,20 @@ impl Gatherer {
         )
     }
 
+    /// The fault of a LINK line.
+    fn link_fault(&self, ports: &Ports, link: &Link) -> Option<CertKind>
+        ensures { (before : List Statement) → Gathered before (gathering_of self.now)
+            → result ≡ statement_fault ports.now before (Linked link.now) }
+    {
+        let fixed = is_fixed(link.address);
+        let twice = self.row_link.is_some();
+        fault_if(
+            fixed,
+            CertKind::BadLine,
+            fault_if(twice, CertKind::Twice, None),
+        )
+    }
+
     /// The fault of the END line.
     fn last_line_fault(&self, ports: &Ports) -> Option<CertKind>
         requires { IsCounting (gathering_of self.now) }
@@ -114,12 +130,13 @@ impl Gatherer {
             Statement::Entry(table, entry) => self.entry_fault(ports, *table, entry),
             Statement::May(location) => self.place_fault(ports, *location),
             Statement::Row(row) => self.row_fault(ports, row),
+            Statement::Linked(link) => self.link_fault(ports, link),
             Statement::End => self.last_line_fault(ports),
         }
     }
 
-    /// The fault of a statement.
-    pub(crate) fn fault(&self, ports: &Ports, statement: &Statement) -> Option<CertKind>
+    /// The fault of a statement of the text's version.
+    fn fault(&self, ports: &Ports, statement: &Statement) -> Option<CertKind>
         requires sized { IsSized (gathering_of self.now) }
         requires counting { IsCounting (gathering_of self.now) }
         requires ascending { cells_ascend 0 self.now.row_cells.items ≡ true }
@@ -134,5 +151,20 @@ impl Gatherer {
             return Some(CertKind::BadLine);
         }
         self.part_fault(ports, statement)
+    }
+
+    /// The fault of a statement in a text of the version that was opened.
+    pub(crate) fn fault_in(&self, ports: &Ports, statement: &Statement) -> Option<CertKind>
+        requires sized { IsSized (gathering_of self.now) }
+        requires counting { IsCounting (gathering_of self.now) }
+        requires ascending { cells_ascend 0 self.now.row_cells.items ≡ true }
+        requires statement { IsStatement statement.now }
+        ensures { (before : List Statement) → Gathered before (gathering_of self.now)
+            → result ≡ fault_in ports.now self.now.version before statement.now }
+    {
+        if !is_of_version(self.version, statement) {
+            return Some(CertKind::BadLine);
+        }
+        self.fault(ports, statement)
     }
 }

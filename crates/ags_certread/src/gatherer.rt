@@ -4,7 +4,7 @@ ghost use Rattle.std.specs.Prelude.{◌≡◌, ◌<◌, true, false, ◌∷◌, 
 ghost use Rattle.ags_row.specs.Cell.{cells_ascend};
 ghost use Rattle.ags_certtext.specs.declared.statements.Statement.TheVariants.{Entry as EntryOf, Row as RowOf};
 ghost use Rattle.ags_certtext.specs.declared.statements.Statement.{Statement};
-ghost use Rattle.ags_certtext.specs.Fault.{fault_after};
+ghost use Rattle.ags_certtext.specs.Fault.{fault_in};
 ghost use Rattle.ags_certtext.specs.Statement.{IsStatement};
 ghost use Rattle.ags_certread.specs.Before.{Stands};
 ghost use Rattle.ags_certread.specs.Gathering.{Closes, ClosesBefore, IsClosable, IsCounting, IsPlaced, IsSized, gathering_of, nothing_stated, with_entry_in, with_part, with_statement};
@@ -13,13 +13,15 @@ use crate::open_rows::{add_cell, row_of};
 use ags_certtext::{CertKind, Entry, Kind, RowLine, Statement, Table};
 use ags_domain::Value;
 use ags_ports::Ports;
-use ags_row::{At, Row};
+use ags_row::{At, Link, Row};
 use ags_word::{ERASABLE, LOCATIONS};
 use std::alloc::{AllocError, Global};
 
 /// What is gathered of the statements so far.
 #[derive(Drop)]
 pub(crate) struct Gatherer {
+    /// The version that the first line opened; 0 where none was read.
+    pub(crate) version: u32,
     /// The last statement's kind; nothing where none was taken.
     pub(crate) last: Option<Kind>,
     /// The location that a run starts at.
@@ -42,6 +44,8 @@ pub(crate) struct Gatherer {
     pub(crate) line: Option<RowLine>,
     /// The cells of the open row, which ascend.
     pub(crate) row_cells: Vec<At<Value>>,
+    /// The link of the open row, if it has one.
+    pub(crate) row_link: Option<Link>,
 }
 
 /// A table of so many addresses at which nothing is stated.
@@ -79,6 +83,7 @@ impl Gatherer {
         ensures { IfOk result (λ gatherer. gathering_of gatherer ≡ nothing_stated) }
     {
         Ok(Gatherer {
+            version: 0,
             last: None,
             start: ERASABLE,
             cells: nothing(alloc, ERASABLE as usize)?,
@@ -90,6 +95,7 @@ impl Gatherer {
             counts: zeros(alloc)?,
             line: None,
             row_cells: Vec::new(alloc),
+            row_link: None,
         })
     }
 
@@ -102,13 +108,14 @@ impl Gatherer {
             return Ok(());
         };
         let cells = Vec::from_slice(alloc, self.row_cells.as_slice())?;
-        self.rows.push(row_of(line, cells))?;
+        self.rows.push(row_of(line, cells, self.row_link))?;
         self.row_cells.clear();
+        self.row_link = None;
         self.line = None;
         Ok(())
     }
 
-    /// Closes the open row before a statement that isn't one of its cells.
+    /// Closes the open row before a statement that doesn't belong to it.
     fn close_before(&mut self, alloc: Global, statement: &Statement) -> Result<(), AllocError>
         requires { IsClosable (gathering_of self.old) }
         ensures { IfOk result (λ _. ClosesBefore statement.now (gathering_of self.old) (gathering_of self.new)) }
@@ -122,6 +129,7 @@ impl Gatherer {
             Statement::Entry(Table::Out, _) => self.close(alloc),
             Statement::May(_) => self.close(alloc),
             Statement::Row(_) => self.close(alloc),
+            Statement::Linked(_) => Ok(()),
             Statement::End => self.close(alloc),
         }
     }
@@ -167,6 +175,7 @@ impl Gatherer {
             Statement::Entry(table, entry) => self.enter(*table, entry)?,
             Statement::May(location) => self.places[*location as usize] = true,
             Statement::Row(row) => self.open(*row),
+            Statement::Linked(link) => self.row_link = Some(*link),
             Statement::End => {}
         }
         Ok(())
@@ -194,11 +203,12 @@ impl Gatherer {
         requires stands { (before : List Statement) × Stands before (gathering_of self.old) }
         requires statement { IsStatement statement.now }
         ensures fault { IfOk result (λ fault. (before : List Statement) → Stands before (gathering_of self.old)
-            → fault ≡ fault_after ports.now before statement.now) }
+            → fault ≡ fault_in ports.now self.old.version before statement.now) }
         ensures taken { result ≡ Ok None → (before : List Statement) → Stands before (gathering_of self.old)
             → Stands (statement.now ∷ before) (gathering_of self.new) }
+        ensures version { result ≡ Ok None → self.new.version ≡ self.old.version }
     {
-        match self.fault(ports, statement) {
+        match self.fault_in(ports, statement) {
             Some(kind) => Ok(Some(kind)),
             None => {
                 self.close_before(alloc, statement)?;

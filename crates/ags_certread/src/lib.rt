@@ -22,5 +22,5 @@ mod reading_pieces;
 mod states;
 
 pub use cert_readers::CertReader;
-pub use laws::{read_certificates_suit, text_has_one_meaning};
+pub use laws::{first_version_has_no_links, read_certificates_suit, text_has_one_meaning};
 pub use reading::{CERT_LIMIT, read};

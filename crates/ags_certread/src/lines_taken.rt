@@ -1,7 +1,8 @@
 //! One line of a certificate after the other.
 
-ghost use Rattle.std.specs.Prelude.{◌≡◌, List, IfOk, IfErr};
+ghost use Rattle.std.specs.Prelude.{◌≡◌, List, Some, IfOk, IfErr};
 ghost use Rattle.ags_certtext.specs.declared.statements.Statement.{Statement};
+ghost use Rattle.ags_frame.specs.Reading.{Opening as OpenedBy};
 ghost use Rattle.ags_certtext.specs.Reading.{Reading, IsFirstReading};
 ghost use Rattle.ags_certtext.specs.Statement.{IsStatement};
 ghost use Rattle.ags_certread.specs.Before.{Stands};
@@ -24,14 +25,15 @@ pub(crate) fn bad_line(line: u32) -> CertError
     }
 }
 
-/// The fault of a certificate's first line.
-pub(crate) fn opening_fault(line: &[u8]) -> Option<CertKind>
-    ensures { (reading : Reading) × IsFirstReading line.now reading × (result ≡ opening_fault reading) }
+/// The version that a certificate's first line opens, or the line's fault.
+pub(crate) fn opened_version(line: &[u8]) -> Result<u32, CertKind>
+    ensures version { IfOk result (λ version. IsFirstReading line.now (OpenedBy version)) }
+    ensures faulty { IfErr result (λ kind. (reading : Reading) × IsFirstReading line.now reading × (opening_fault reading ≡ Some kind)) }
 {
     match read_first_line(line) {
-        Opening::Version(_) => None,
-        Opening::Another => Some(CertKind::Version),
-        Opening::Malformed => Some(CertKind::BadLine),
+        Opening::Version(version) => Ok(version),
+        Opening::Another => Err(CertKind::Version),
+        Opening::Malformed => Err(CertKind::BadLine),
     }
 }
 

@@ -3,14 +3,15 @@
 ghost use Rattle.std.specs.Prelude.{◌≡◌, ◌+◌, ◌-◌, ◌^◌, ◌<◌, min, List, ℕ, IfOk, IfErr, OnOk};
 ghost use Rattle.ags_ports.specs.Port.{Registers};
 ghost use Rattle.ags_certtext.specs.Text.{IsCertOf, IsRefused};
-ghost use Rattle.ags_certread.specs.Gathered.{IsOfLines, IsStateOfLines};
-ghost use Rattle.ags_certread.specs.Gathering.{Gathering, gathering_of};
+ghost use Rattle.ags_certread.specs.Before.{IsOfStatements};
+ghost use Rattle.ags_certread.specs.Gathered.{IsStateOfStatements};
+ghost use Rattle.ags_certread.specs.Gathering.{gathering_of};
 ghost use Rattle.ags_certread.specs.NextState.{GoesOn, HasRead, IsNext, IsWhole, is_open};
 
 use crate::certificates::certificate_of;
 use crate::ended_lines::EndedLines;
 use crate::gatherer::Gatherer;
-use crate::lines_taken::{bad_line, opening_fault};
+use crate::lines_taken::{bad_line, opened_version};
 use crate::order::has_ended;
 use crate::states::State;
 use ags_certtext::{CertError, CertKind};
@@ -18,14 +19,18 @@ use ags_certtype::Cert;
 use ags_ports::Ports;
 use std::alloc::{AllocError, Global};
 
-/// What comes of the first line, of which nothing is gathered.
-fn first_state(line: &[u8]) -> State
-    ensures lines { (ports : Registers) (g : Gathering) → IsOfLines ports g → IsStateOfLines ports g result }
-    ensures next { (ports : Registers) (g : Gathering) → IsNext ports 0 g line.now g result }
+/// What comes of the first line, of which the version alone is kept.
+fn first_state(gatherer: &mut Gatherer, line: &[u8]) -> State
+    requires { IsOfStatements (gathering_of gatherer.old) }
+    ensures statements { IsStateOfStatements (gathering_of gatherer.new) result }
+    ensures next { (ports : Registers) → IsNext ports 0 (gathering_of gatherer.old) line.now (gathering_of gatherer.new) result }
 {
-    match opening_fault(line) {
-        Some(kind) => State::Told { line: 1, kind },
-        None => State::Open,
+    match opened_version(line) {
+        Ok(version) => {
+            gatherer.version = version;
+            State::Open
+        }
+        Err(kind) => State::Told { line: 1, kind },
     }
 }
 
@@ -37,9 +42,9 @@ fn further_state(
     gatherer: &mut Gatherer,
     line: &[u8],
 ) -> Result<State, AllocError>
-    requires lines { IsOfLines ports.now (gathering_of gatherer.old) }
+    requires statements { IsOfStatements (gathering_of gatherer.old) }
     requires some { 0 < number }
-    ensures lines { IfOk result (IsStateOfLines ports.now (gathering_of gatherer.new)) }
+    ensures statements { IfOk result (IsStateOfStatements (gathering_of gatherer.new)) }
     ensures next { IfOk result (IsNext ports.now number (gathering_of gatherer.old) line.now (gathering_of gatherer.new)) }
 {
     match gatherer.take_line(alloc, ports, number.saturating_add(1), line) {
@@ -57,12 +62,12 @@ fn next_state(
     gatherer: &mut Gatherer,
     line: &[u8],
 ) -> Result<State, AllocError>
-    requires { IsOfLines ports.now (gathering_of gatherer.old) }
-    ensures lines { IfOk result (IsStateOfLines ports.now (gathering_of gatherer.new)) }
+    requires { IsOfStatements (gathering_of gatherer.old) }
+    ensures statements { IfOk result (IsStateOfStatements (gathering_of gatherer.new)) }
     ensures next { IfOk result (IsNext ports.now number (gathering_of gatherer.old) line.now (gathering_of gatherer.new)) }
 {
     if number == 0 {
-        Ok(first_state(line))
+        Ok(first_state(gatherer, line))
     } else {
         further_state(alloc, ports, number, gatherer, line)
     }
@@ -75,7 +80,7 @@ fn finish_open(
     number: u32,
     gatherer: Gatherer,
 ) -> Result<Cert, CertError>
-    requires { IsOfLines ports.now (gathering_of gatherer) }
+    requires { IsOfStatements (gathering_of gatherer) }
     ensures read { IfOk result (λ cert. (text : List ℕ) → IsWhole ports.now text (gathering_of gatherer) number → IsCertOf ports.now text cert) }
     ensures refused { IfErr result (λ error. (text : List ℕ) → IsWhole ports.now text (gathering_of gatherer) number → IsRefused ports.now text error) }
 {

@@ -84,6 +84,7 @@ pub(crate) fn stands_in_order(last: Option<Kind>, statement: &Statement) -> bool
         Statement::Entry(table, _) => entry_follows(last, *table),
         Statement::May(_) => follows(last, Kind::May),
         Statement::Row(_) => follows(last, Kind::Row),
+        Statement::Linked(_) => stands_behind_row(last),
         Statement::End => follows(last, Kind::End),
     }
 }
@@ -97,6 +98,7 @@ pub(crate) fn is_second_start(last: Option<Kind>, statement: &Statement) -> bool
         Statement::Entry(_, _) => false,
         Statement::May(_) => false,
         Statement::Row(_) => false,
+        Statement::Linked(_) => false,
         Statement::End => false,
     }
 }

@@ -1,19 +1,23 @@
 -- What a certificate in hand states can be written: its addresses are below 4096, and no value is empty.
 use Rattle.std.proofs.Common.{◌≡◌, ℕ, zero, suc, ◌+◌, ◌<◌, ◌≤◌, Bool, true, false, List, [], ◌∷◌, ◌++◌, map, get_or, Option, Some, None, refl, arith}
-use Rattle.std.specs.Prelude.{if◌then◌else◌}
+use Rattle.std.specs.Prelude.{nat_lt, if◌then◌else◌}
 use Rattle.std.specs.List.{filter_map, flat_map, range_with_len, cons_option}
+use Rattle.std.proofs.lemmas.Bool.{and_parts}
 use Rattle.std.proofs.lemmas.Bool.Decides.{nat_tests}
 use Rattle.ags_domain.specs.declared.values.Value.{Value}
 use Rattle.ags_row.specs.Cell.{cells_ascend}
 use Rattle.ags_row.specs.Limit.{cell_limit, input_limit, output_limit, is_named}
+use Rattle.ags_row.specs.Link.{is_link}
 use Rattle.ags_row.specs.declared.ats.At.{At}
+use Rattle.ags_row.specs.declared.links.Link.{Link}
 use Rattle.ags_row.specs.declared.rows.Row.{Row}
 use Rattle.ags_certtype.specs.Cert.{Stated, IsCert}
 use Rattle.ags_certtext.specs.declared.statements.Statement.{Statement}
 use Rattle.ags_certtext.specs.declared.statements.Statement.TheVariants.{Entry as EntryOf, May, End}
 use Rattle.ags_certtext.specs.declared.statements.Table.{Table}
 use Rattle.ags_certtext.specs.declared.statements.Table.TheVariants.{Cell, Init, In, Out}
-use Rattle.ags_certsend.specs.CertText.{is_full, entry_of, stating, start_entry, cell_statement, init_statement, input_statement, output_statement, place_statement, ascending, at_statement, row_statements, statements_of}
+use Rattle.ags_certtext.specs.Spelling.{is_offset}
+use Rattle.ags_certsend.specs.CertText.{is_full, entry_of, stating, start_entry, cell_statement, init_statement, input_statement, output_statement, place_statement, ascending, at_statement, link_statements, row_statements, statements_of}
 use Rattle.ags_certsend.proofs.LineLemmas.{IsGoodEntry, IsGood}
 
 -- each of some statements can be written
@@ -105,6 +109,16 @@ row_cells_good from (cell ∷ cells) is =
     let parts = cell_below from cell cells is in
     (good_entry cell.address cell.value (omega (arith, parts.1)), row_cells_good (cell.address + 1) cells parts.2)
 
+link_good : (link : Option Link) → is_link link ≡ true → AllGood (link_statements link)
+unfolding AllGood
+link_good None is = tt
+link_good (Some link) is =
+    let parts = and_parts (nat_lt link.address 2048) (is_offset link.offset) is in
+    (record { below = below_four link.address parts.0; offset = parts.1 }, tt)
+  where
+    below_four : (address : ℕ) → nat_lt address 2048 ≡ true → address < 4096
+    below_four address below = grind (arith, nat_tests)
+
 row_good : (row : Row Value) → AllGood (row_statements row)
 unfolding AllGood row_statements
 row_good row = (
@@ -119,7 +133,7 @@ row_good row = (
     some_index = row.some_index;
     some_indicator = row.some_indicator;
   },
-  row_cells_good 0 row.at row.ascending,
+  good-append (map at_statement row.at) (link_statements row.link) (row_cells_good 0 row.at row.ascending) (link_good row.link row.linked),
 )
 
 rows_good : (rows : List (Row Value)) → AllGood (flat_map row_statements rows)

@@ -20,7 +20,7 @@ use Rattle.ags_ports.specs.declared.registers.Port.{Port}
 use Rattle.ags_row.specs.Limit.{cell_limit, input_limit, output_limit, is_named}
 use Rattle.ags_safe.specs.Certificate.{Suits}
 use Rattle.ags_certtype.specs.Cert.{Stated, IsCert, certificate_of}
-use Rattle.ags_certtext.specs.Fault.{fault_after, has_register, lacks_zero, is_outside}
+use Rattle.ags_certtext.specs.Fault.{fault_in, has_register, lacks_zero, is_outside}
 use Rattle.ags_certtext.specs.declared.kinds.Kind.TheVariants as kind
 use Rattle.ags_certtext.specs.Statement.{entry_in, may_place, entries, has_address, value_at}
 use Rattle.ags_certtext.specs.declared.statements.Entry.{Entry}
@@ -98,24 +98,24 @@ none_lacks ports cert address once = list_any_none (λ (port : Port). port.addre
 pub not_fixed : (address : ℕ) → address < 2048 → nat_le 2048 address ≡ false
 not_fixed address below = grind (arith, nat_tests)
 
-module _ (ports : Registers) (before : List Statement) (address : ℕ) (value : Value) where
-  cell_clear : last_number before ≤ 2 → address < 2048 → has_address (entries Cell before) address ≡ false → fault_after ports before (EntryOf Cell (entry_of address value)) ≡ None
+module _ (ports : Registers) (version : ℕ) (before : List Statement) (address : ℕ) (value : Value) where
+  cell_clear : last_number before ≤ 2 → address < 2048 → has_address (entries Cell before) address ≡ false → fault_in ports version before (EntryOf Cell (entry_of address value)) ≡ None
   cell_clear last below none = rw (in_order before kind.Cell 2 refl last (omega (arith, last)), not_fixed address below, none) refl
 
   init_clear : last_number before ≤ 3 → address < 2048 → has_address (entries Init before) address ≡ false
-      → is_outside (Some value) (value_at (entries Cell before) address) ≡ false → fault_after ports before (EntryOf Init (entry_of address value)) ≡ None
+      → is_outside (Some value) (value_at (entries Cell before) address) ≡ false → fault_in ports version before (EntryOf Init (entry_of address value)) ≡ None
   init_clear last below none within = rw (in_order before kind.Init 3 refl last (omega (arith, last)), not_fixed address below, none, within) refl
 
   in_clear : last_number before ≤ 4 → has_register ports.inputs address ≡ true → has_address (entries In before) address ≡ false
-      → list_any (λ (port : Port). port.address == address && lacks_zero (Some port) (Some value)) ports.inputs ≡ false → fault_after ports before (EntryOf In (entry_of address value)) ≡ None
+      → list_any (λ (port : Port). port.address == address && lacks_zero (Some port) (Some value)) ports.inputs ≡ false → fault_in ports version before (EntryOf In (entry_of address value)) ≡ None
   in_clear last register none zero_held = rw (in_order before kind.In 4 refl last (omega (arith, last)), register, none, zero_held) refl
 
-  out_clear : last_number before ≤ 5 → has_register ports.outputs address ≡ true → has_address (entries Out before) address ≡ false → fault_after ports before (EntryOf Out (entry_of address value)) ≡ None
+  out_clear : last_number before ≤ 5 → has_register ports.outputs address ≡ true → has_address (entries Out before) address ≡ false → fault_in ports version before (EntryOf Out (entry_of address value)) ≡ None
   out_clear last register none = rw (in_order before kind.Out 5 refl last (omega (arith, last)), register, none) refl
 
-may_clear : (ports : Registers) (before : List Statement) (location : ℕ) → last_number before ≤ 6 → list_any (λ (other : ℕ). other == location) (filter_map may_place before) ≡ false
-    → fault_after ports before (May location) ≡ None
-may_clear ports before location last none = rw (in_order before kind.May 6 refl last (omega (arith, last)), none) refl
+may_clear : (ports : Registers) (version : ℕ) (before : List Statement) (location : ℕ) → last_number before ≤ 6 → list_any (λ (other : ℕ). other == location) (filter_map may_place before) ≡ false
+    → fault_in ports version before (May location) ≡ None
+may_clear ports version before location last none = rw (in_order before kind.May 6 refl last (omega (arith, last)), none) refl
 
 -- ---- what is chosen
 
@@ -165,62 +165,62 @@ place_cases location true statement is = cc
 
 -- ---- the kinds
 
-pub cell_keeps : (ports : Registers) (cert : Stated) → Keeps ports cert 2 2048 (cell_statement cert)
+pub cell_keeps : (ports : Registers) (version : ℕ) (cert : Stated) → Keeps ports version cert 2 2048 (cell_statement cert)
 unfolding Keeps Chooses cell_statement stand
-cell_keeps ports cert = λ before address statement below lower cells is.
+cell_keeps ports version cert = λ before address statement below lower cells is.
     let limit = cell_limit cert.limits address in
     let parts = limit_cases Cell address limit (is_full limit) statement is in
     rw (← parts.1) (record {
-      none = cell_clear ports before address limit (lower_last 2 address before lower) below (fresh (entry_in Cell) (λ (entry : Entry). entry.address) 2 address chooses_cell before lower);
+      none = cell_clear ports version before address limit (lower_last 2 address before lower) below (fresh (entry_in Cell) (λ (entry : Entry). entry.address) 2 address chooses_cell before lower);
       kind_is = refl;
       place_is = refl;
       cells = cells_more cert address before cells;
     })
 
-pub init_keeps : (ports : Registers) (cert : Stated) → IsCert cert → Keeps ports cert 3 2048 (init_statement cert)
+pub init_keeps : (ports : Registers) (version : ℕ) (cert : Stated) → IsCert cert → Keeps ports version cert 3 2048 (init_statement cert)
 unfolding Keeps Chooses init_statement stand
-init_keeps ports cert good = λ before address statement below lower cells is.
+init_keeps ports version cert good = λ before address statement below lower cells is.
     let parts = start_cases address (get_or cert.init address None) statement is in
     let within = rw parts.1 at (good.certificate.init address below) in
     rw (← parts.2) (record {
-      none = init_clear ports before address parts.0 (lower_last 3 address before lower) below (fresh (entry_in Init) (λ (entry : Entry). entry.address) 3 address chooses_init before lower)
+      none = init_clear ports version before address parts.0 (lower_last 3 address before lower) below (fresh (entry_in Init) (λ (entry : Entry). entry.address) 3 address chooses_init before lower)
           (not_outside cert before address parts.0 cells within);
       kind_is = refl;
       place_is = refl;
       cells = cells_other cert (EntryOf Init (entry_of address parts.0)) before refl cells;
     })
 
-pub input_keeps : (machine : Machine) (cert : Stated) → Suits value_meaning machine (certificate_of cert) → Keeps machine.ports cert 4 4096 (input_statement cert)
+pub input_keeps : (machine : Machine) (version : ℕ) (cert : Stated) → Suits value_meaning machine (certificate_of cert) → Keeps machine.ports version cert 4 4096 (input_statement cert)
 unfolding Keeps Chooses input_statement stand
-input_keeps machine cert suits = λ before address statement below lower cells is.
+input_keeps machine version cert suits = λ before address statement below lower cells is.
     let limit = input_limit cert.limits address in
     let parts = limit_cases In address limit (is_full limit) statement is in
     rw (← parts.1) (record {
-      none = in_clear machine.ports before address limit (lower_last 4 address before lower) (registered machine.ports.inputs address limit (suits.inputs address below) parts.0)
+      none = in_clear machine.ports version before address limit (lower_last 4 address before lower) (registered machine.ports.inputs address limit (suits.inputs address below) parts.0)
           (fresh (entry_in In) (λ (entry : Entry). entry.address) 4 address chooses_in before lower) (none_lacks machine.ports.inputs cert address suits.once);
       kind_is = refl;
       place_is = refl;
       cells = cells_other cert (EntryOf In (entry_of address limit)) before refl cells;
     })
 
-pub output_keeps : (machine : Machine) (cert : Stated) → Suits value_meaning machine (certificate_of cert) → Keeps machine.ports cert 5 4096 (output_statement cert)
+pub output_keeps : (machine : Machine) (version : ℕ) (cert : Stated) → Suits value_meaning machine (certificate_of cert) → Keeps machine.ports version cert 5 4096 (output_statement cert)
 unfolding Keeps Chooses output_statement stand
-output_keeps machine cert suits = λ before address statement below lower cells is.
+output_keeps machine version cert suits = λ before address statement below lower cells is.
     let limit = output_limit cert.limits address in
     let parts = limit_cases Out address limit (is_full limit) statement is in
     rw (← parts.1) (record {
-      none = out_clear machine.ports before address limit (lower_last 5 address before lower) (registered machine.ports.outputs address limit (suits.outputs address below) parts.0)
+      none = out_clear machine.ports version before address limit (lower_last 5 address before lower) (registered machine.ports.outputs address limit (suits.outputs address below) parts.0)
           (fresh (entry_in Out) (λ (entry : Entry). entry.address) 5 address chooses_out before lower);
       kind_is = refl;
       place_is = refl;
       cells = cells_other cert (EntryOf Out (entry_of address limit)) before refl cells;
     })
 
-pub place_keeps : (ports : Registers) (cert : Stated) → Keeps ports cert 6 4096 (place_statement cert)
+pub place_keeps : (ports : Registers) (version : ℕ) (cert : Stated) → Keeps ports version cert 6 4096 (place_statement cert)
 unfolding Keeps Chooses place_statement stand
-place_keeps ports cert = λ before location statement below lower cells is.
+place_keeps ports version cert = λ before location statement below lower cells is.
     rw (← place_cases location (is_named cert.limits location) statement is) (record {
-      none = may_clear ports before location (lower_last 6 location before lower) (fresh may_place (λ (place : ℕ). place) 6 location chooses_may before lower);
+      none = may_clear ports version before location (lower_last 6 location before lower) (fresh may_place (λ (place : ℕ). place) 6 location chooses_may before lower);
       kind_is = refl;
       place_is = refl;
       cells = cells_other cert (May location) before refl cells;

@@ -1,21 +1,23 @@
 -- The line of each statement of a certificate spells it.
 use Rattle.std.proofs.Common.{◌≡◌, ℕ, ◌+◌, ◌<◌, true, List, [], ◌∷◌, ◌++◌, length, Some, refl, sym, ap, subst, ◌∙◌, append_assoc, append-nil, codes, arith}
+use Rattle.std.specs.Fmt.{signed_decimal}
 use Rattle.ags_text.specs.Field.{Behind, HasFields}
 use Rattle.ags_text.specs.Numeral.{octal4_text}
 use Rattle.ags_text.proofs.NumeralLemmas.{writes}
 use Rattle.ags_domain.specs.ValueText.{value_text}
 use Rattle.ags_domain.specs.declared.values.Value.{Value}
 use Rattle.ags_row.specs.Flag.{some_flag}
-use Rattle.ags_certtext.specs.Spelling.{flag_digits, StatesPlace, StatesEntry, StatesRow, States, table_name}
+use Rattle.ags_row.specs.declared.links.Link.{Link}
+use Rattle.ags_certtext.specs.Spelling.{flag_digits, is_offset, StatesPlace, StatesEntry, StatesRow, StatesLink, States, table_name}
 use Rattle.ags_certtext.specs.declared.statements.Entry.{Entry}
 use Rattle.ags_certtext.specs.declared.statements.RowLine.{RowLine}
 use Rattle.ags_certtext.specs.declared.statements.Statement.{Statement}
-use Rattle.ags_certtext.specs.declared.statements.Statement.TheVariants.{Start, Entry as EntryOf, May, Row, End}
+use Rattle.ags_certtext.specs.declared.statements.Statement.TheVariants.{Start, Entry as EntryOf, May, Row, Linked, End}
 use Rattle.ags_certtext.specs.declared.statements.Table.{Table}
 use Rattle.ags_certtext.specs.declared.statements.Table.TheVariants.{Cell, Init, In, Out, At}
-use Rattle.ags_certsend.specs.Spelled.{entry_text, row_text, statement_text}
+use Rattle.ags_certsend.specs.Spelled.{entry_text, link_text, row_text, statement_text}
 use Rattle.ags_certsend.proofs.ShownLemmas.{IsShown, shown-append, shown-weaker, octal_shown, flags_shown}
-use Rattle.ags_certsend.proofs.ValueLemmas.{spaced, spaced-append, IsValueText, value_spelled}
+use Rattle.ags_certsend.proofs.ValueLemmas.{spaced, spaced-append, IsValueText, value_spelled, printed_offset}
 
 -- ---- what a certificate in hand states
 
@@ -35,11 +37,16 @@ pub record IsGoodRow (row : RowLine) : Type 0 where
   pub some_index : some_flag row.x ≡ true
   pub some_indicator : some_flag row.v ≡ true
 
+pub record IsGoodLink (link : Link) : Type 0 where
+  pub below : link.address < 4096
+  pub offset : is_offset link.offset ≡ true
+
 abbrev pub IsGood : Statement → Type 0
 IsGood (Start location) = location < 4096
 IsGood (EntryOf table entry) = IsGoodEntry entry
 IsGood (May location) = location < 4096
 IsGood (Row row) = IsGoodRow row
+IsGood (Linked link) = IsGoodLink link
 IsGood End = Unit {0}
 
 -- ---- fields of a line
@@ -93,6 +100,28 @@ entry_shown : (entry : Entry) → IsGoodEntry entry → IsShown (4 + 1 + 117) (e
 entry_shown entry good =
     rw good.stated (shown-append (4 + 1) 117 (octal4_text entry.address ++ codes " ") (value_text good.value)
     (shown-append 4 1 (octal4_text entry.address) (codes " ") (four_shown entry.address good.below) (record { plain = refl; short = omega arith })) (value_spelled good.value).shown)
+
+-- an address and an offset
+link_fields : (link : Link) → spaced (octal4_text link.address ∷ signed_decimal link.offset ∷ []) ≡ codes " " ++ link_text link
+unfolding spaced
+link_fields link = ap (λ (text : List ℕ). 32 ∷ (octal4_text link.address ++ (32 ∷ text))) (append-nil (signed_decimal link.offset))
+    ∙ ap (λ (text : List ℕ). 32 ∷ text) (sym (append_assoc (octal4_text link.address) (codes " ") (signed_decimal link.offset)))
+
+link_line : (link : Link) → IsGoodLink link → StatesLink (codes "LINK " ++ link_text link) link
+link_line link good = record {
+  place = octal4_text link.address;
+  offset = signed_decimal link.offset;
+  address_is = writes 8 4 link.address (omega arith) (omega arith) (let below = good.below in omega (arith, below));
+  offset_is = (printed_offset link.offset good.offset).spelled;
+  within = good.offset;
+  fields = rw (link_fields link) at (has_spaced (codes "LINK") (octal4_text link.address ∷ signed_decimal link.offset ∷ []));
+}
+
+link_shown : (link : Link) → IsGoodLink link → IsShown (4 + 1 + 7) (link_text link)
+link_shown link good =
+    shown-append (4 + 1) 7 (octal4_text link.address ++ codes " ") (signed_decimal link.offset)
+    (shown-append 4 1 (octal4_text link.address) (codes " ") (four_shown link.address good.below) (record { plain = refl; short = omega arith }))
+    (printed_offset link.offset good.offset).shown
 
 -- a row
 flag_fields : RowLine → List (List ℕ)
@@ -189,9 +218,17 @@ statement_is_line (Row row) good = record {
   states = row_line row good;
   shown = shown-weaker (4 + 260) 300 _ (omega arith) (shown-append 4 260 (codes "ROW ") (row_text row) (record { plain = refl; short = omega arith }) (row_shown row good));
 }
+statement_is_line (Linked link) good = record {
+  states = link_line link good;
+  shown = shown-weaker (5 + (4 + 1 + 7)) 300 _ (omega arith) (shown-append 5 (4 + 1 + 7) (codes "LINK ") (link_text link) (record { plain = refl; short = omega arith }) (link_shown link good));
+}
 statement_is_line End good = record { states = has_spaced (codes "END") []; shown = record { plain = refl; short = omega arith } }
 
--- the line that opens a certificate
-pub opening_line : HasFields (codes "AGSCERT 1") (codes "AGSCERT" ∷ codes "1" ∷ [])
+-- the lines that open a certificate
+pub first_opening : HasFields (codes "AGSCERT 1") (codes "AGSCERT" ∷ codes "1" ∷ [])
 unfolding spaced
-opening_line = has_spaced (codes "AGSCERT") (codes "1" ∷ [])
+first_opening = has_spaced (codes "AGSCERT") (codes "1" ∷ [])
+
+pub second_opening : HasFields (codes "AGSCERT 2") (codes "AGSCERT" ∷ codes "2" ∷ [])
+unfolding spaced
+second_opening = has_spaced (codes "AGSCERT") (codes "2" ∷ [])

@@ -11,8 +11,8 @@ use Rattle.ags_domain.specs.declared.values.Value.{Value}
 use Rattle.ags_ports.specs.Port.{Registers}
 use Rattle.ags_row.specs.Limit.{cell_limit}
 use Rattle.ags_certtype.specs.Cert.{Stated}
-use Rattle.ags_certtext.specs.Fault.{fault_after, faults, reading_fault, is_outside}
-use Rattle.ags_frame.specs.Fault.{end_fault}
+use Rattle.ags_certtext.specs.Fault.{fault_in, faults, reading_fault, is_outside}
+use Rattle.ags_frame.specs.Fault.{end_fault, version_of}
 use Rattle.ags_frame.specs.Reading.{Stated as StatedBy, Ended, statement_of}
 use Rattle.ags_certtext.specs.Reading.{Reading}
 use Rattle.ags_certtext.specs.declared.kinds.Kind.{Kind}
@@ -20,7 +20,7 @@ use Rattle.ags_certtext.specs.declared.kinds.Kind.TheVariants as kind
 use Rattle.ags_certtext.specs.Kind.{follows, is_kind, kind_of, kinds_before, last_kind}
 use Rattle.ags_certtext.specs.Statement.{entry_in, entries, value_at, row_line, all_below, is_within}
 use Rattle.ags_certtext.specs.declared.statements.Statement.{Statement}
-use Rattle.ags_certtext.specs.declared.statements.Statement.TheVariants.{Start, Entry as EntryOf, May, Row as RowOf, End}
+use Rattle.ags_certtext.specs.declared.statements.Statement.TheVariants.{Start, Entry as EntryOf, May, Row as RowOf, Linked, End}
 use Rattle.ags_certtext.specs.declared.statements.Table.{Table}
 use Rattle.ags_certtext.specs.declared.statements.Table.TheVariants.{Cell, Init, In, Out, At as InRow}
 use Rattle.ags_certsend.specs.CertText.{entry_of, ascending}
@@ -33,14 +33,14 @@ onto before [] = before
 onto before (statement ∷ statements) = onto (statement ∷ before) statements
 
 -- none is at fault behind those before it
-unfoldable pub NoFault : Registers → List Statement → List Statement → Type 0
-NoFault ports before [] = Unit {0}
-NoFault ports before (statement ∷ statements) = (fault_after ports before statement ≡ None) × NoFault ports (statement ∷ before) statements
+unfoldable pub NoFault : Registers → (version : ℕ) → List Statement → List Statement → Type 0
+NoFault ports version before [] = Unit {0}
+NoFault ports version before (statement ∷ statements) = (fault_in ports version before statement ≡ None) × NoFault ports version (statement ∷ before) statements
 
-pub no_fault-append : (ports : Registers) (before xs ys : List Statement) → NoFault ports before xs → NoFault ports (onto before xs) ys → NoFault ports before (xs ++ ys)
+pub no_fault-append : (ports : Registers) (version : ℕ) (before xs ys : List Statement) → NoFault ports version before xs → NoFault ports version (onto before xs) ys → NoFault ports version before (xs ++ ys)
 unfolding NoFault onto
-no_fault-append ports before [] ys first second = second
-no_fault-append ports before (x ∷ xs) ys first second = (first.0, no_fault-append ports (x ∷ before) xs ys first.1 second)
+no_fault-append ports version before [] ys first second = second
+no_fault-append ports version before (x ∷ xs) ys first second = (first.0, no_fault-append ports version (x ∷ before) xs ys first.1 second)
 
 pub onto-append : (before xs ys : List Statement) → onto before (xs ++ ys) ≡ onto (onto before xs) ys
 unfolding onto
@@ -48,15 +48,15 @@ onto-append before [] ys = refl
 onto-append before (x ∷ xs) ys = onto-append (x ∷ before) xs ys
 
 -- their readings have no fault, and neither has the end of the text
-pub readings_faultless : (ports : Registers) (read : List Reading) (before statements : List Statement) → filter_map statement_of read ≡ before
-    → NoFault ports before statements → end_fault (faults ports) (onto before statements) ≡ None
+pub readings_faultless : (ports : Registers) (version : ℕ) (read : List Reading) (before statements : List Statement) → version_of read ≡ version → filter_map statement_of read ≡ before
+    → NoFault ports version before statements → end_fault (faults ports) (onto before statements) ≡ None
     → first_fault (reading_fault ports) read (map StatedBy statements ++ Ended ∷ []) ≡ None
 unfolding NoFault onto
-readings_faultless ports read before [] same none last =
+readings_faultless ports version read before [] opened same none last =
     first_fault-faultless (reading_fault ports) read Ended [] (rw same last) ∙ first_fault-nil (reading_fault ports) (Ended ∷ read)
-readings_faultless ports read before (statement ∷ statements) same none last =
-    first_fault-faultless (reading_fault ports) read (StatedBy statement) (map StatedBy statements ++ Ended ∷ []) (rw same none.0)
-    ∙ readings_faultless ports (StatedBy statement ∷ read) (statement ∷ before) statements (ap (λ (rest : List Statement). statement ∷ rest) same) none.1 last
+readings_faultless ports version read before (statement ∷ statements) opened same none last =
+    first_fault-faultless (reading_fault ports) read (StatedBy statement) (map StatedBy statements ++ Ended ∷ []) (rw (same, opened) none.0)
+    ∙ readings_faultless ports version (StatedBy statement ∷ read) (statement ∷ before) statements opened (ap (λ (rest : List Statement). statement ∷ rest) same) none.1 last
 
 -- ---- what stands before a kind's address
 
@@ -66,6 +66,7 @@ stand (Start location) = 0
 stand (EntryOf table entry) = entry.address
 stand (May location) = location
 stand (RowOf row) = 0
+stand (Linked link) = 0
 stand End = 0
 
 -- how many kinds there are up to that of a table, and up to that of a statement
@@ -81,6 +82,7 @@ kind_number (Start location) = 1
 kind_number (EntryOf table entry) = table_number table
 kind_number (May location) = 6
 kind_number (RowOf row) = 7
+kind_number (Linked link) = 7
 kind_number End = 8
 
 -- and up to that of the last statement
@@ -97,6 +99,7 @@ number_is (EntryOf Out entry) = refl
 number_is (EntryOf InRow entry) = refl
 number_is (May location) = refl
 number_is (RowOf row) = refl
+number_is (Linked link) = refl
 number_is End = refl
 
 not_end : (statement : Statement) → kind_number statement ≤ 7 → is_kind kind.End (kind_of statement) ≡ false
@@ -247,49 +250,49 @@ not_outside cert before address value are within =
 
 -- ---- a kind that stands by address
 
-pub record IsPassed (ports : Registers) (cert : Stated) (kind address : ℕ) (before statements : List Statement) : Type 0 where
-  pub none : NoFault ports before statements
+pub record IsPassed (ports : Registers) (version : ℕ) (cert : Stated) (kind address : ℕ) (before statements : List Statement) : Type 0 where
+  pub none : NoFault ports version before statements
   pub lower : AreLower kind address (onto before statements)
   pub cells : AreCellsOf cert (onto before statements)
 
 -- what a statement of the kind keeps
-pub record IsKept (ports : Registers) (cert : Stated) (kind address : ℕ) (before : List Statement) (statement : Statement) : Type 0 where
-  pub none : fault_after ports before statement ≡ None
+pub record IsKept (ports : Registers) (version : ℕ) (cert : Stated) (kind address : ℕ) (before : List Statement) (statement : Statement) : Type 0 where
+  pub none : fault_in ports version before statement ≡ None
   pub kind_is : kind_number statement ≡ kind
   pub place_is : stand statement ≡ address
   pub cells : AreCellsOf cert (statement ∷ before)
 
-unfoldable pub Keeps : Registers → Stated → ℕ → ℕ → (ℕ → Option Statement) → Type 0
-Keeps ports cert kind most stated = (before : List Statement) (address : ℕ) (statement : Statement) → address < most → AreLower kind address before → AreCellsOf cert before
-    → stated address ≡ Some statement → IsKept ports cert kind address before statement
+unfoldable pub Keeps : Registers → (version : ℕ) → Stated → ℕ → ℕ → (ℕ → Option Statement) → Type 0
+Keeps ports version cert kind most stated = (before : List Statement) (address : ℕ) (statement : Statement) → address < most → AreLower kind address before → AreCellsOf cert before
+    → stated address ≡ Some statement → IsKept ports version cert kind address before statement
 
-passed_found : (ports : Registers) (cert : Stated) (kind most : ℕ) (stated : ℕ → Option Statement) → Keeps ports cert kind most stated
+passed_found : (ports : Registers) (version : ℕ) (cert : Stated) (kind most : ℕ) (stated : ℕ → Option Statement) → Keeps ports version cert kind most stated
     → (before : List Statement) (address end : ℕ) → address < most → AreLower kind address before → AreCellsOf cert before
     → (found : Option Statement) → stated address ≡ found → (rest : List Statement)
-    → ((next : List Statement) → AreLower kind (address + 1) next → AreCellsOf cert next → IsPassed ports cert kind end next rest)
-    → IsPassed ports cert kind end before (cons_option found rest)
+    → ((next : List Statement) → AreLower kind (address + 1) next → AreCellsOf cert next → IsPassed ports version cert kind end next rest)
+    → IsPassed ports version cert kind end before (cons_option found rest)
 unfolding NoFault onto Keeps
-passed_found ports cert kind most stated keeps before address end below lower cells None is rest later = later before (lower_step kind address before lower) cells
-passed_found ports cert kind most stated keeps before address end below lower cells (Some statement) is rest later =
+passed_found ports version cert kind most stated keeps before address end below lower cells None is rest later = later before (lower_step kind address before lower) cells
+passed_found ports version cert kind most stated keeps before address end below lower cells (Some statement) is rest later =
     let kept = keeps before address statement below lower cells is in
     let passed = later (statement ∷ before) (lower_more kind address statement before kept.kind_is kept.place_is lower) kept.cells in
     record { none = (kept.none, passed.none); lower = passed.lower; cells = passed.cells }
 
-range_passed : (ports : Registers) (cert : Stated) (kind most : ℕ) (stated : ℕ → Option Statement) → Keeps ports cert kind most stated
+range_passed : (ports : Registers) (version : ℕ) (cert : Stated) (kind most : ℕ) (stated : ℕ → Option Statement) → Keeps ports version cert kind most stated
     → (from count : ℕ) → from + count ≤ most → (before : List Statement) → AreLower kind from before → AreCellsOf cert before
-    → IsPassed ports cert kind (from + count) before (filter_map stated (range_with_len from count))
+    → IsPassed ports version cert kind (from + count) before (filter_map stated (range_with_len from count))
 unfolding NoFault onto
-range_passed ports cert kind most stated keeps from zero short before lower cells =
+range_passed ports version cert kind most stated keeps from zero short before lower cells =
     let end : from + zero ≡ from = omega arith in
     rw end (record { none = tt; lower = lower; cells = cells })
-range_passed ports cert kind most stated keeps from (suc count) short before lower cells =
+range_passed ports version cert kind most stated keeps from (suc count) short before lower cells =
     let end : from + suc count ≡ from + 1 + count = omega arith in
-    rw end (passed_found ports cert kind most stated keeps before from (from + 1 + count) (omega (arith, short)) lower cells (stated from) refl (filter_map stated (range_with_len (from + 1) count))
-    (λ next later_lower later_cells. range_passed ports cert kind most stated keeps (from + 1) count (omega (arith, short)) next later_lower later_cells))
+    rw end (passed_found ports version cert kind most stated keeps before from (from + 1 + count) (omega (arith, short)) lower cells (stated from) refl (filter_map stated (range_with_len (from + 1) count))
+    (λ next later_lower later_cells. range_passed ports version cert kind most stated keeps (from + 1) count (omega (arith, short)) next later_lower later_cells))
 
-pub ascending_passed : (ports : Registers) (cert : Stated) (kind most : ℕ) (stated : ℕ → Option Statement) → Keeps ports cert kind most stated
-    → (before : List Statement) → AreLower kind 0 before → AreCellsOf cert before → IsPassed ports cert kind most before (ascending stated most)
+pub ascending_passed : (ports : Registers) (version : ℕ) (cert : Stated) (kind most : ℕ) (stated : ℕ → Option Statement) → Keeps ports version cert kind most stated
+    → (before : List Statement) → AreLower kind 0 before → AreCellsOf cert before → IsPassed ports version cert kind most before (ascending stated most)
 unfolding ascending
-ascending_passed ports cert kind most stated keeps before lower cells =
+ascending_passed ports version cert kind most stated keeps before lower cells =
     let end : 0 + most ≡ most = omega arith in
-    rw end at (range_passed ports cert kind most stated keeps 0 most (omega arith) before lower cells)
+    rw end at (range_passed ports version cert kind most stated keeps 0 most (omega arith) before lower cells)

@@ -1,5 +1,5 @@
 -- What was sent of a text that is made piece by piece, a piece further.
-use Rattle.std.proofs.Common.{◌≡◌, ℕ, suc, ◌+◌, ◌-◌, ◌<◌, ◌≤◌, List, [], ◌∷◌, ◌++◌, length, drop, get_or, map, Option, Some, None, refl, sym, ap, ◌∙◌, append_assoc, append-nil, codes, arith}
+use Rattle.std.proofs.Common.{◌≡◌, ℕ, suc, ◌+◌, ◌-◌, ◌<◌, ◌≤◌, List, [], ◌∷◌, ◌++◌, length, drop, get_or, map, Option, Some, None, refl, sym, ap, ◌∙◌, append_assoc, append-nil, arith}
 use Rattle.std.specs.List.{filter_map, flat_map, range_with_len, cons_option}
 use Rattle.std.proofs.lemmas.List.{drop_more, drop_all}
 use Rattle.ags_domain.specs.declared.values.Value.{Value}
@@ -9,8 +9,8 @@ use Rattle.ags_certtype.specs.Cert.{Stated}
 use Rattle.ags_certtext.specs.declared.statements.Statement.{Statement}
 use Rattle.ags_certtext.specs.declared.statements.Statement.TheVariants.{Start, Row as RowOf, End}
 use Rattle.ags_certsend.specs.Spelled.{statement_line}
-use Rattle.ags_certsend.specs.CertText.{cell_statement, init_statement, input_statement, output_statement, place_statement, ascending, row_line_of, at_statement, row_statements, statements_of, cert_text}
-use Rattle.ags_certsend.specs.Section.{section_text, kinds_text, cell_line, row_lines}
+use Rattle.ags_certsend.specs.CertText.{cell_statement, init_statement, input_statement, output_statement, place_statement, ascending, row_line_of, at_statement, link_statements, row_statements, first_line, has_links, statements_of, cert_text}
+use Rattle.ags_certsend.specs.Section.{section_text, kinds_text, cell_line, link_lines, row_lines}
 
 -- ---- a text of a list, made of a piece for each element
 
@@ -100,9 +100,11 @@ flat_map-flat_map : {X Y A : Type 0} (f : Y → List A) (g : X → List Y) (xs :
 flat_map-flat_map f g [] = refl
 flat_map-flat_map f g (x ∷ xs) = flat_map-append f (g x) (flat_map g xs) ∙ ap (λ (ys : List _). flat_map f (g x) ++ ys) (flat_map-flat_map f g xs)
 
-pub row_cut : (row : Row Value) → row_lines row ≡ statement_line (RowOf (row_line_of row)) ++ flat_map cell_line row.at
+pub row_cut : (row : Row Value) → row_lines row ≡ statement_line (RowOf (row_line_of row)) ++ (flat_map cell_line row.at ++ link_lines row.link)
 unfolding row_lines row_statements
-row_cut row = ap (λ (ys : List ℕ). statement_line (RowOf (row_line_of row)) ++ ys) (flat_map-map statement_line at_statement row.at)
+row_cut row = ap (λ (ys : List ℕ). statement_line (RowOf (row_line_of row)) ++ ys)
+    (flat_map-append statement_line (map at_statement row.at) (link_statements row.link)
+    ∙ ap (λ (ys : List ℕ). ys ++ link_lines row.link) (flat_map-map statement_line at_statement row.at))
 
 rows_cut : (rows : List (Row Value)) → flat_map statement_line (flat_map row_statements rows) ≡ flat_map row_lines rows
 unfolding row_lines
@@ -112,7 +114,7 @@ end_cut : flat_map statement_line (End ∷ []) ≡ statement_line End
 end_cut = append-nil (statement_line End)
 
 pub cert_cut : (cert : Stated) → cert_text cert
-    ≡ codes "AGSCERT 1\n" ++ (statement_line (Start cert.start) ++ (kinds_text cert ++ (flat_map row_lines cert.rows ++ statement_line End)))
+    ≡ first_line (has_links cert.rows) ++ (statement_line (Start cert.start) ++ (kinds_text cert ++ (flat_map row_lines cert.rows ++ statement_line End)))
 unfolding cert_text statements_of kinds_text section_text
 cert_cut cert = rw (
   flat_map-append statement_line (ascending (cell_statement cert) 2048),
@@ -124,6 +126,27 @@ cert_cut cert = rw (
   rows_cut cert.rows,
   end_cut,
 ) (simp append_assoc refl)
+
+-- ---- three parts that are sent one behind the other
+
+module _ (p1 p2 p3 : List ℕ) (old : Option (List ℕ)) where
+  first_sent : (t1 : Option (List ℕ)) → t1 ≡ appended old p1 → Wrote old t1 (p1 ++ (p2 ++ p3)) (p2 ++ p3)
+  first_sent t1 is = wrote_piece p1 (p2 ++ p3) (wrote_nothing old (p1 ++ (p2 ++ p3))) refl is
+
+  second_sent : (t1 t2 : Option (List ℕ)) → t1 ≡ appended old p1 → t2 ≡ appended t1 p2 → Wrote old t2 (p1 ++ (p2 ++ p3)) p3
+  second_sent t1 t2 is1 is2 = wrote_piece p2 p3 (first_sent t1 is1) refl is2
+
+  pub first_front : (t1 : Option (List ℕ)) → WroteFront old t1 p1 → WroteFront old t1 (p1 ++ (p2 ++ p3))
+  first_front t1 front = front_in_first p1 (p2 ++ p3) front
+
+  pub second_front : (t1 t2 : Option (List ℕ)) → t1 ≡ appended old p1 → WroteFront t1 t2 p2 → WroteFront old t2 (p1 ++ (p2 ++ p3))
+  second_front t1 t2 is1 front = wrote_front p2 p3 (first_sent t1 is1) refl front
+
+  pub third_front : (t1 t2 t3 : Option (List ℕ)) → t1 ≡ appended old p1 → t2 ≡ appended t1 p2 → WroteFront t2 t3 p3 → WroteFront old t3 (p1 ++ (p2 ++ p3))
+  third_front t1 t2 t3 is1 is2 front = wrote_front_last (second_sent t1 t2 is1 is2) front
+
+  pub all_3 : (t1 t2 t3 : Option (List ℕ)) → t1 ≡ appended old p1 → t2 ≡ appended t1 p2 → t3 ≡ appended t2 p3 → t3 ≡ appended old (p1 ++ (p2 ++ p3))
+  all_3 t1 t2 t3 is1 is2 is3 = wrote_all (wrote_piece p3 [] (second_sent t1 t2 is1 is2) (sym (append-nil p3)) is3)
 
 -- ---- five parts that are sent one behind the other
 

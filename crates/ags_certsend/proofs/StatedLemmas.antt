@@ -11,11 +11,12 @@ use Rattle.ags_domain.specs.declared.values.Value.TheVariants.{Range, Words}
 use Rattle.ags_row.specs.Cell.{value_among}
 use Rattle.ags_row.specs.Limit.{cell_limit, input_limit, output_limit, is_named}
 use Rattle.ags_row.specs.declared.ats.At.{At}
+use Rattle.ags_row.specs.declared.links.Link.{Link}
 use Rattle.ags_row.specs.declared.rows.Row.{Row}
 use Rattle.ags_certtype.specs.Cert.{Stated, IsCert}
 use Rattle.ags_frame.specs.Reading.{Stated as StatedBy, Ended, statement_of}
-use Rattle.ags_certtext.specs.Statement.{entry_in, may_place, entries, value_at}
-use Rattle.ags_certtext.specs.Text.{start_of, IsLimit, leading_cells, rows_of, AreRowsOf, IsWhatIsStated}
+use Rattle.ags_certtext.specs.Statement.{entry_in, may_place, entries, row_entries, row_links, value_at}
+use Rattle.ags_certtext.specs.Text.{start_of, IsLimit, IsLinkOf, rows_of, AreRowsOf, IsWhatIsStated}
 use Rattle.ags_certtext.specs.declared.statements.Entry.{Entry}
 use Rattle.ags_certtext.specs.declared.statements.Statement.{Statement}
 use Rattle.ags_certtext.specs.declared.statements.Statement.TheVariants.{Start, Entry as EntryOf, May, Row as RowOf, End}
@@ -24,7 +25,7 @@ use Rattle.ags_certtext.specs.declared.statements.Table.TheVariants.{Cell, Init,
 use Rattle.ags_certsend.specs.Section.{address_count, stated_at}
 use Rattle.ags_certsend.specs.declared.sections.Section.{Section}
 use Rattle.ags_certsend.specs.declared.sections.Section.TheVariants.{Cells, Starts, Inputs, Outputs, Places}
-use Rattle.ags_certsend.specs.CertText.{is_full, entry_of, limited, stating, start_entry, cell_statement, init_statement, input_statement, output_statement, place_statement, ascending, at_statement, row_statements, statements_of}
+use Rattle.ags_certsend.specs.CertText.{is_full, entry_of, limited, stating, start_entry, cell_statement, init_statement, input_statement, output_statement, place_statement, ascending, at_statement, link_statements, row_statements, statements_of}
 use Rattle.ags_certsend.proofs.ValueLemmas.{full_holds}
 use Rattle.ags_certsend.proofs.PassLemmas.{Chooses, apart, kind_number, table_number}
 use Rattle.ags_certsend.proofs.KindLemmas.{chooses_cell, chooses_init, chooses_in, chooses_out, chooses_may, limit_cases, start_cases, place_cases}
@@ -84,10 +85,16 @@ unfolding Avoids
 cells_avoid kind [] other = tt
 cells_avoid kind (cell ∷ cells) other = (other, cells_avoid kind cells other)
 
+link_avoids : (kind : ℕ) (link : Option Link) → ((7 ≡ kind) → ⊥) → Avoids kind (link_statements link)
+unfolding Avoids
+link_avoids kind None other = tt
+link_avoids kind (Some link) other = (other, tt)
+
 rows_avoid : (kind : ℕ) (rows : List (Row Value)) → ((7 ≡ kind) → ⊥) → Avoids kind (flat_map row_statements rows)
 unfolding Avoids row_statements
 rows_avoid kind [] other = tt
-rows_avoid kind (row ∷ rows) other = avoids-append kind (row_statements row) (flat_map row_statements rows) (other, cells_avoid kind row.at other) (rows_avoid kind rows other)
+rows_avoid kind (row ∷ rows) other = avoids-append kind (row_statements row) (flat_map row_statements rows)
+    (other, avoids-append kind (map at_statement row.at) (link_statements row.link) (cells_avoid kind row.at other) (link_avoids kind row.link other)) (rows_avoid kind rows other)
 
 -- ---- the value that is stated of an address
 
@@ -239,7 +246,7 @@ rows_skip (statement ∷ front) rest avoids = no_row statement (front ++ rest) a
 entries_of : List (At Value) → List Entry
 entries_of cells = map (λ (cell : At Value). entry_of cell.address cell.value) cells
 
-cells_lead : (cells : List (At Value)) (rest : List Statement) → leading_cells rest ≡ [] → leading_cells (map at_statement cells ++ rest) ≡ entries_of cells
+cells_lead : (cells : List (At Value)) (rest : List Statement) → row_entries rest ≡ [] → row_entries (map at_statement cells ++ rest) ≡ entries_of cells
 unfolding entries_of
 cells_lead [] rest none = none
 cells_lead (cell ∷ cells) rest none = ap (λ (others : List Entry). entry_of cell.address cell.value ∷ others) (cells_lead cells rest none)
@@ -248,6 +255,22 @@ cells_skip : (cells : List (At Value)) (rest : List Statement) → rows_of (map 
 cells_skip [] rest = refl
 cells_skip (cell ∷ cells) rest = cells_skip cells rest
 
+cells_links : (cells : List (At Value)) (rest : List Statement) → row_links (map at_statement cells ++ rest) ≡ row_links rest
+cells_links [] rest = refl
+cells_links (cell ∷ cells) rest = cells_links cells rest
+
+link_lead : (link : Option Link) (rest : List Statement) → row_entries rest ≡ [] → row_entries (link_statements link ++ rest) ≡ []
+link_lead None rest none = none
+link_lead (Some link) rest none = none
+
+link_skip : (link : Option Link) (rest : List Statement) → rows_of (link_statements link ++ rest) ≡ rows_of rest
+link_skip None rest = refl
+link_skip (Some link) rest = refl
+
+same_link : (link : Option Link) (rest : List Statement) → row_links rest ≡ [] → IsLinkOf (row_links (link_statements link ++ rest)) link
+same_link None rest none = rw none refl
+same_link (Some link) rest none = rw none refl
+
 same_cells : (cells : List (At Value)) (address : ℕ) → value_among cells address ≡ value_at (entries_of cells) address
 unfolding entries_of
 same_cells [] address = refl
@@ -255,17 +278,27 @@ same_cells (cell ∷ cells) address = rw (same_cells cells address) refl
 
 record AreStatedRows (rows : List (Row Value)) (statements : List Statement) : Type 0 where
   are : AreRowsOf (rows_of statements) rows
-  lead : leading_cells statements ≡ []
+  lead : row_entries statements ≡ []
+  links : row_links statements ≡ []
 
 rows_stated : (rows : List (Row Value)) → AreStatedRows rows (flat_map row_statements rows ++ End ∷ [])
 unfolding row_statements
-rows_stated [] = record { are = tt; lead = refl }
+rows_stated [] = record { are = tt; lead = refl; links = refl }
 rows_stated (row ∷ rows) =
     let behind : List Statement = flat_map row_statements rows ++ End ∷ [] in
     let rest = rows_stated rows in
-    let cut : (map at_statement row.at ++ flat_map row_statements rows) ++ End ∷ [] ≡ map at_statement row.at ++ behind = append_assoc (map at_statement row.at) (flat_map row_statements rows) (End ∷ []) in
+    let cells = map at_statement row.at in
+    let link = link_statements row.link in
+    let cut : ((cells ++ link) ++ flat_map row_statements rows) ++ End ∷ [] ≡ cells ++ (link ++ behind) =
+    append_assoc (cells ++ link) (flat_map row_statements rows) (End ∷ []) ∙ append_assoc cells link behind in
     record {
-      are = rw (cut, cells_lead row.at behind rest.lead, cells_skip row.at behind) (
+      are = rw (
+        cut,
+        cells_lead row.at (link ++ behind) (link_lead row.link behind rest.lead),
+        cells_links row.at (link ++ behind),
+        cells_skip row.at (link ++ behind),
+        link_skip row.link behind,
+      ) (
         record {
           location = refl;
           a = refl;
@@ -273,10 +306,12 @@ rows_stated (row ∷ rows) =
           x = refl;
           v = refl;
           cells = same_cells row.at;
+          link = same_link row.link behind rest.links;
         },
         rest.are,
       );
       lead = refl;
+      links = refl;
     }
 
 -- ---- the kinds that stand by address

@@ -21,7 +21,7 @@ use Rattle.ags_domain.specs.declared.values.Value.TheVariants.{Range, Words}
 use Rattle.ags_domain.specs.declared.word_sets.WordSet.{WordSet}
 use Rattle.ags_domain.proofs.PartLaws.{full}
 use Rattle.ags_domain.proofs.ValueLaws.{full_value}
-use Rattle.ags_certtext.specs.Spelling.{IsSigned, AreWords, StateValue}
+use Rattle.ags_certtext.specs.Spelling.{IsSigned, is_offset, AreWords, StateValue}
 use Rattle.ags_certsend.proofs.ShownLemmas.{IsShown, shown-append, shown-weaker, digits_shown, octal_shown}
 
 -- ---- signed numbers
@@ -36,10 +36,10 @@ decimal_shown n small =
     let is = decimal_spells n small in
     record { plain = digits_shown 10 (decimal n) (omega arith) is.digits.1; short = is.fits }
 
--- the value of a word, as it is printed
-record IsPrinted (number : ℤ) : Type 0 where
-  spelled : IsSigned (signed_decimal number) number
-  shown : IsShown 7 (signed_decimal number)
+-- a number, as it is printed
+pub record IsPrinted (number : ℤ) : Type 0 where
+  pub spelled : IsSigned (signed_decimal number) number
+  pub shown : IsShown 7 (signed_decimal number)
 
 printed_positive : (n : ℕ) → n < 10 ^ 6 → IsPrinted (pos n)
 printed_positive n small = record {
@@ -62,6 +62,17 @@ printed_val w below =
       | inl low ↦ rw (val-low w low) (printed_positive w (omega (arith, low)))
       | inr from ↦ rw (negative_val w from below) (printed_negative (2 ^ 18 - w - 1) (omega (arith, from, below)))
     ]
+
+-- so is a difference of two words' values
+pub printed_offset : (number : ℤ) → is_offset number ≡ true → IsPrinted number
+printed_offset (pos n) is = printed_positive n (few n is)
+  where
+    few : (n : ℕ) → is_offset (pos n) ≡ true → n < 10 ^ 6
+    few n is = grind (arith, ints, nat_tests)
+printed_offset (negsuc n) is = printed_negative n (few n is)
+  where
+    few : (n : ℕ) → is_offset (negsuc n) ≡ true → suc n < 10 ^ 6
+    few n is = grind (arith, ints, nat_tests)
 
 -- ---- fields with a blank before each
 

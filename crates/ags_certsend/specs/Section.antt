@@ -3,11 +3,12 @@ use Rattle.std.specs.Prelude.{ℕ, List, ◌++◌, Option}
 use Rattle.std.specs.List.{flat_map}
 use Rattle.ags_domain.specs.declared.values.Value.{Value}
 use Rattle.ags_row.specs.declared.ats.At.{At}
+use Rattle.ags_row.specs.declared.links.Link.{Link}
 use Rattle.ags_row.specs.declared.rows.Row.{Row}
 use Rattle.ags_certtype.specs.Cert.{Stated}
 use Rattle.ags_certtext.specs.declared.statements.Statement.{Statement}
 use Rattle.ags_certsend.specs.Spelled.{statement_line}
-use Rattle.ags_certsend.specs.CertText.{cell_statement, init_statement, input_statement, output_statement, place_statement, ascending, at_statement, row_statements}
+use Rattle.ags_certsend.specs.CertText.{cell_statement, init_statement, input_statement, output_statement, place_statement, ascending, at_statement, link_statements, row_statements}
 use Rattle.ags_certsend.specs.declared.sections.Section.{Section}
 use Rattle.ags_certsend.specs.declared.sections.Section.TheVariants.{Cells, Starts, Inputs, Outputs, Places}
 
@@ -39,6 +40,10 @@ kinds_text cert = section_text Cells cert
 -- the line of a cell of a row
 abbrev pub cell_line : At Value → List ℕ
 cell_line cell = statement_line (at_statement cell)
+
+-- the line of a row's link, if it has one
+abbrev pub link_lines : Option Link → List ℕ
+link_lines link = flat_map statement_line (link_statements link)
 
 -- the lines of a row
 unfoldable pub row_lines : Row Value → List ℕ

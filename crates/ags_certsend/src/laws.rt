@@ -9,12 +9,13 @@ ghost use Rattle.ags_certtype.specs.Cert.{Stated, IsCert, certificate_of};
 ghost use Rattle.ags_frame.specs.Reading.{Opening, Stated as StatedBy, Ended};
 ghost use Rattle.ags_certtext.specs.Reading.{AreReadings};
 ghost use Rattle.ags_certtext.specs.Text.{IsCertOf};
-ghost use Rattle.ags_certsend.specs.CertText.{statements_of, cert_text};
+ghost use Rattle.ags_certsend.specs.CertText.{statements_of, text_version, cert_text};
 
 /// The lines of what is written of a certificate are read as what it states, line by line: each is a spelling of at most 512 bytes.
+/// The first opens version 2 exactly where some row has a link, and else version 1.
 pub fn sent_lines_are_read()
     ensures { (cert : Stated) → IsCert cert
-        → AreReadings (lines_of (cert_text cert)) (Opening 1 ∷ (map StatedBy (statements_of cert) ++ Ended ∷ [])) }
+        → AreReadings (lines_of (cert_text cert)) (Opening (text_version cert) ∷ (map StatedBy (statements_of cert) ++ Ended ∷ [])) }
 {}
 
 /// What is written of a certificate reads back as that certificate, for the registers of each machine that it suits.

@@ -4,6 +4,7 @@ ghost use Rattle.std.specs.Prelude.{Some};
 
 use ags_certtext::{Entry, RowLine, Statement, Table};
 use ags_domain::Value;
+use ags_row::Link;
 use ags_text::FourDigits;
 use std::fmt;
 
@@ -98,6 +99,22 @@ impl fmt::Display for SpelledEntry {
     }
 }
 
+/// A link, without its keyword.
+#[derive(Clone, Copy)]
+struct SpelledLink(Link);
+
+impl fmt::Display for SpelledLink {
+    ghost use Rattle.ags_certsend.specs.Spelled.{link_text};
+
+    ghost output = { λ link. Some (link_text link.0) };
+
+    fn fmt<W: fmt::Write>(&self, f: &mut fmt::Formatter<W>) -> fmt::Result {
+        let address = FourDigits(self.0.address);
+        let offset = self.0.offset;
+        write!(f, "{address} {offset}")
+    }
+}
+
 /// A row, without its keyword.
 #[derive(Clone, Copy)]
 struct SpelledRow(RowLine);
@@ -144,6 +161,10 @@ impl fmt::Display for Spelled {
             Statement::Row(row) => {
                 let row = SpelledRow(row);
                 write!(f, "ROW {row}")
+            }
+            Statement::Linked(link) => {
+                let link = SpelledLink(link);
+                write!(f, "LINK {link}")
             }
             Statement::End => f.write_str("END"),
         }

@@ -1,6 +1,6 @@
 //! The writer of certificates.
 
-ghost use Rattle.std.specs.Prelude.{◌≡◌, IfSome, OnOk, OnErr};
+ghost use Rattle.std.specs.Prelude.{◌≡◌, IfSome, OnOk, OnErr, is_some};
 ghost use Rattle.std.specs.List.{flat_map};
 ghost use Rattle.ags_domain.specs.Value.{value_meaning};
 ghost use Rattle.ags_outside.specs.Count.{HasCause};
@@ -11,8 +11,8 @@ ghost use Rattle.ags_safe.specs.Certificate.{Suits};
 ghost use Rattle.ags_certtype.specs.Cert.{certificate_of};
 ghost use Rattle.ags_certtext.specs.Text.{IsCertOf};
 ghost use Rattle.ags_certsend.specs.Spelled.{statement_line};
-ghost use Rattle.ags_certsend.specs.CertText.{row_line_of, cert_text};
-ghost use Rattle.ags_certsend.specs.Section.{section_text, cell_line, row_lines, kinds_text};
+ghost use Rattle.ags_certsend.specs.CertText.{row_line_of, has_links, first_line, cert_text};
+ghost use Rattle.ags_certsend.specs.Section.{section_text, cell_line, link_lines, row_lines, kinds_text};
 
 use crate::laws::sent_certificate_reads_back;
 use crate::sections::Section;
@@ -21,7 +21,7 @@ use ags_certtext::{Entry, RowLine, Statement, Table};
 use ags_certtype::Cert;
 use ags_domain::Value;
 use ags_outside::{SendError, Sink, send};
-use ags_row::{At, Row};
+use ags_row::{At, Link, Row};
 use arrayvec::ArrayString;
 use std::fmt::Write;
 
@@ -83,6 +83,18 @@ fn send_cells<K: Sink>(out: &mut K, cells: &[At<Value>]) -> Result<(), SendError
     Ok(())
 }
 
+/// Sends the line of a row's link, if it has one.
+fn send_link<K: Sink>(out: &mut K, link: Option<Link>) -> Result<(), SendError>
+    ensures sent { OnOk result (K.told out.new ≡ appended (K.told out.old) (link_lines link)) }
+    ensures front { OnErr result (WroteFront (K.told out.old) (K.told out.new) (link_lines link)) }
+    ensures faults { HasCause (K.faults out.old) (K.faults out.new) (is_write_fault result) }
+{
+    match link {
+        Some(link) => send_statement(out, Statement::Linked(link)),
+        None => Ok(()),
+    }
+}
+
 /// What the line of a row states.
 fn row_line(row: &Row<Value>) -> RowLine
     ensures { result ≡ row_line_of row.now }
@@ -96,14 +108,15 @@ fn row_line(row: &Row<Value>) -> RowLine
     }
 }
 
-/// Sends the lines of a row: its own, and those of its cells.
+/// Sends the lines of a row: its own, those of its cells, and that of its link.
 fn send_row<K: Sink>(out: &mut K, row: &Row<Value>) -> Result<(), SendError>
     ensures sent { OnOk result (K.told out.new ≡ appended (K.told out.old) (row_lines row.now)) }
     ensures front { OnErr result (WroteFront (K.told out.old) (K.told out.new) (row_lines row.now)) }
     ensures faults { HasCause (K.faults out.old) (K.faults out.new) (is_write_fault result) }
 {
     send_statement(out, Statement::Row(row_line(row)))?;
-    send_cells(out, row.at())
+    send_cells(out, row.at())?;
+    send_link(out, row.link())
 }
 
 /// Sends the lines of rows, in their order.
@@ -131,13 +144,38 @@ fn send_kinds<K: Sink>(out: &mut K, cert: &Cert) -> Result<(), SendError>
     send_section(out, cert, Section::Places)
 }
 
+/// Whether a row has a link.
+fn is_linked(row: &Row<Value>) -> bool
+    ensures { result ≡ is_some row.now.link }
+{
+    row.link().is_some()
+}
+
+/// Whether some row has a link.
+#[tactic(auto, unfolding(crate::specs::CertText::has_links))]
+fn has_links(rows: &[Row<Value>]) -> bool
+    ensures { result ≡ has_links rows.now }
+{
+    rows.iter().any(|row| is_linked(row))
+}
+
+/// The first line of a certificate's text, with its line feed.
+fn first_line(cert: &Cert) -> &'static [u8]
+    ensures { result.now ≡ first_line (has_links cert.now.rows) }
+{
+    if has_links(cert.rows()) {
+        return b"AGSCERT 2\n";
+    }
+    b"AGSCERT 1\n"
+}
+
 /// Sends the text of a certificate, part by part.
 fn send_parts<K: Sink>(cert: &Cert, out: &mut K) -> Result<(), SendError>
     ensures sent { OnOk result (K.told out.new ≡ appended (K.told out.old) (cert_text cert.now)) }
     ensures front { OnErr result (WroteFront (K.told out.old) (K.told out.new) (cert_text cert.now)) }
     ensures faults { HasCause (K.faults out.old) (K.faults out.new) (is_write_fault result) }
 {
-    send(out, b"AGSCERT 1\n")?;
+    send(out, first_line(cert))?;
     send_statement(out, Statement::Start(cert.start()))?;
     send_kinds(out, cert)?;
     send_rows(out, cert.rows())?;

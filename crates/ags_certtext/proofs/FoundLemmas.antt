@@ -20,8 +20,8 @@ use Rattle.ags_domain.specs.declared.values.Value.{Value}
 use Rattle.ags_domain.specs.declared.values.Value.TheVariants.{Range, Words}
 use Rattle.ags_certtext.specs.declared.forms.Form.{Form}
 use Rattle.ags_certtext.specs.declared.forms.Form.TheVariants as form
-use Rattle.ags_certtext.specs.Spelling.{IsSigned, AreWords}
-use Rattle.ags_certtext.specs.Front.{AreAtFront, BeginsWithWord, BeginsWithValue, BeginsWithEnds, BeginsWithWords, BeginsWithNamed, IsValueBetween, IsEnd, IsEveryWord, form_name, IsInForm}
+use Rattle.ags_certtext.specs.Spelling.{IsSigned, is_offset, AreWords}
+use Rattle.ags_certtext.specs.Front.{AreAtFront, BeginsWithWord, BeginsWithValue, BeginsWithEnds, BeginsWithWords, BeginsWithNamed, IsValueBetween, IsEnd, IsOffset, IsEveryWord, form_name, IsInForm}
 use Rattle.ags_certtext.proofs.ValueLemmas.{every_one, range_one, set_one}
 use Rattle.ags_certtext.proofs.WordLemmas.{munch}
 use Rattle.ags_certtext.proofs.FrontLemmas.{form_value, value_form}
@@ -113,6 +113,16 @@ end_found text =
       | inl found ↦ elim (decide_bool (fits found.it)) [
         | inl within ↦ inl (record { it = found.it; is = record { is = found.is; within = within }; one = λ other also. found.one other also.is })
         | inr over ↦ inr (λ number is. over (sym (ap fits (found.one number is.is)) ∙ is.within))
+      ]
+    ]
+
+pub offset_found : (text : List ℕ) → OneFound ℤ (IsOffset text)
+offset_found text =
+    elim (signed_found text) [
+      | inr none ↦ inr (λ number is. none number is.is)
+      | inl found ↦ elim (decide_bool (is_offset found.it)) [
+        | inl within ↦ inl (record { it = found.it; is = record { is = found.is; within = within }; one = λ other also. found.one other also.is })
+        | inr over ↦ inr (λ number is. over (sym (ap is_offset (found.one number is.is)) ∙ is.within))
       ]
     ]
 

@@ -134,7 +134,7 @@ pub cut_stands : (line : List ℕ) (fields : List (List ℕ)) → AreFields fiel
 cut_stands line fields are cut = (cut_standing line fields (fields_some fields are) cut).1
 
 -- the fields of a value
-signed_field : (text : List ℕ) (number : ℤ) → IsSigned text number → IsField text
+pub signed_field : (text : List ℕ) (number : ℤ) → IsSigned text number → IsField text
 signed_field text number is = rw is.whole (by_sign is.negative (number_field 10 6 is.digits is.size (omega arith) is.is_decimal))
   where
     by_sign : (negative : Bool) → IsField is.digits → IsField (if negative then 45 ∷ is.digits else is.digits)

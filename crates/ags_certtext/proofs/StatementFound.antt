@@ -1,21 +1,23 @@
 -- What each line is read as, over every text: the one statement that stands behind its keyword, or none.
 use Rattle.std.proofs.Common.{◌≡◌, ℕ, cond, eqb, Bool, List, length, get_or, Option, refl, sym, ap, ◌∙◌, inl, inr, arith}
+use Rattle.std.specs.Prelude.{ℤ}
 use Rattle.std.specs.List.{list_all}
 use Rattle.ags_text.specs.Field.{is_blank, AreBlanks, next_field, behind_field}
 use Rattle.ags_text.specs.Numeral.{Writes}
 use Rattle.ags_text.proofs.Deciding.{Decided, decide_bool, decide_list}
 use Rattle.ags_domain.specs.declared.values.Value.{Value}
+use Rattle.ags_row.specs.declared.links.Link.{Link}
 use Rattle.ags_certtext.specs.declared.keywords.Keyword.{Keyword}
 use Rattle.ags_certtext.specs.declared.keywords.Keyword.TheVariants as keyword
 use Rattle.ags_certtext.specs.declared.statements.Entry.{Entry}
 use Rattle.ags_certtext.specs.declared.statements.RowLine.{RowLine}
 use Rattle.ags_certtext.specs.declared.statements.Statement.{Statement}
-use Rattle.ags_certtext.specs.declared.statements.Statement.TheVariants.{Start, Entry as EntryOf, May, Row, End}
+use Rattle.ags_certtext.specs.declared.statements.Statement.TheVariants.{Start, Entry as EntryOf, May, Row, Linked, End}
 use Rattle.ags_certtext.specs.declared.statements.Table.TheVariants.{Cell, Init, In, Out, At}
 use Rattle.ags_certtext.specs.Spelling.{States}
 use Rattle.ags_certtext.specs.Front.{BeginsWithValue, BeginsWithNamed, IsPlace}
-use Rattle.ags_certtext.specs.Operand.{IsEntry, AreRowFlags, IsRow, keyword_name, AreOperands}
-use Rattle.ags_certtext.proofs.FoundLemmas.{Only, OneFound, OnlyFront, written_found, value_found, named_found}
+use Rattle.ags_certtext.specs.Operand.{IsEntry, IsLinkText, AreRowFlags, IsRow, keyword_name, AreOperands}
+use Rattle.ags_certtext.proofs.FoundLemmas.{Only, OneFound, OnlyFront, written_found, offset_found, value_found, named_found}
 use Rattle.ags_certtext.proofs.FlagFound.{named_flags_found}
 use Rattle.ags_certtext.proofs.FrontLemmas.{no_word, no_word_name}
 use Rattle.ags_certtext.proofs.StatementLemmas.{operands_state, state_operands}
@@ -57,6 +59,26 @@ entry_found text =
       one = λ entry is.
           entry_parts entry address.it front.value (address.one entry.address is.address_is) (front.one entry.value is.rest is.value_is (no_word is.rest is.ends)).0;
     })
+
+link_parts : (link : Link) (address : ℕ) (offset : ℤ) → link.address ≡ address → link.offset ≡ offset → link ≡ record { address = address; offset = offset }
+link_parts link address offset place same = rw (← place, ← same) refl
+
+link_found : (text : List ℕ) → OneFound Link (IsLinkText text)
+link_found text =
+    elim (decide_blanks (behind_field (behind_field text))) [
+      | inr marks ↦ inr (λ link is. marks is.ends)
+      | inl blank ↦ elim (written_found 4 (next_field text)) [
+        | inr none ↦ inr (λ link is. none link.address is.address_is)
+        | inl address ↦ elim (offset_found (next_field (behind_field text))) [
+          | inr none ↦ inr (λ link is. none link.offset is.offset_is)
+          | inl offset ↦ inl (record {
+            it = record { address = address.it; offset = offset.it };
+            is = record { address_is = address.is; offset_is = offset.is; ends = blank };
+            one = λ link is. link_parts link address.it offset.it (address.one link.address is.address_is) (offset.one link.offset is.offset_is);
+          })
+        ]
+      ]
+    ]
 
 -- the flags of a row, both of them
 record RowFlags : Type 0 where
@@ -146,13 +168,15 @@ operands_found keyword.Start text = made_found Start (place_found text)
 operands_found (keyword.Entry table) text = made_found (λ (entry : Entry). EntryOf table entry) (entry_found text)
 operands_found keyword.May text = made_found May (place_found text)
 operands_found keyword.Row text = made_found Row (row_found text)
+operands_found keyword.Link text = made_found Linked (link_found text)
 operands_found keyword.End text = end_found text
 
 -- the keyword of a name, told by its first letter and, of IN and INIT, by its length
 abbrev keyword_by : (letter long : ℕ) → Keyword
 keyword_by letter long =
     cond (eqb letter 83) keyword.Start (cond (eqb letter 67) (keyword.Entry Cell) (cond (eqb letter 79) (keyword.Entry Out) (cond (eqb letter 77) keyword.May
-    (cond (eqb letter 82) keyword.Row (cond (eqb letter 65) (keyword.Entry At) (cond (eqb letter 69) keyword.End (cond (eqb long 2) (keyword.Entry In) (keyword.Entry Init))))))))
+    (cond (eqb letter 82) keyword.Row (cond (eqb letter 65) (keyword.Entry At) (cond (eqb letter 69) keyword.End
+    (cond (eqb letter 76) keyword.Link (cond (eqb long 2) (keyword.Entry In) (keyword.Entry Init)))))))))
 
 abbrev keyword_of : List ℕ → Keyword
 keyword_of name = keyword_by (get_or name 0 0) (length name)
@@ -165,6 +189,7 @@ keyword_is (keyword.Entry In) = refl
 keyword_is (keyword.Entry Out) = refl
 keyword_is keyword.May = refl
 keyword_is keyword.Row = refl
+keyword_is keyword.Link = refl
 keyword_is (keyword.Entry At) = refl
 keyword_is keyword.End = refl
 

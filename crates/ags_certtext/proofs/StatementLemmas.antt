@@ -2,30 +2,35 @@
 --
 -- The crates above may cite stated_is, which is behind the law spelled_statements_are_lawful.
 use Rattle.std.proofs.Common.{◌≡◌, ℕ, ◌<◌, ◌^◌, ◌⊎◌, Bool, List, [], ◌∷◌, ◌++◌, length, slice_index, get_or, Option, Some, refl, sym, ap, ◌∙◌, inl, inr, arith}
-use Rattle.std.specs.Prelude.{codes}
+use Rattle.std.specs.Prelude.{ℤ, codes}
 use Rattle.std.specs.Option.{option_map}
 use Rattle.std.proofs.lemmas.Int.Digits.{digits_value-lt}
 use Rattle.ags_text.specs.Field.{AreBlanks, IsField, AreFields, AreCut, next_field, behind_field}
 use Rattle.ags_text.specs.Numeral.{Writes}
 use Rattle.ags_text.proofs.FieldLaws.{standing_cut, writes_field, blanks_none, first_byte}
 use Rattle.ags_domain.specs.declared.values.Value.{Value}
+use Rattle.ags_row.specs.declared.links.Link.{Link}
 use Rattle.ags_certtext.specs.declared.keywords.Keyword.{Keyword}
 use Rattle.ags_certtext.specs.declared.keywords.Keyword.TheVariants as keyword
 use Rattle.ags_certtext.specs.declared.statements.Entry.{Entry}
 use Rattle.ags_certtext.specs.declared.statements.RowLine.{RowLine}
 use Rattle.ags_certtext.specs.declared.statements.Statement.{Statement}
-use Rattle.ags_certtext.specs.declared.statements.Statement.TheVariants.{Start, Entry as EntryOf, May, Row, End}
+use Rattle.ags_certtext.specs.declared.statements.Statement.TheVariants.{Start, Entry as EntryOf, May, Row, Linked, End}
 use Rattle.ags_certtext.specs.declared.statements.Table.TheVariants.{Cell, Init, In, Out, At}
 use Rattle.ags_certtext.specs.Statement.{IsStatement}
-use Rattle.ags_certtext.specs.Spelling.{StatesPlace, StatesEntry, StatesRow, States, table_name, flag_digits}
+use Rattle.ags_certtext.specs.Spelling.{StatesPlace, StatesEntry, StatesRow, StatesLink, States, table_name, flag_digits}
 use Rattle.ags_certtext.specs.Front.{IsPlace}
-use Rattle.ags_certtext.specs.Operand.{IsEntry, IsRow, keyword_name, AreOperands}
-use Rattle.ags_certtext.proofs.FrontLemmas.{front_cut, cut_front, fields_append, cut_stands, value_fields, flags_field}
+use Rattle.ags_certtext.specs.Operand.{IsEntry, IsRow, IsLinkText, keyword_name, AreOperands}
+use Rattle.ags_certtext.proofs.FrontLemmas.{front_cut, cut_front, fields_append, cut_stands, value_fields, signed_field, flags_field}
 
 -- an entry is its parts, and so is a row
 pub entry_same : (entry : Entry) (address : ℕ) (value : Option Value) → Some address ≡ Some entry.address → value ≡ entry.value
     → Some (record { address = address; value = value }) ≡ Some entry
 entry_same entry address value place same = let at : address ≡ entry.address = cc in rw (at, same) refl
+
+pub link_same : (link : Link) (address : ℕ) (offset : ℤ) → Some address ≡ Some link.address → Some offset ≡ Some link.offset
+    → Some (record { address = address; offset = offset }) ≡ Some link
+link_same link address offset place same = let at : address ≡ link.address = cc in let by : offset ≡ link.offset = cc in rw (at, by) refl
 
 pub row_same : (row : RowLine) (location : ℕ) (a q : Option Value) (x v : List Bool) → Some location ≡ Some row.location → a ≡ row.a → q ≡ row.q → x ≡ row.x → v ≡ row.v
     → Some (record { location = location; a = a; q = q; x = x; v = v }) ≡ Some row
@@ -42,6 +47,7 @@ keyword_field (keyword.Entry Out) = record { some = omega arith; marks = refl }
 keyword_field (keyword.Entry At) = record { some = omega arith; marks = refl }
 keyword_field keyword.May = record { some = omega arith; marks = refl }
 keyword_field keyword.Row = record { some = omega arith; marks = refl }
+keyword_field keyword.Link = record { some = omega arith; marks = refl }
 keyword_field keyword.End = record { some = omega arith; marks = refl }
 
 place_states : (name line : List ℕ) (location : ℕ) → IsField name → next_field line ≡ name → IsPlace (behind_field line) location → StatesPlace name line location
@@ -61,6 +67,21 @@ entry_states name line entry field named is = record {
       (field, (writes_field 8 4 _ entry.address (omega arith) (omega arith) is.address_is, fields_append is.value_is.taken [] (value_fields is.value_is.taken entry.value is.value_is.value_is) tt))
       (named, (refl, front_cut is.value_is.taken [] (behind_field (behind_field line)) is.rest is.value_is.front is.ends));
 }
+
+link_states : (line : List ℕ) (link : Link) → next_field line ≡ codes "LINK" → IsLinkText (behind_field line) link → StatesLink line link
+link_states line link named is =
+    let place = next_field (behind_field line) in
+    let offset = next_field (behind_field (behind_field line)) in
+    record {
+      place = place;
+      offset = offset;
+      address_is = is.address_is;
+      offset_is = is.offset_is.is;
+      within = is.offset_is.within;
+      fields = cut_stands line (codes "LINK" ∷ place ∷ offset ∷ [])
+          (keyword_field keyword.Link, (writes_field 8 4 place link.address (omega arith) (omega arith) is.address_is, (signed_field offset link.offset is.offset_is.is, tt)))
+          (named, (refl, (refl, is.ends)));
+    }
 
 row_states : (line : List ℕ) (row : RowLine) → next_field line ≡ codes "ROW" → IsRow (behind_field line) row → StatesRow line row
 row_states line row named is =
@@ -103,6 +124,7 @@ operands_state keyword.Start line statement named is = rw is.2 (place_states (co
 operands_state (keyword.Entry table) line statement named is = rw is.2 (entry_states (table_name table) line is.0 (keyword_field (keyword.Entry table)) (sym named) is.1)
 operands_state keyword.May line statement named is = rw is.2 (place_states (codes "MAY") line is.0 (keyword_field keyword.May) (sym named) is.1)
 operands_state keyword.Row line statement named is = rw is.2 (row_states line is.0 (sym named) is.1)
+operands_state keyword.Link line statement named is = rw is.2 (link_states line is.0 (sym named) is.1)
 operands_state keyword.End line statement named is = rw is.1 (cut_stands line (codes "END" ∷ []) (keyword_field keyword.End, tt) (sym named, is.0))
 
 -- ---- and back
@@ -124,6 +146,18 @@ entry_stands name line entry field is =
         rest = split.rest;
         value_is = record { taken = is.value; front = split.front; value_is = is.value_is };
         ends = split.are;
+      },
+    )
+
+link_stands : (line : List ℕ) (link : Link) → StatesLink line link → (codes "LINK" ≡ next_field line) × IsLinkText (behind_field line) link
+link_stands line link is =
+    let cut = standing_cut line (codes "LINK" ∷ is.place ∷ is.offset ∷ [])
+    (keyword_field keyword.Link, (writes_field 8 4 is.place link.address (omega arith) (omega arith) is.address_is, (signed_field is.offset link.offset is.offset_is, tt))) is.fields in (
+      sym cut.0,
+      record {
+        address_is = rw cut.1.0 is.address_is;
+        offset_is = record { is = rw cut.1.1.0 is.offset_is; within = is.within };
+        ends = cut.1.1.1;
       },
     )
 
@@ -171,6 +205,7 @@ state_operands line (Start location) is = let stands = place_stands (codes "STAR
 state_operands line (EntryOf table entry) is = let stands = entry_stands (table_name table) line entry (keyword_field (keyword.Entry table)) is in record { its = keyword.Entry table; named = stands.0; are = (entry, stands.1, refl) }
 state_operands line (May location) is = let stands = place_stands (codes "MAY") line location (keyword_field keyword.May) is in record { its = keyword.May; named = stands.0; are = (location, stands.1, refl) }
 state_operands line (Row row) is = let stands = row_stands line row is in record { its = keyword.Row; named = stands.0; are = (row, stands.1, refl) }
+state_operands line (Linked link) is = let stands = link_stands line link is in record { its = keyword.Link; named = stands.0; are = (link, stands.1, refl) }
 state_operands line End is = let cut = standing_cut line (codes "END" ∷ []) (keyword_field keyword.End, tt) is in record { its = keyword.End; named = sym cut.0; are = (cut.1, refl) }
 
 -- ---- a statement's addresses are those of the machine
@@ -192,6 +227,7 @@ stated_is line (Row row) is = record {
   some_index = is.some_index;
   some_indicator = is.some_indicator;
 }
+stated_is line (Linked link) is = record { address = place_below is.place link.address is.address_is; offset = is.within }
 stated_is line End is = tt
 
 -- where one thing is found at most, one statement at most is made of what is found
@@ -209,6 +245,7 @@ some_first (keyword.Entry In) = (λ is. cc, λ is. omega (arith, is))
 some_first (keyword.Entry Out) = (λ is. cc, λ is. omega (arith, is))
 some_first keyword.May = (λ is. cc, λ is. omega (arith, is))
 some_first keyword.Row = (λ is. cc, λ is. omega (arith, is))
+some_first keyword.Link = (λ is. cc, λ is. omega (arith, is))
 some_first (keyword.Entry At) = (λ is. cc, λ is. omega (arith, is))
 some_first keyword.End = (λ is. cc, λ is. omega (arith, is))
 

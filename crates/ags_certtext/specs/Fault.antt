@@ -11,13 +11,13 @@ use Rattle.ags_certtext.specs.declared.cert_error.CertKind.{CertKind}
 use Rattle.ags_certtext.specs.declared.cert_error.CertKind.TheVariants.{BadLine, Version, Twice, EmptyRange, OutsideGlobal, NoZero, TooManyRows, TooManyAt, NoRows}
 use Rattle.ags_certtext.specs.declared.statements.RowLine.{RowLine}
 use Rattle.ags_certtext.specs.declared.statements.Statement.{Statement}
-use Rattle.ags_certtext.specs.declared.statements.Statement.TheVariants.{Start, Entry as EntryOf, May, Row, End}
+use Rattle.ags_certtext.specs.declared.statements.Statement.TheVariants.{Start, Entry as EntryOf, May, Row, Linked, End}
 use Rattle.ags_certtext.specs.declared.statements.Table.{Table}
 use Rattle.ags_certtext.specs.declared.statements.Table.TheVariants.{Cell, Init, In, Out, At}
 use Rattle.ags_certtext.specs.declared.kinds.Kind.TheVariants as kind
 use Rattle.ags_certtext.specs.declared.statements.Entry.{Entry}
 use Rattle.ags_certtext.specs.Kind.{is_kind, kind_of, last_kind, stands_in_order, is_second_start}
-use Rattle.ags_certtext.specs.Statement.{may_place, row_line, entries, has_address, value_at, entries_before, is_within}
+use Rattle.ags_certtext.specs.Statement.{may_place, row_line, entries, has_address, value_at, entries_before, row_links, is_within}
 use Rattle.ags_certtext.specs.Reading.{Reading}
 
 -- a fault where a test holds, and else what is found later: so of several faults the first that is written is told
@@ -107,6 +107,8 @@ statement_fault ports before (May location) =
 statement_fault ports before (Row row) =
     fault_if (is_empty row.a || is_empty row.q) EmptyRange
     (fault_if (nat_le most_rows (length (filter_map row_line before)) || nat_le most_rows_at_one (length (rows_at before row.location))) TooManyRows None)
+statement_fault ports before (Linked link) =
+    fault_if (is_fixed link.address) BadLine (fault_if (nat_le 1 (length (row_links before))) Twice None)
 statement_fault ports before End = fault_if (length (filter_map row_line before) == 0) NoRows None
 
 -- the fault of a statement, given those before it
@@ -116,13 +118,22 @@ fault_after ports before statement =
     (fault_if (not (stands_in_order (last_kind before) statement)) BadLine
     (statement_fault ports before statement))
 
+-- the statement is one of the version: there are links from version 2 on
+abbrev pub is_of_version : (version : ℕ) → Statement → Bool
+is_of_version version (Linked link) = nat_le 2 version
+is_of_version version _ = true
+
+-- the fault of a statement in a text of a version, given those before it
+abbrev pub fault_in : Registers → (version : ℕ) → List Statement → Statement → Option CertKind
+fault_in ports version before statement = fault_if (not (is_of_version version statement)) BadLine (fault_after ports before statement)
+
 -- how a certificate tells faults for a machine's registers
 abbrev pub faults : Registers → Faults Statement CertKind
 faults ports = record {
   bad_line = BadLine;
   version = Version;
   is_end = λ statement. is_kind kind.End (kind_of statement);
-  fault_after = fault_after ports;
+  fault_after = fault_in ports;
 }
 
 -- The fault of a line's reading, or of the end of the text, where the lines before it have these readings, nearest first.

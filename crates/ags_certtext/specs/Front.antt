@@ -11,7 +11,7 @@ use Rattle.ags_domain.specs.declared.values.Value.{Value}
 use Rattle.ags_domain.specs.declared.values.Value.TheVariants.{Range, Words}
 use Rattle.ags_domain.specs.declared.word_sets.WordSet.{WordSet}
 use Rattle.ags_row.specs.Flag.{some_flag}
-use Rattle.ags_certtext.specs.Spelling.{IsSigned, AreWords, StateValue, flag_digits}
+use Rattle.ags_certtext.specs.Spelling.{IsSigned, is_offset, AreWords, StateValue, flag_digits}
 use Rattle.ags_certtext.specs.declared.forms.Form.{Form}
 use Rattle.ags_certtext.specs.declared.forms.Form.TheVariants as form
 
@@ -40,6 +40,11 @@ IsValueBetween least greatest None = greatest <ℤ least
 pub record IsEnd (text : List ℕ) (number : ℤ) : Type 0 where
   pub is : IsSigned text number
   pub within : fits number ≡ true
+
+-- a number that is a difference of two words' values
+pub record IsOffset (text : List ℕ) (number : ℤ) : Type 0 where
+  pub is : IsSigned text number
+  pub within : is_offset number ≡ true
 
 -- the two ends of a range stand at the front of a text
 pub record BeginsWithEnds (text : List ℕ) (value : Option Value) (rest : List ℕ) : Type 0 where

@@ -4,7 +4,7 @@ use Rattle.ags_frame.specs.Order.{place_in, follows_in}
 use Rattle.ags_certtext.specs.declared.kinds.Kind.{Kind}
 use Rattle.ags_certtext.specs.declared.kinds.Kind.TheVariants as kind
 use Rattle.ags_certtext.specs.declared.statements.Statement.{Statement}
-use Rattle.ags_certtext.specs.declared.statements.Statement.TheVariants.{Start, Entry as EntryOf, May, Row, End}
+use Rattle.ags_certtext.specs.declared.statements.Statement.TheVariants.{Start, Entry as EntryOf, May, Row, Linked, End}
 use Rattle.ags_certtext.specs.declared.statements.Table.{Table}
 use Rattle.ags_certtext.specs.declared.statements.Table.TheVariants.{Cell, Init, In, Out, At}
 
@@ -36,12 +36,13 @@ table_kind In = kind.In
 table_kind Out = kind.Out
 table_kind At = kind.Row
 
--- the kind of a statement
+-- the kind of a statement; a row's link is of the row's kind
 abbrev pub kind_of : Statement → Kind
 kind_of (Start location) = kind.Start
 kind_of (EntryOf table entry) = table_kind table
 kind_of (May location) = kind.May
 kind_of (Row row) = kind.Row
+kind_of (Linked link) = kind.Row
 kind_of End = kind.End
 
 -- the kind of the nearest statement before, if there is one
@@ -63,10 +64,12 @@ abbrev pub entry_follows : (last : Option Kind) → Table → Bool
 entry_follows last At = is_last kind.Row last
 entry_follows last table = follows last (table_kind table)
 
--- A statement's kind may stand behind those before it: the kinds come in their order, each of any number of lines but START and END.
+-- A statement's kind may stand behind those before it: the kinds come in their order, each of any number of lines but START and END. The
+-- link of a row stands behind its row.
 abbrev pub stands_in_order : (last : Option Kind) → Statement → Bool
 stands_in_order last (Start location) = not (is_some last)
 stands_in_order last (EntryOf table entry) = entry_follows last table
+stands_in_order last (Linked link) = is_last kind.Row last
 stands_in_order last statement = follows last (kind_of statement)
 
 -- a second START right behind the first

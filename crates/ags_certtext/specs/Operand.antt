@@ -2,13 +2,14 @@
 use Rattle.std.specs.Prelude.{◌≡◌, ℕ, Bool, List, codes}
 use Rattle.ags_text.specs.Field.{AreBlanks, next_field, behind_field}
 use Rattle.ags_text.specs.Numeral.{Writes}
-use Rattle.ags_certtext.specs.Front.{BeginsWithValue, BeginsWithNamed, BeginsWithFlags, IsPlace}
+use Rattle.ags_row.specs.declared.links.Link.{Link}
+use Rattle.ags_certtext.specs.Front.{BeginsWithValue, BeginsWithNamed, BeginsWithFlags, IsOffset, IsPlace}
 use Rattle.ags_certtext.specs.declared.keywords.Keyword.{Keyword}
 use Rattle.ags_certtext.specs.declared.keywords.Keyword.TheVariants as keyword
 use Rattle.ags_certtext.specs.declared.statements.Entry.{Entry}
 use Rattle.ags_certtext.specs.declared.statements.RowLine.{RowLine}
 use Rattle.ags_certtext.specs.declared.statements.Statement.{Statement}
-use Rattle.ags_certtext.specs.declared.statements.Statement.TheVariants.{Start, Entry as EntryOf, May, Row, End}
+use Rattle.ags_certtext.specs.declared.statements.Statement.TheVariants.{Start, Entry as EntryOf, May, Row, Linked, End}
 use Rattle.ags_certtext.specs.Spelling.{table_name}
 
 -- an address and a value, and nothing behind them
@@ -17,6 +18,12 @@ pub record IsEntry (text : List ℕ) (entry : Entry) : Type 0 where
   pub rest : List ℕ
   pub value_is : BeginsWithValue (behind_field text) entry.value rest
   pub ends : AreBlanks rest
+
+-- an address and an offset, and nothing behind them
+pub record IsLinkText (text : List ℕ) (link : Link) : Type 0 where
+  pub address_is : Writes 8 4 (next_field text) link.address
+  pub offset_is : IsOffset (next_field (behind_field text)) link.offset
+  pub ends : AreBlanks (behind_field (behind_field text))
 
 -- the index digits and the indicator digits, and nothing behind them
 pub record AreRowFlags (text : List ℕ) (x v : List Bool) : Type 0 where
@@ -39,6 +46,7 @@ keyword_name keyword.Start = codes "START"
 keyword_name (keyword.Entry table) = table_name table
 keyword_name keyword.May = codes "MAY"
 keyword_name keyword.Row = codes "ROW"
+keyword_name keyword.Link = codes "LINK"
 keyword_name keyword.End = codes "END"
 
 -- what stands behind a keyword makes this statement
@@ -47,4 +55,5 @@ AreOperands keyword.Start text statement = (location : ℕ) × IsPlace text loca
 AreOperands (keyword.Entry table) text statement = (entry : Entry) × IsEntry text entry × (statement ≡ EntryOf table entry)
 AreOperands keyword.May text statement = (location : ℕ) × IsPlace text location × (statement ≡ May location)
 AreOperands keyword.Row text statement = (row : RowLine) × IsRow text row × (statement ≡ Row row)
+AreOperands keyword.Link text statement = (link : Link) × IsLinkText text link × (statement ≡ Linked link)
 AreOperands keyword.End text statement = AreBlanks text × (statement ≡ End)

@@ -1,5 +1,5 @@
--- What the lines of a certificate are read as: as those of a text with its name, of which there is version 1, and with what its further
--- lines state.
+-- What the lines of a certificate are read as: as those of a text with its name, of which there are the versions 1 and 2, and with what its
+-- further lines state.
 use Rattle.std.specs.Prelude.{ℕ, List, codes}
 use Rattle.ags_text.specs.Line.{LineAt}
 use Rattle.ags_frame.specs.Reading.{Reading as ReadingOf, IsFirstReading as IsFirstReadingOf, IsReading as IsReadingOf, AreLineReadings as AreLineReadingsOf, AreReadings as AreReadingsOf}
@@ -12,7 +12,7 @@ cert_name = codes "AGSCERT"
 
 -- its latest version
 abbrev pub latest_version : ℕ
-latest_version = 1
+latest_version = 2
 
 -- what a line is, and what stands behind the last one
 abbrev pub Reading : Type 0

@@ -1,5 +1,6 @@
 -- How a certificate's lines are spelled: forwards from what a line states to the lines that state it.
-use Rattle.std.specs.Prelude.{◌≡◌, ℕ, ◌+◌, ◌⊎◌, Bool, true, false, ℤ, pos, neg_ℤ, ◌<ℤ◌, List, [], ◌∷◌, ◌++◌, length, Option, Some, None, if◌then◌else◌, codes}
+use Rattle.std.specs.Prelude.{◌≡◌, ℕ, ◌+◌, ◌⊎◌, Bool, true, false, ◌&&◌, ℤ, pos, negsuc, neg_ℤ, ◌<ℤ◌, List, [], ◌∷◌, ◌++◌, length, Option, Some, None, if◌then◌else◌, codes}
+use Rattle.std.specs.Int.RustNames.{int_le}
 use Rattle.ags_text.specs.Field.{HasFields}
 use Rattle.ags_text.specs.Numeral.{IsDecimal, Writes}
 use Rattle.ags_word.specs.Word.{fits}
@@ -9,10 +10,11 @@ use Rattle.ags_domain.specs.Value.{value_meaning}
 use Rattle.ags_domain.specs.declared.values.Value.{Value}
 use Rattle.ags_domain.specs.declared.values.Value.TheVariants.{Range, Words}
 use Rattle.ags_row.specs.Flag.{some_flag}
+use Rattle.ags_row.specs.declared.links.Link.{Link}
 use Rattle.ags_certtext.specs.declared.statements.Entry.{Entry}
 use Rattle.ags_certtext.specs.declared.statements.RowLine.{RowLine}
 use Rattle.ags_certtext.specs.declared.statements.Statement.{Statement}
-use Rattle.ags_certtext.specs.declared.statements.Statement.TheVariants.{Start, Entry as EntryOf, May, Row, End}
+use Rattle.ags_certtext.specs.declared.statements.Statement.TheVariants.{Start, Entry as EntryOf, May, Row, Linked, End}
 use Rattle.ags_certtext.specs.declared.statements.Table.{Table}
 use Rattle.ags_certtext.specs.declared.statements.Table.TheVariants.{Cell, Init, In, Out, At}
 
@@ -26,6 +28,10 @@ pub record IsSigned (text : List ℕ) (number : ℤ) : Type 0 where
   pub whole : text ≡ (if negative then 45 ∷ digits else digits)
   pub is_decimal : IsDecimal 6 digits size
   pub number_is : number ≡ (if negative then neg_ℤ (pos size) else pos size)
+
+-- the number is a difference of two words' values: one from -262143 to 262143
+abbrev pub is_offset : ℤ → Bool
+is_offset number = int_le (negsuc 262142) number && int_le number (pos 262143)
 
 -- the fields of a range: its keyword, and two signed numbers that are values of words
 pub record AreEnds (fields : List (List ℕ)) (least greatest : ℤ) : Type 0 where
@@ -68,6 +74,15 @@ pub record StatesEntry (keyword line : List ℕ) (entry : Entry) : Type 0 where
   pub value_is : StateValue value entry.value
   pub fields : HasFields line (keyword ∷ place ∷ value)
 
+-- the line of a link has an address of four octal digits and an offset, which is a signed number
+pub record StatesLink (line : List ℕ) (link : Link) : Type 0 where
+  pub place : List ℕ
+  pub offset : List ℕ
+  pub address_is : Writes 8 4 place link.address
+  pub offset_is : IsSigned offset link.offset
+  pub within : is_offset link.offset ≡ true
+  pub fields : HasFields line (codes "LINK" ∷ place ∷ offset ∷ [])
+
 -- the digits of the flags that are set, where the first flag's is this one
 abbrev pub flag_digits : (digit : ℕ) → List Bool → List ℕ
 flag_digits digit [] = []
@@ -103,4 +118,5 @@ States line (Start location) = StatesPlace (codes "START") line location
 States line (EntryOf table entry) = StatesEntry (table_name table) line entry
 States line (May location) = StatesPlace (codes "MAY") line location
 States line (Row row) = StatesRow line row
+States line (Linked link) = StatesLink line link
 States line End = HasFields line (codes "END" ∷ [])

@@ -4,12 +4,14 @@ use Rattle.std.specs.List.{list_any, filter_map}
 use Rattle.ags_domain.specs.Value.{value_held}
 use Rattle.ags_domain.specs.declared.values.Value.{Value}
 use Rattle.ags_row.specs.Flag.{some_flag}
+use Rattle.ags_row.specs.declared.links.Link.{Link}
 use Rattle.ags_certtext.specs.declared.statements.Entry.{Entry}
 use Rattle.ags_certtext.specs.declared.statements.RowLine.{RowLine}
 use Rattle.ags_certtext.specs.declared.statements.Statement.{Statement}
-use Rattle.ags_certtext.specs.declared.statements.Statement.TheVariants.{Start, Entry as EntryOf, May, Row, End}
+use Rattle.ags_certtext.specs.declared.statements.Statement.TheVariants.{Start, Entry as EntryOf, May, Row, Linked, End}
 use Rattle.ags_certtext.specs.declared.statements.Table.{Table}
 use Rattle.ags_certtext.specs.declared.statements.Table.TheVariants.{Cell, Init, In, Out, At}
+use Rattle.ags_certtext.specs.Spelling.{is_offset}
 
 -- the line of a row names a location, one index at least, and one indicator at least
 pub record IsRowLine (row : RowLine) : Type 0 where
@@ -19,12 +21,18 @@ pub record IsRowLine (row : RowLine) : Type 0 where
   pub some_index : some_flag row.x ≡ true
   pub some_indicator : some_flag row.v ≡ true
 
--- the addresses and the locations of a statement are those of the machine, and a row has an index and an indicator
+-- the line of a link names an address, and an offset that is a difference of two words' values
+pub record IsLinkLine (link : Link) : Type 0 where
+  pub address : link.address < 4096
+  pub offset : is_offset link.offset ≡ true
+
+-- the addresses and the locations of a statement are those of the machine, a row has an index and an indicator, and a link an offset
 abbrev pub IsStatement : Statement → Type 0
 IsStatement (Start location) = location < 4096
 IsStatement (EntryOf table entry) = entry.address < 4096
 IsStatement (May location) = location < 4096
 IsStatement (Row row) = IsRowLine row
+IsStatement (Linked link) = IsLinkLine link
 IsStatement End = Unit {0}
 
 -- one table is another
@@ -63,11 +71,19 @@ abbrev pub value_at : List Entry → ℕ → Option Value
 value_at [] address = None
 value_at (entry ∷ others) address = if entry.address == address then entry.value else value_at others address
 
--- the entries of the row that the statements before end with
+-- The AT and LINK lines that stand right at the front of the statements: behind a row they are the row's, and of the statements before
+-- one, told nearest first, they are those of the row that it would belong to. Of these the entries, and the links.
 abbrev pub row_entries : List Statement → List Entry
 row_entries [] = []
-row_entries (EntryOf At entry ∷ before) = entry ∷ row_entries before
-row_entries (_ ∷ before) = []
+row_entries (EntryOf At entry ∷ statements) = entry ∷ row_entries statements
+row_entries (Linked link ∷ statements) = row_entries statements
+row_entries (_ ∷ statements) = []
+
+abbrev pub row_links : List Statement → List Link
+row_links [] = []
+row_links (EntryOf At entry ∷ statements) = row_links statements
+row_links (Linked link ∷ statements) = link ∷ row_links statements
+row_links (_ ∷ statements) = []
 
 -- The entries of a table that stand before, among which no address stands twice: of the cells of a row those of the same row.
 abbrev pub entries_before : Table → List Statement → List Entry

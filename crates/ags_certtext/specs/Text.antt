@@ -10,6 +10,7 @@ use Rattle.ags_domain.specs.declared.values.Value.{Value}
 use Rattle.ags_ports.specs.Port.{Registers}
 use Rattle.ags_row.specs.Cell.{value_among}
 use Rattle.ags_row.specs.Limit.{Limiting, AreLimits, cell_limit, input_limit, output_limit, is_named}
+use Rattle.ags_row.specs.declared.links.Link.{Link}
 use Rattle.ags_row.specs.declared.rows.Row.{Row}
 use Rattle.ags_certtype.specs.Cert.{Stated, IsCert, certificate_of}
 use Rattle.ags_certtext.specs.declared.cert_error.CertKind.{CertKind}
@@ -18,9 +19,9 @@ use Rattle.ags_certtext.specs.declared.cert_error.CertError.TheVariants.{At as A
 use Rattle.ags_certtext.specs.declared.statements.Entry.{Entry}
 use Rattle.ags_certtext.specs.declared.statements.RowLine.{RowLine}
 use Rattle.ags_certtext.specs.declared.statements.Statement.{Statement}
-use Rattle.ags_certtext.specs.declared.statements.Statement.TheVariants.{Start, Entry as EntryOf, Row as RowOf}
-use Rattle.ags_certtext.specs.declared.statements.Table.TheVariants.{Cell, Init, In, Out, At}
-use Rattle.ags_certtext.specs.Statement.{may_place, entries, value_at}
+use Rattle.ags_certtext.specs.declared.statements.Statement.TheVariants.{Start, Row as RowOf}
+use Rattle.ags_certtext.specs.declared.statements.Table.TheVariants.{Cell, Init, In, Out}
+use Rattle.ags_certtext.specs.Statement.{may_place, entries, value_at, row_entries, row_links}
 use Rattle.ags_certtext.specs.Reading.{Reading, AreReadings}
 use Rattle.ags_certtext.specs.Fault.{reading_fault}
 
@@ -45,23 +46,25 @@ pub record LimitsAreStated (statements : List Statement) (limits : Limiting Valu
       → is_named limits location ≡ list_any (λ (place : ℕ). place == location) (filter_map may_place statements)
   pub every : IsFull value_meaning limits.every
 
--- a row with the entries of its AT lines, in their order
+-- a row with the entries of its AT lines and the links of its LINK lines, in their order
 pub record RowOfLines : Type 0 where
   pub line : RowLine
   pub cells : List Entry
+  pub links : List Link
 
--- the AT lines that stand right at the front of the statements
-abbrev pub leading_cells : List Statement → List Entry
-leading_cells (EntryOf At entry ∷ statements) = entry ∷ leading_cells statements
-leading_cells _ = []
-
--- each row with the AT lines behind it
+-- each row with the AT and LINK lines behind it
 abbrev pub rows_of : List Statement → List RowOfLines
 rows_of [] = []
-rows_of (RowOf line ∷ statements) = record { line = line; cells = leading_cells statements } ∷ rows_of statements
+rows_of (RowOf line ∷ statements) = record { line = line; cells = row_entries statements; links = row_links statements } ∷ rows_of statements
 rows_of (_ ∷ statements) = rows_of statements
 
--- The row is the one that its lines state. Its cells are those of the AT lines, whose order says nothing.
+-- the link is that of the LINK lines, of which there is one at most; there is none where they are none
+abbrev pub IsLinkOf : List Link → Option Link → Type 0
+IsLinkOf [] link = link ≡ None
+IsLinkOf (only ∷ []) link = link ≡ Some only
+IsLinkOf (first ∷ second ∷ links) link = ⊥
+
+-- The row is the one that its lines state. Its cells are those of the AT lines, whose order says nothing, and its link that of the LINK line.
 pub record IsRowOfLines (lines : RowOfLines) (row : Row Value) : Type 0 where
   pub location : row.location ≡ lines.line.location
   pub a : Some row.a ≡ lines.line.a
@@ -69,6 +72,7 @@ pub record IsRowOfLines (lines : RowOfLines) (row : Row Value) : Type 0 where
   pub x : row.x ≡ lines.line.x
   pub v : row.v ≡ lines.line.v
   pub cells : (address : ℕ) → value_among row.at address ≡ value_at lines.cells address
+  pub link : IsLinkOf lines.links row.link
 
 -- the rows are those of the lines, in order
 abbrev pub AreRowsOf : List RowOfLines → List (Row Value) → Type 0

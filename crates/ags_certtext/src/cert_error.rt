@@ -8,11 +8,12 @@ use std::fmt;
 /// What is wrong with a line, by the number and the name that it is printed with (docs/CERTIFICATE.md, Faults).
 #[derive(Clone, Copy, Debug, PartialEq, Eq)]
 pub enum CertKind {
-    /// Number 1: the line is none of the forms, out of order, too long, or names a fixed cell or no register; or END is missing.
+    /// Number 1: the line is none of the forms, out of order, too long, none of the text's version, or names a fixed cell or no
+    /// register; or END is missing.
     BadLine,
-    /// Number 2: the first line has another version than 1.
+    /// Number 2: the first line has another version than 1 and 2.
     Version,
-    /// Number 3: START or an address stands a second time.
+    /// Number 3: START, an address or a row's link stands a second time.
     Twice,
     /// Number 4: the least of a range is above its greatest.
     EmptyRange,

@@ -17,6 +17,8 @@ pub(crate) enum Keyword {
     May,
     /// ROW.
     Row,
+    /// LINK.
+    Link,
     /// END.
     End,
 }
@@ -29,6 +31,7 @@ pub(crate) fn keyword_named(text: &[u8]) -> Option<Keyword>
     match text {
         b"AT" => Some(Keyword::Entry(Table::At)),
         b"ROW" => Some(Keyword::Row),
+        b"LINK" => Some(Keyword::Link),
         b"CELL" => Some(Keyword::Entry(Table::Cell)),
         b"INIT" => Some(Keyword::Entry(Table::Init)),
         b"IN" => Some(Keyword::Entry(Table::In)),

@@ -5,7 +5,8 @@ ghost use Rattle.ags_certtext.specs.Kind.{kind_of, kinds_before, table_kind};
 
 use crate::statements::{Statement, Table};
 
-/// The kinds of statements, in the order in which they stand in a certificate. The entries of a row's cells are of the row's kind.
+/// The kinds of statements, in the order in which they stand in a certificate. The lines of a row's cells and its link are of the row's
+/// kind.
 #[derive(Clone, Copy, PartialEq, Eq)]
 pub enum Kind {
     /// Where a run starts.
@@ -20,7 +21,7 @@ pub enum Kind {
     Out,
     /// The locations where an overflow is expected.
     May,
-    /// The rows, with their cells.
+    /// The rows, with their cells and links.
     Row,
     /// The end of the certificate.
     End,
@@ -60,6 +61,7 @@ impl Statement {
             Statement::Entry(table, _) => table.kind(),
             Statement::May(_) => Kind::May,
             Statement::Row(_) => Kind::Row,
+            Statement::Linked(_) => Kind::Row,
             Statement::End => Kind::End,
         }
     }

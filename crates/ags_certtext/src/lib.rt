@@ -14,6 +14,7 @@ mod laws;
 mod lines;
 mod numbers;
 mod operands;
+mod signed;
 mod statements;
 mod values;
 mod word_fields;

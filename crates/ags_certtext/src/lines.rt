@@ -7,13 +7,13 @@ ghost use Rattle.ags_certtext.specs.Operand.{AreOperands};
 ghost use Rattle.ags_certtext.specs.Reading.{Reading, IsFirstReading};
 
 use crate::keywords::{Keyword, keyword_named};
-use crate::operands::{read_entry, read_place, read_row};
+use crate::operands::{read_entry, read_link, read_place, read_row};
 use crate::statements::Statement;
 use ags_frame::{Opening, Statements, read_opening};
 use ags_text::{are_blanks, split_field};
 
 /// The latest version of certificates.
-const LATEST_VERSION: u32 = 1;
+const LATEST_VERSION: u32 = 2;
 
 /// The statement of a keyword and the text behind it.
 fn read_operands(keyword: Keyword, text: &[u8]) -> Option<Statement>
@@ -25,6 +25,7 @@ fn read_operands(keyword: Keyword, text: &[u8]) -> Option<Statement>
         Keyword::Entry(table) => Some(Statement::Entry(table, read_entry(text)?)),
         Keyword::May => Some(Statement::May(read_place(text)?)),
         Keyword::Row => Some(Statement::Row(read_row(text)?)),
+        Keyword::Link => Some(Statement::Linked(read_link(text)?)),
         Keyword::End => are_blanks(text).then_some(Statement::End),
     }
 }

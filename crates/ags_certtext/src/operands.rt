@@ -2,17 +2,20 @@
 
 ghost use Rattle.std.specs.Prelude.{◌≡◌, [], ◌∷◌, ℕ, Bool, List, Option, IfSome, IfNone, IsSomeAnd, Some};
 ghost use Rattle.ags_domain.specs.declared.values.Value.{Value};
+ghost use Rattle.ags_row.specs.declared.links.Link.{Link};
 ghost use Rattle.ags_text.specs.Field.{next_field, behind_field};
 ghost use Rattle.ags_certtext.specs.declared.statements.Entry.{Entry};
 ghost use Rattle.ags_certtext.specs.declared.statements.RowLine.{RowLine};
 ghost use Rattle.ags_certtext.specs.Front.{BeginsWithWord, BeginsWithNamed, BeginsWithFlags, IsPlace};
-ghost use Rattle.ags_certtext.specs.Operand.{IsEntry, IsRow, AreRowFlags};
+ghost use Rattle.ags_certtext.specs.Operand.{IsEntry, IsLinkText, IsRow, AreRowFlags};
 
 use crate::flags::{read_indicators, read_indices};
 use crate::numbers::read_address;
+use crate::signed::read_offset;
 use crate::statements::{Entry, RowLine};
 use crate::values::read_value;
 use ags_domain::Value;
+use ags_row::Link;
 use ags_text::{are_blanks, split_field};
 
 /// The location that a text's only field writes.
@@ -42,6 +45,26 @@ pub(crate) fn read_entry(text: &[u8]) -> Option<Entry>
     };
     if are_blanks(rest) {
         Some(Entry { address, value })
+    } else {
+        None
+    }
+}
+
+/// The link that a text's fields state.
+pub(crate) fn read_link(text: &[u8]) -> Option<Link>
+    ensures found { IfSome result (λ link. IsLinkText text.now link) }
+    ensures only { (link : Link) → IsLinkText text.now link → result ≡ Some link }
+{
+    let (place, behind) = split_field(text);
+    let (number, rest) = split_field(behind);
+    let Some(address) = read_address(place) else {
+        return None;
+    };
+    let Some(offset) = read_offset(number) else {
+        return None;
+    };
+    if are_blanks(rest) {
+        Some(Link { address, offset })
     } else {
         None
     }

@@ -1,6 +1,7 @@
 //! What the lines of a certificate state.
 
 use ags_domain::Value;
+use ags_row::Link;
 
 /// An address and the value behind it.
 #[derive(Clone, Copy, PartialEq, Eq)]
@@ -52,6 +53,8 @@ pub enum Statement {
     May(u16),
     /// A row.
     Row(RowLine),
+    /// The link of A to a cell in the row above.
+    Linked(Link),
     /// The end of the certificate.
     End,
 }

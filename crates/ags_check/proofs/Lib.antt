@@ -2,3 +2,4 @@ mod CoverageLemmas
 mod CountedLemmas
 mod FindingLemmas
 mod RowsLemmas
+mod StartLemmas

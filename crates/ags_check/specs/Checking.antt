@@ -1,5 +1,6 @@
 -- What is checked of a certificate in hand before its rows.
-use Rattle.std.specs.Prelude.{◌≡◌, ℕ, ◌<◌, true, List, Option}
+use Rattle.std.specs.Prelude.{◌≡◌, ℕ, ◌<◌, true, ℤ, List, Option}
+use Rattle.ags_word.specs.Word.{val}
 use Rattle.ags_domain.specs.Value.{value_meaning}
 use Rattle.ags_domain.specs.declared.values.Value.{Value}
 use Rattle.ags_image.specs.Image.{entry_at}
@@ -21,3 +22,7 @@ pub record IsFirstOutside (image : List (Option ℕ)) (cert : Certificate Value)
 -- a set holds each word that may stand at the start in a cell with this entry of the image, and this statement
 abbrev pub HoldsFirstWords : Value → Option ℕ → Option Value → Type 0
 HoldsFirstWords value entry stated = (word : ℕ) → IsFirstWord value_meaning entry stated word → value_meaning.held value word ≡ true
+
+-- a number is the value of each word that may stand at the start in a cell with this entry of the image, and this statement
+abbrev pub IsOffsetOfFirstWords : ℤ → Option ℕ → Option Value → Type 0
+IsOffsetOfFirstWords offset entry stated = (word : ℕ) → IsFirstWord value_meaning entry stated word → offset ≡ val word

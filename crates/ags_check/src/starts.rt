@@ -1,12 +1,13 @@
 //! The row that holds the start.
 
-ghost use Rattle.std.specs.Prelude.{◌≡◌, ◌<◌, ◌↔◌, true, IsTrue, All};
+ghost use Rattle.std.specs.Prelude.{◌≡◌, ◌<◌, ◌^◌, ◌↔◌, ℕ, true, IsTrue, IfSome, All};
+ghost use Rattle.ags_word.specs.Word.{val};
 ghost use Rattle.ags_domain.specs.Value.{value_meaning};
 ghost use Rattle.ags_image.specs.Image.{entry_at};
 ghost use Rattle.ags_row.specs.Flag.{has_flag};
 ghost use Rattle.ags_safe.specs.Accepted.{HoldsStart};
 ghost use Rattle.ags_certtype.specs.Cert.{certificate_of};
-ghost use Rattle.ags_check.specs.Checking.{HoldsFirstWords};
+ghost use Rattle.ags_check.specs.Checking.{HoldsFirstWords, IsOffsetOfFirstWords};
 ghost use Rattle.ags_check.specs.Finding.{IsFound, IsStartRow};
 
 use crate::finding::{RowTest, find_row};
@@ -14,7 +15,7 @@ use crate::serving::Serving;
 use ags_certtype::Cert;
 use ags_domain::{Domain, Value};
 use ags_image::Image;
-use ags_row::{At, Row};
+use ags_row::{At, Link, Row};
 use ags_word::Word;
 use std::marker::Model;
 
@@ -54,6 +55,50 @@ fn cells_hold_start(image: &Image, cert: &Cert, cells: &[At<Value>]) -> bool
     true
 }
 
+/// Whether a link's offset is the value of a word.
+fn is_offset(link: Link, word: Word) -> bool
+    ensures { IsTrue result ↔ (link.offset ≡ val word) }
+{
+    link.offset == word.value()
+}
+
+/// The same of each word of a set.
+fn is_offset_of_each(link: Link, words: &Value) -> bool
+    ensures { IsTrue result ↔ ((word : ℕ) → word < 2 ^ 18 → value_meaning.held words.now word ≡ true → link.offset ≡ val word) }
+{
+    if !is_offset(link, words.least()) {
+        return false;
+    }
+    is_offset(link, words.greatest())
+}
+
+/// The same of each word that may stand at the start in a cell, by the image's entry and what is stated of the start.
+fn is_offset_of_first_words(link: Link, entry: Option<Word>, stated: Option<Value>) -> bool
+    ensures { IsTrue result ↔ IsOffsetOfFirstWords link.offset entry stated }
+{
+    match entry {
+        Some(word) => is_offset(link, word),
+        None => match stated {
+            Some(first) => is_offset_of_each(link, &first),
+            None => is_offset(link, Word::ZERO),
+        },
+    }
+}
+
+/// Whether a row's link, where it has one, holds of A = 0 and each word that may stand at the start in the link's cell.
+fn link_holds_start(image: &Image, cert: &Cert, link: Option<Link>) -> bool
+    requires { IfSome link (λ link. link.address < 2048) }
+    ensures { IsTrue result
+        ↔ IfSome link (λ link. IsOffsetOfFirstWords link.offset (entry_at image.now link.address) ((certificate_of cert.now).init link.address)) }
+{
+    match link {
+        Some(link) => {
+            is_offset_of_first_words(link, image.get(link.address), cert.init(link.address))
+        }
+        None => true,
+    }
+}
+
 /// Whether a row stands at the start, and holds A, Q, the index and the indicator at 0.
 fn registers_hold_start(cert: &Cert, row: &Row<Value>) -> bool
     ensures location { IsTrue result → row.now.location ≡ cert.now.start }
@@ -76,6 +121,9 @@ fn holds_start(image: &Image, cert: &Cert, row: &Row<Value>) -> bool
     ensures { IsTrue result ↔ HoldsStart value_meaning image.now (certificate_of cert.now) row.now }
 {
     if !registers_hold_start(cert, row) {
+        return false;
+    }
+    if !link_holds_start(image, cert, row.link()) {
         return false;
     }
     cells_hold_start(image, cert, row.at())

@@ -26,6 +26,7 @@ fn row(rt: &impl Abort, alloc: Global, location: u16, may_be_set: bool) -> Row<V
         x: [true, false, false, false, false, false, false, false],
         v: [true, may_be_set],
         at: Vec::new(alloc),
+        link: None,
     })
     .expect(rt, "the parts of a row")
 }

@@ -284,6 +284,59 @@ fn parts(rt: HostRuntime) {
     expect_same(&rt, &value(&rt, (-2, -1)).rest(), &None);
 }
 
+/// Parts of the range of -5 to 5.
+const RANGE_PARTS: [(i32, i32, Option<(i32, i32)>); 8] = [
+    (-2, 9, Some((-2, 5))),
+    (-9, -5, Some((-5, -5))),
+    (5, 6, Some((5, 5))),
+    (-5, 5, Some((-5, 5))),
+    (6, 9, None),
+    (-262_143, -6, None),
+    (2, 1, None),
+    (i32::MIN, i32::MAX, Some((-5, 5))),
+];
+
+/// The range of two values, where they are told.
+fn range_if(rt: &impl Abort, ends: Option<(i32, i32)>) -> Option<Range> {
+    match ends {
+        Some(ends) => Some(range(rt, ends)),
+        None => None,
+    }
+}
+
+/// The same as a value.
+fn value_if(rt: &impl Abort, ends: Option<(i32, i32)>) -> Option<Value> {
+    match ends {
+        Some(ends) => Some(value(rt, ends)),
+        None => None,
+    }
+}
+
+#[test]
+fn parts_of_a_range_between_values(rt: HostRuntime) {
+    for (least, greatest, wanted) in &RANGE_PARTS {
+        let part = range(&rt, (-5, 5)).between(*least, *greatest);
+        expect_same(&rt, &part, &range_if(&rt, *wanted));
+        let kept = value(&rt, (-5, 5)).between(*least, *greatest);
+        expect_same(&rt, &kept, &value_if(&rt, *wanted));
+    }
+}
+
+// A part of a set is a set again, also where it has one word alone.
+#[test]
+fn parts_of_a_set_between_values(rt: HostRuntime) {
+    let words = pair(&rt, 7, 0o777770);
+    expect_same(&rt, &words.between(-9, 9), &Some(words));
+    expect_same(
+        &rt,
+        &words.between(-8, 6),
+        &Some(pair(&rt, 0o777770, 0o777770)),
+    );
+    expect_same(&rt, &words.between(7, 262_143), &Some(pair(&rt, 7, 7)));
+    expect_same(&rt, &words.between(-7, 6), &None);
+    expect_same(&rt, &words.between(i32::MAX, i32::MIN), &None);
+}
+
 /// Asserts that no set is made of these words.
 fn assert_no_set(rt: &impl Abort, words: &[Word]) {
     expect_same(rt, &WordSet::of(words), &None);

@@ -13,11 +13,15 @@ mod counted_tests;
 #[cfg(test)]
 mod domain_tests;
 #[cfg(test)]
+mod link_tests;
+#[cfg(test)]
 mod posts_tests;
 #[cfg(test)]
 mod row_tests;
 #[cfg(test)]
 mod safe_tests;
+#[cfg(test)]
+mod start_tests;
 #[cfg(test)]
 mod transfer_tests;
 #[cfg(test)]

@@ -2,7 +2,7 @@
 
 use crate::common::expect_same;
 use ags_domain::{Domain, Range, Value, WordSet};
-use ags_row::{At, Limits, Post, Row, RowParts, cell_of, covers};
+use ags_row::{At, Limits, Link, Post, Row, RowParts, cell_of, covers};
 use ags_word::Word;
 use std::alloc::Global;
 use std::process::Abort;
@@ -34,6 +34,7 @@ fn parts(rt: &impl Abort, alloc: Global, cells: &[(u16, i32, i32)]) -> RowParts<
         x: [true, false, false, false, false, false, false, false],
         v: [true, false],
         at,
+        link: None,
     }
 }
 
@@ -50,6 +51,14 @@ fn row_of_many(rt: &impl Abort, alloc: Global, count: u16) -> Option<Row<Value>>
         assert!(rt; many.at.push(At { address, value }).is_ok());
     }
     Row::of(many)
+}
+
+/// A row with a link of A to a cell, if there is one.
+fn linked_row(rt: &impl Abort, alloc: Global, address: u16, offset: i32) -> Option<Row<Value>> {
+    Row::of(RowParts {
+        link: Some(Link { address, offset }),
+        ..parts(rt, alloc, &[])
+    })
 }
 
 /// Three cells that ascend.
@@ -91,6 +100,25 @@ fn parts_that_make_no_row(rt: HostRuntime) {
     }
     assert!(rt; row_of_many(&rt, alloc, 64).is_some());
     assert!(rt; row_of_many(&rt, alloc, 65).is_none());
+}
+
+/// Links by address and offset, and whether one may stand in a row.
+const LINKS: [(u16, i32, bool); 7] = [
+    (0, 0, true),
+    (2047, 262_143, true),
+    (2047, -262_143, true),
+    (2048, 0, false),
+    (65535, 0, false),
+    (0, 262_144, false),
+    (0, -262_144, false),
+];
+
+#[test]
+fn links_that_may_stand_in_a_row(rt: HostRuntime) {
+    for (address, offset, stands) in &LINKS {
+        let made = linked_row(&rt, rt.alloc(), *address, *offset);
+        expect_same(&rt, &made.is_some(), stands);
+    }
 }
 
 /// Whether each limit of a domain holds a word, and no place is named.
@@ -181,6 +209,8 @@ fn post(rt: &impl Abort) -> Post<Value> {
             address: 0o20,
             value: Value::of_word(order_word(rt)),
         }),
+        narrowed: None,
+        link: None,
     }
 }
 
@@ -242,4 +272,57 @@ fn value_of_a_word_is_its_set(rt: HostRuntime) {
     let word = order_word(&rt);
     let words = WordSet::of(&[word]).expect(&rt, "a word set");
     expect_same(&rt, &Value::of_word(word), &Value::Words(words));
+}
+
+/// The cell 20 octal with the words of value 5 to 7.
+fn tested_cell(rt: &impl Abort) -> Option<At<Value>> {
+    Some(At {
+        address: 0o20,
+        value: value(rt, 5, 7),
+    })
+}
+
+// What a test left of the cell counts before the word that the order stands in, and after what was stored.
+#[test]
+fn rows_hold_what_a_test_left_of_a_cell(rt: HostRuntime) {
+    let alloc = rt.alloc();
+    let tested = Post {
+        stored: None,
+        narrowed: tested_cell(&rt),
+        ..post(&rt)
+    };
+    assert_covered(&rt, alloc, true, &[(0o20, 5, 7)], &tested);
+    assert_covered(&rt, alloc, false, &[(0o20, 5, 6)], &tested);
+    let stored = Post {
+        narrowed: tested_cell(&rt),
+        ..post(&rt)
+    };
+    assert_covered(&rt, alloc, true, &[(0o20, 0, 3)], &stored);
+    assert_covered(&rt, alloc, false, &[(0o20, 5, 7)], &stored);
+}
+
+/// A link of A to a cell.
+fn link(address: u16, offset: i32) -> Option<Link> {
+    Some(Link { address, offset })
+}
+
+/// Whether a row with the link (20 octal, 3) covers a post with a link.
+fn is_link_covered(rt: &impl Abort, alloc: Global, link: Option<Link>) -> bool {
+    let target = linked_row(rt, alloc, 0o20, 3).expect(rt, "a link");
+    let post = Post { link, ..post(rt) };
+    is_covered_by(rt, alloc, &target, &post)
+}
+
+#[test]
+fn rows_hold_the_links_of_posts(rt: HostRuntime) {
+    let alloc = rt.alloc();
+    assert!(rt; is_link_covered(&rt, alloc, link(0o20, 3)));
+    assert!(rt; !is_link_covered(&rt, alloc, link(0o20, 2)));
+    assert!(rt; !is_link_covered(&rt, alloc, link(0o21, 3)));
+    assert!(rt; !is_link_covered(&rt, alloc, None));
+    let other = Post {
+        link: link(0o20, 3),
+        ..post(&rt)
+    };
+    assert_covered(&rt, alloc, true, &[], &other);
 }

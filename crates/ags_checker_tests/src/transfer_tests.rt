@@ -6,7 +6,7 @@ use ags_domain::{Domain, Operands, Range, Value, WordSet};
 use ags_image::Image;
 use ags_ports::Machine;
 use ags_posts::{PostPair, Stop};
-use ags_row::{At, Limits, Post, Row, RowParts, covers};
+use ags_row::{At, Limits, Link, Post, Row, RowParts, covers};
 use ags_transfer::code;
 use ags_word::Word;
 use std::alloc::Global;
@@ -41,6 +41,7 @@ fn row(
         x: [true; 8],
         v: [true; 2],
         at: cells_of(rt, alloc, cell),
+        link: None,
     };
     Row::of(parts).expect(rt, "the parts of a row")
 }
@@ -53,7 +54,7 @@ fn image(rt: &impl Abort, alloc: Global) -> Image {
 }
 
 /// Limits that hold each word.
-fn full_limits<D: Domain>(rt: &impl Abort, alloc: Global) -> Limits<D> {
+pub(crate) fn full_limits<D: Domain>(rt: &impl Abort, alloc: Global) -> Limits<D> {
     Limits::new(alloc).expect(rt, "memory for limits")
 }
 
@@ -72,7 +73,7 @@ fn set_registers(rt: &impl Abort, limits: &mut Limits<Value>) {
 }
 
 /// Limits of some cells and registers; the place 4000 is named, or none.
-fn limits(rt: &impl Abort, alloc: Global, named: bool) -> Limits<Value> {
+pub(crate) fn limits(rt: &impl Abort, alloc: Global, named: bool) -> Limits<Value> {
     let mut limits = full_limits(rt, alloc);
     set_cells(rt, &mut limits);
     set_registers(rt, &mut limits);
@@ -99,6 +100,7 @@ enum Change {
     Stored(u16, i32, i32),
     Cleared(u16),
     Code(u32),
+    Linked(u16),
 }
 
 /// The post at 4000 that changes nothing, where A may hold the words of value 1 to 3.
@@ -112,6 +114,8 @@ fn stays(rt: &impl Abort, x: u8, v: bool) -> Post<Value> {
         v1: v,
         stored: None,
         code: None,
+        narrowed: None,
+        link: None,
     }
 }
 
@@ -121,7 +125,7 @@ fn at(address: u16, value: Value) -> Option<At<Value>> {
 }
 
 /// The value of one word.
-fn alone(rt: &impl Abort, number: u32) -> Value {
+pub(crate) fn alone(rt: &impl Abort, number: u32) -> Value {
     Value::of_word(word(rt, number))
 }
 
@@ -147,12 +151,13 @@ fn changed(rt: &impl Abort, mut post: Post<Value>, change: Change) -> Post<Value
         }
         Change::Cleared(address) => post.stored = at(address, alone(rt, 0)),
         Change::Code(number) => post.code = at(0o20, alone(rt, number)),
+        Change::Linked(address) => post.link = Some(Link { address, offset: 0 }),
     }
     post
 }
 
 /// One post alone.
-fn single(post: Post<Value>) -> Result<PostPair<Value>, Stop<Value>> {
+pub(crate) fn single(post: Post<Value>) -> Result<PostPair<Value>, Stop<Value>> {
     Ok(PostPair {
         first: Some(post),
         second: None,
@@ -174,7 +179,7 @@ fn assert_answer(
 }
 
 /// The posts of a word in a row, under limits, at an index and an indicator.
-fn judged_in_row<D: Domain>(
+pub(crate) fn judged_in_row<D: Domain>(
     rt: &impl Abort,
     alloc: Global,
     limits: &Limits<D>,
@@ -215,8 +220,8 @@ type OrderRow = (u32, u8, bool, Change, Change);
 
 const ORDERS: [OrderRow; 31] = [
     // orders that load and store
-    (0o200020, 2, false, Change::A(2, 4), Change::Nothing),
-    (0o210020, 2, false, Change::A(0, 4), Change::Nothing),
+    (0o200020, 2, false, Change::A(2, 4), Change::Linked(0o20)),
+    (0o210020, 2, false, Change::A(0, 4), Change::Linked(0o22)),
     (0o204100, 2, false, Change::WordInA(7), Change::Nothing),
     (0o140020, 2, false, Change::Q(2, 4), Change::Nothing),
     (
@@ -224,7 +229,7 @@ const ORDERS: [OrderRow; 31] = [
         2,
         false,
         Change::Stored(0o21, 1, 3),
-        Change::Nothing,
+        Change::Linked(0o21),
     ),
     (
         0o120021,
@@ -438,13 +443,15 @@ fn expect_covered(
 fn order_in_an_erasable_cell(rt: HostRuntime) {
     let alloc = rt.alloc();
     // the words that a store to the cell that is run from leaves count before its own word
-    let post = run_from_cell(&rt, 0o100020, Change::Stored(0o20, 0, 3));
+    let stored = run_from_cell(&rt, 0o100020, Change::Stored(0o20, 0, 3));
+    let post = changed(&rt, stored, Change::Linked(0o20));
     expect_run_from_cell(&rt, alloc, 0o100020, post);
     let held = at(0o20, value(&rt, 0, 3));
     expect_covered(&rt, alloc, held, &post, true);
     let own = at(0o20, alone(&rt, 0o100020));
     expect_covered(&rt, alloc, own, &post, false);
-    let read = run_from_cell(&rt, 0o200020, Change::WordInA(0o200020));
+    let loaded = run_from_cell(&rt, 0o200020, Change::WordInA(0o200020));
+    let read = changed(&rt, loaded, Change::Linked(0o20));
     expect_run_from_cell(&rt, alloc, 0o200020, read);
 }
 
@@ -516,6 +523,7 @@ fn any_row<D: Domain>(rt: &impl Abort, alloc: Global) -> Row<D> {
         x: [true; 8],
         v: [true; 2],
         at: Vec::new(alloc),
+        link: None,
     };
     Row::of(parts).expect(rt, "the parts of a row")
 }

@@ -1,13 +1,14 @@
 -- Parts of a range, joins of two, and the order of its words by number.
-use Rattle.std.proofs.Common.{◌≡◌, ℕ, ◌-◌, ◌<◌, ◌≤◌, ◌^◌, Bool, true, false, refl, sym, ap, ◌∙◌, subst, arith, pos, negsuc, ◌≤ℤ◌, ◌<ℤ◌}
+use Rattle.std.proofs.Common.{◌≡◌, ℕ, ◌-◌, ◌<◌, ◌≤◌, ◌^◌, Bool, true, false, refl, sym, ap, ◌∙◌, subst, arith, pos, negsuc, ℤ, ◌≤ℤ◌, ◌<ℤ◌}
 use Rattle.std.specs.Prelude.{not, ◌&&◌, ◌||◌, eqb, Option, Some, None, IfSome}
+use Rattle.std.specs.Int.{int_max, int_min}
 use Rattle.std.proofs.lemmas.Int.{ints}
 use Rattle.std.proofs.lemmas.Bool.Decides.{nat_tests}
-use Rattle.ags_word.specs.Word.{val}
-use Rattle.ags_word.proofs.WordLaws.{val_same, val_least, val_most}
+use Rattle.ags_word.specs.Word.{val, wrap, fits}
+use Rattle.ags_word.proofs.WordLaws.{val_same, val_least, val_most, val-wrap, fits_in}
 use Rattle.ags_domain.specs.LowBits.{all_ones}
-use Rattle.ags_domain.specs.Domain.{IsAlone, IsFull, IsJoin, IsPart, IsWithin, is_negative, is_not_negative}
-use Rattle.ags_domain.specs.Range.{range_ends, range_meaning, lies_between, lesser, greater, ends_of, hull_of}
+use Rattle.ags_domain.specs.Domain.{Meaning, IsAlone, IsFull, IsJoin, IsPart, IsWithin, is_negative, is_not_negative, has_value_between}
+use Rattle.ags_domain.specs.Range.{range_ends, range_meaning, lies_between, lesser, greater, ends_of, hull_of, IsRangeOf}
 use Rattle.ags_domain.specs.SetOf.{IsNext}
 use Rattle.ags_domain.specs.Gathering.{held_by_part}
 use Rattle.ags_domain.specs.MeaningLaws.{lies_inside, lies_from, lies_to, least_lies, greatest_lies}
@@ -73,17 +74,83 @@ full range ends_are = record {
 
 -- ---- parts
 
-pub negative_ordered : (l g : ℕ) → val l ≤ℤ val g → val l <ℤ pos 0 → val l ≤ℤ val (lesser g (2 ^ 18 - 1))
-negative_ordered l g h k = let last = val_minus_one in grind (arith, ints)
+-- a part is one for each test that chooses the same words
+pub part_as : {D : Type 0} (meaning : Meaning D) (p q : ℕ → Bool) → ((w : ℕ) → w < 2 ^ 18 → p w ≡ q w) → (d : D) (part : Option D)
+    → IsPart meaning p d part → IsPart meaning q d part
+part_as meaning p q same d (Some part) is = (is.0, λ w word. is.1 w word ∙ ap (λ (b : Bool). meaning.held d w && b) (same w word))
+part_as meaning p q same d None is = λ w word held. sym (same w word) ∙ is w word held
 
-pub negative_lies : (l g w : ℕ) → lies_between (ends_of l (lesser g (2 ^ 18 - 1))) w ≡ (lies_between (ends_of l g) w && is_negative w)
-negative_lies l g w = let last = val_minus_one in bools_same _ _ (λ h. grind (arith, ints)) (λ h. grind (arith, ints))
+-- so it is where the two numbers are given in another form
+pub part_at : {D : Type 0} (meaning : Meaning D) {m n : ℤ} (least greatest : ℤ) → m ≡ least → n ≡ greatest → (d : D) (part : Option D)
+    → IsPart meaning (has_value_between m n) d part → IsPart meaning (has_value_between least greatest) d part
+part_at meaning {m} {n} least greatest p r d part =
+    part_as meaning (has_value_between m n) (has_value_between least greatest)
+    (λ w word. ap (λ (l : ℤ). has_value_between l n w) p ∙ ap (λ (g : ℤ). has_value_between least g w) r) d part
 
-pub rest_ordered : (l g : ℕ) → val l ≤ℤ val g → pos 0 ≤ℤ val g → val (greater l 0) ≤ℤ val g
-rest_ordered l g h k = let zero = val_zero in grind (arith, ints)
+false_of : (b : Bool) → (b ≡ true → ⊥) → b ≡ false
+false_of true h = absurd (h refl)
+false_of false h = refl
 
-pub rest_lies : (l g w : ℕ) → lies_between (ends_of (greater l 0) g) w ≡ (lies_between (ends_of l g) w && is_not_negative w)
-rest_lies l g w = let zero = val_zero in bools_same _ _ (λ h. grind (arith, ints)) (λ h. grind (arith, ints))
+-- the words of a range from one value to another are those between the greater least and the lesser greatest end
+module _ (range : Range) (least greatest from to : ℤ) (up : from ≡ int_max least (val range.least)) (down : to ≡ int_min greatest (val range.greatest)) where
+  above_least : least ≤ℤ from
+  above_least = grind (arith, ints, up)
+
+  above_range : val range.least ≤ℤ from
+  above_range = grind (arith, ints, up)
+
+  below_greatest : to ≤ℤ greatest
+  below_greatest = grind (arith, ints, down)
+
+  below_range : to ≤ℤ val range.greatest
+  below_range = grind (arith, ints, down)
+
+  from_least : (n : ℤ) → least ≤ℤ n → val range.least ≤ℤ n → from ≤ℤ n
+  from_least n h k = grind (arith, ints, up)
+
+  to_most : (n : ℤ) → n ≤ℤ greatest → n ≤ℤ val range.greatest → n ≤ℤ to
+  to_most n h k = grind (arith, ints, down)
+
+  chosen_lies : (w : ℕ) → from ≤ℤ val w → val w ≤ℤ to → (lies_between (range_ends range) w && has_value_between least greatest w) ≡ true
+  chosen_lies w h k = grind (arith, ints, above_least, above_range, below_greatest, below_range)
+
+  chosen_from : (w : ℕ) → (lies_between (range_ends range) w && has_value_between least greatest w) ≡ true → (from ≤ℤ val w) × (val w ≤ℤ to)
+  chosen_from w h = (
+    from_least (val w) (grind (arith, ints, h)) (grind (arith, ints, h)),
+    to_most (val w) (grind (arith, ints, h)) (grind (arith, ints, h)),
+  )
+
+  pub part_between : (part : Option Range) → IsRangeOf from to part → IsPart range_meaning (has_value_between least greatest) range part
+  part_between (Some part) is = (
+    refl,
+    λ w word.
+        let low : val (wrap from) ≡ from = val-wrap from is.0 in
+        let high : val (wrap to) ≡ to = val-wrap to is.1 in
+        ap (λ ends. lies_between ends w) is.3 ∙ bools_same _ _
+        (λ h. chosen_lies w
+        (subst (λ (n : ℤ). n ≤ℤ val w) low (lies_from (ends_of (wrap from) (wrap to)) w h))
+        (subst (λ (n : ℤ). val w ≤ℤ n) high (lies_to (ends_of (wrap from) (wrap to)) w h)))
+        (λ h.
+        let lies = chosen_from w h in
+        lies_inside (ends_of (wrap from) (wrap to)) w
+        (subst (λ (n : ℤ). n ≤ℤ val w) (sym low) lies.0) (subst (λ (n : ℤ). val w ≤ℤ n) (sym high) lies.1)),
+  )
+  part_between None is = λ w word held. false_of _ (λ between.
+      let lies = chosen_from w (rw (held, between) refl) in
+      let least_is = val_least range.least range.least_word in
+      let most_is = val_most range.greatest range.greatest_word in
+      let most_word = val_most w word in
+      let least_word = val_least w word in
+      let above = above_range in
+      let below = below_range in
+      let apart = is (fits_in from (omega (arith, ints)) (omega (arith, ints))) (fits_in to (omega (arith, ints)) (omega (arith, ints))) in
+      absurd (omega (arith, ints)))
+
+pub between_negative : (w : ℕ) → w < 2 ^ 18 → has_value_between (negsuc 131071) (negsuc 0) w ≡ is_negative w
+between_negative w is = let least = val_least w is in bools_same _ _ (λ h. grind (arith, ints)) (λ h. grind (arith, ints))
+
+pub between_rest : (w : ℕ) → w < 2 ^ 18 → has_value_between (pos 0) (pos 131071) w ≡ is_not_negative w
+between_rest w is = let most = val_most w is in bools_same _ _ (λ h. grind (arith, ints)) (λ h. grind (arith, ints))
 
 -- ---- joins
 

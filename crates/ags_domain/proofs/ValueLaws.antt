@@ -11,6 +11,7 @@ use Rattle.ags_domain.specs.WordSet.{lists, HoldsMore}
 use Rattle.ags_domain.specs.Domain.{Ends, IsBetween, IsFull, IsJoin, IsPart, IsWithin, held_by_either}
 use Rattle.ags_domain.specs.Hull.{IsInterval, Answers}
 use Rattle.ags_domain.specs.Range.{range_ends, range_meaning, lies_between, lesser, greater, hull_of}
+use Rattle.ags_domain.proofs.PartLaws.{part_as}
 use Rattle.ags_domain.specs.Value.{value_meaning, value_held, value_ends}
 use Rattle.ags_domain.specs.SetOf.{IsFiltered}
 use Rattle.ags_domain.specs.Gathering.{AreGathered}
@@ -118,6 +119,26 @@ pub no_words_part : (chosen : ℕ → Bool) (set : WordSet) → IsFiltered chose
 no_words_part chosen set is w word held =
     let none : lists (filter chosen set.list) w ≡ false = ap (λ ws. lists ws w) is in
     sym (ap (λ b. b && chosen w) held) ∙ sym (lists_filter chosen set.list w) ∙ none
+
+-- the words of a set between two values are those that a range has: of that range these are the words of all
+module _ (chosen : ℕ → Bool) (all : Range) (full : IsFull range_meaning all) (set : WordSet) where
+  inside_is : (inside : Range) → IsPart range_meaning chosen all (Some inside) → (w : ℕ) → w < 2 ^ 18 → lies_between (range_ends inside) w ≡ chosen w
+  inside_is inside is w word = is.1 w word ∙ ap (λ (b : Bool). b && chosen w) (full.every w word)
+
+  pub words_inside : (inside : Range) (part : WordSet) → IsPart range_meaning chosen all (Some inside)
+      → IsFiltered (lies_between (range_ends inside)) set.list (Some part) → IsPart value_meaning chosen (Words set) (Some (Words part))
+  words_inside inside part is filtered =
+      part_as value_meaning (lies_between (range_ends inside)) chosen (inside_is inside is) (Words set) (Some (Words part))
+      (words_part (lies_between (range_ends inside)) set part filtered)
+
+  pub no_words_inside : (inside : Range) → IsPart range_meaning chosen all (Some inside)
+      → IsFiltered (lies_between (range_ends inside)) set.list None → IsPart value_meaning chosen (Words set) None
+  no_words_inside inside is filtered =
+      part_as value_meaning (lies_between (range_ends inside)) chosen (inside_is inside is) (Words set) None
+      (no_words_part (lies_between (range_ends inside)) set filtered)
+
+  pub none_inside : IsPart range_meaning chosen all None → IsPart value_meaning chosen (Words set) None
+  none_inside is w word held = is w word (full.every w word)
 
 -- ---- joins
 

@@ -23,7 +23,6 @@ mod value_domain;
 mod values;
 mod word_lists;
 mod word_sets;
-mod word_signs;
 
 pub use domains::Domain;
 pub use operands::Operands;

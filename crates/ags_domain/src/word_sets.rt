@@ -4,8 +4,8 @@ ghost use Rattle.std.specs.Prelude.{◌≡◌, ◌<◌, ◌≤◌, true, length}
 ghost use Rattle.ags_domain.specs.WordSet.{ascends_from};
 
 use crate::hulls::{greater_word, lesser_word};
+use crate::ranges::Range;
 use crate::word_lists::{MOST_WORDS, WordList};
-use crate::word_signs::is_of_sign;
 use ags_word::Word;
 
 /// One to 16 distinct words, in ascending number.
@@ -20,7 +20,8 @@ pub struct WordSet {
 impl WordSet {
     ghost use Rattle.std.specs.Prelude.{◌≡◌, ◌<◌, ◌≤◌, true, length, [], ◌∷◌};
     ghost use Rattle.ags_domain.specs.WordSet.{ascends_from, lists};
-    ghost use Rattle.ags_domain.specs.SetOf.{IsSetOf, IsNext, IsFiltered, least_of, greatest_of, is_of_sign as is_word_of_sign};
+    ghost use Rattle.ags_domain.specs.SetOf.{IsSetOf, IsNext, IsFiltered, least_of, greatest_of};
+    ghost use Rattle.ags_domain.specs.Range.{range_ends, lies_between};
 
     /// The set of some words, and nothing where there are none, more than 16, or where one isn't above the one before it.
     pub fn of(words: &[Word]) -> Option<WordSet>
@@ -119,13 +120,13 @@ impl WordSet {
         greatest
     }
 
-    /// The words that are negative, or those that aren't, and nothing where there are none.
-    pub(crate) fn part(&self, negative: bool) -> Option<WordSet>
-        ensures { IsFiltered (is_word_of_sign negative) self.now.list result }
+    /// The words that a range has too, and nothing where there are none.
+    pub(crate) fn part(&self, range: &Range) -> Option<WordSet>
+        ensures { IsFiltered (lies_between (range_ends range.now)) self.now.list result }
     {
         let mut list = WordList::new();
         for word in self.words() {
-            if is_of_sign(*word, negative) {
+            if range.has(*word) {
                 list.push(*word);
             }
         }

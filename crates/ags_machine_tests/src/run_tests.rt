@@ -194,6 +194,7 @@ fn row(rt: &impl Abort, alloc: Global) -> Row<Value> {
         x: [true, false, false, false, false, false, false, false],
         v: [true, false],
         at: Vec::new(alloc),
+        link: None,
     })
     .expect(rt, "the parts of a row")
 }

@@ -19,7 +19,9 @@ use Rattle.ags_row.specs.Cover.{cell_value, post_value, Covers}
 use Rattle.ags_row.specs.declared.ats.At.{At}
 use Rattle.ags_row.specs.declared.posts.Post.{Post}
 use Rattle.ags_row.specs.declared.rows.Row.{Row}
+use Rattle.ags_row.specs.declared.links.Link.{Link}
 use Rattle.ags_posts.specs.Case.{Case}
+use Rattle.ags_posts.specs.Linked.{LinkHolds}
 use Rattle.ags_posts.specs.InRow.{IsInRow, HasFixedWords, AreCellsInLimits}
 use Rattle.ags_posts.specs.OneStep.{Agrees, Follows, IsStoreInLimit}
 use Rattle.ags_posts.specs.declared.answers.PostPair.{PostPair}
@@ -52,6 +54,11 @@ module _ {D : Type 0} (meaning : Meaning D) where
       (λ same. each zero at (omega arith) (eqb-true at.address address same))
       (among_held cells limit address w (λ k d inside is. each (suc k) d (omega arith) is) in_limit))
 
+  -- the link that a row asks for holds where it is the post's
+  link_covered : (asked left : Option Link) (s : State) → IfSome asked (λ link. left ≡ Some link) → IfSome left (LinkHolds s) → IfSome asked (LinkHolds s)
+  link_covered None left s same holds = tt
+  link_covered (Some link) left s same holds = subst (λ (l : Option Link). IfSome l (LinkHolds s)) same holds
+
   pub covered : (machine : Machine) (image : List (Option ℕ)) (limits : Limiting D) (target base : Row D) (post : Post D) (s : State)
       → IsState machine s → Covers meaning target base post limits → Agrees meaning limits base post s
       → HasFixedWords image s → AreCellsInLimits meaning limits s → IsInRow meaning image limits target s
@@ -68,6 +75,7 @@ module _ {D : Type 0} (meaning : Meaning D) where
         covers.cells k d inside (cell s address) (is.cells address 0 (omega (arith, is.cells_count)))
         (subst (λ (n : ℕ). meaning.held (post_value base limits post n) (cell s address) ≡ true) (sym here) (agrees.cells address below)))
         (in_limits address below);
+    link = link_covered target.link post.link s covers.link agrees.link;
   }
 
   -- ---- limits

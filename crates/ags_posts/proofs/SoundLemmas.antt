@@ -16,6 +16,8 @@ use Rattle.ags_posts.specs.Case.{Case, is_erasable, next_of_row}
 use Rattle.ags_posts.specs.Told.{Told, These, EveryWord, IsAmong}
 use Rattle.ags_posts.specs.Line.{Line, moves_on, IsPostOf}
 use Rattle.ags_posts.specs.Posts.{Outcome, IsSingle, Decides, IsStored}
+use Rattle.ags_row.specs.declared.links.Link.{Link}
+use Rattle.ags_posts.specs.Linked.{LinkHolds}
 use Rattle.ags_posts.specs.InRow.{IsInCase}
 use Rattle.ags_posts.specs.OneStep.{AgreesWith, AgreesWithOne, IsStoreInLimit, IsGivenInLimit}
 use Rattle.ags_posts.specs.declared.answers.PostPair.{PostPair}
@@ -48,8 +50,12 @@ or_set : (b over : Bool) (P : Type 0) → (b ≡ true → P) → (over ≡ true 
 or_set true over P p r h = p refl
 or_set false over P p r h = r h
 
-written : (low : Bool) (cells : List ℕ) (address word : ℕ) → low ≡ true → (if low then set cells address word else cells) ≡ set cells address word
+pub written : (low : Bool) (cells : List ℕ) (address word : ℕ) → low ≡ true → (if low then set cells address word else cells) ≡ set cells address word
 written low cells address word is = rw is refl
+
+its_own : {P : Type 0} (link : Option Link) → P → IfSome link (λ l. (link ≡ Some l) × P)
+its_own None p = tt
+its_own (Some l) p = (refl, p)
 
 module _ {D : Type 0} (meaning : Meaning D) (lawful : IsMeaning D meaning) (c : Case D) (s : State) (is : IsState c.machine s)
     (in_case : IsInCase meaning c s) where
@@ -91,13 +97,14 @@ module _ {D : Type 0} (meaning : Meaning D) (lawful : IsMeaning D meaning) (c : 
   -- ---- a store
 
   -- an order that does what a line says, and then stores a word in an erasable cell
-  pub stored_sound : (e : ℕ) (told : Told D) (line : Line D) (pair : PostPair D) (does : Effect) (w : ℕ) → is_erasable e ≡ true
-      → IsStored meaning c e told line (Ok pair) → IsInLine meaning s does.after line → does.after.cells ≡ s.cells
+  pub stored_sound : (e : ℕ) (told : Told D) (line : Line D) (link : Option Link) (pair : PostPair D) (does : Effect) (w : ℕ) → is_erasable e ≡ true
+      → IsStored meaning c e told (record line { link = link }) (Ok pair) → IsInLine meaning s does.after line
+      → IfSome link (LinkHolds (then_stores does e w).after) → does.after.cells ≡ s.cells
       → IsState c.machine ((then_stores does e w).after) → w < 2 ^ 18 → IsAmong meaning told w
       → (does.overflow ≡ true → is_named c.limits c.row.location ≡ true) → does.took ≡ None → does.gave ≡ None
       → IsSound meaning c pair (then_stores does e w)
-  stored_sound e told line pair does w erasable is_stored in_line same is_state below among named takes_none gives_none = record {
-    agrees = single_agrees (record line { stored = Some (record { address = e; value = told }) }) pair ((then_stores does e w).after)
+  stored_sound e told line link pair does w erasable is_stored in_line linked same is_state below among named takes_none gives_none = record {
+    agrees = single_agrees (record line { link = link; stored = Some (record { address = e; value = told }) }) pair ((then_stores does e w).after)
         is_stored.3 in_line_after is_state;
     overflow = named;
     stored = (low, is_stored.2 w below (told_held meaning told is_stored.0 w is_stored.1 below among));
@@ -108,7 +115,7 @@ module _ {D : Type 0} (meaning : Meaning D) (lawful : IsMeaning D meaning) (c : 
       low : e < 2048
       low = ltb-true e 2048 erasable
 
-      in_line_after : IsInLine meaning s ((then_stores does e w).after) (record line { stored = Some (record { address = e; value = told }) })
+      in_line_after : IsInLine meaning s ((then_stores does e w).after) (record line { link = link; stored = Some (record { address = e; value = told }) })
       in_line_after = record {
         next = in_line.next;
         a_word = in_line.a_word;
@@ -125,43 +132,50 @@ module _ {D : Type 0} (meaning : Meaning D) (lawful : IsMeaning D meaning) (c : 
           erasable = low;
           are = written (nat_lt e 2048) does.after.cells e w erasable ∙ ap (λ (cells : List ℕ). set cells e w) same;
         };
+        narrowed = in_line.narrowed;
+        link = linked;
       }
 
   -- ---- an operation
 
-  -- what goes on from the domain's answer: some set for A, that has what the operation leaves, and an indicator that may be set
-  -- where it overflows
-  pub record IsChosen (operation : Operation) (o : Operands) (line : Line D) (a : Told D) (v1 : Bool) : Type 0 where
+  -- what goes on from the domain's answer: some set for A, that has what the operation leaves, an indicator that may be set
+  -- where it overflows, and a link, the line's, only where it doesn't
+  pub record IsChosen (operation : Operation) (o : Operands) (line : Line D) (a : Told D) (v1 : Bool) (link : Option Link) : Type 0 where
     pub among : IsAmong meaning a (new_a_at operation o)
     pub named : overflows_at operation o ≡ true → is_named c.limits c.row.location ≡ true
     pub set : overflows_at operation o ≡ true → v1 ≡ true
     pub keeps : line.v1 ≡ true → v1 ≡ true
+    pub linked : IfSome link (λ l. (line.link ≡ Some l) × (overflows_at operation o ≡ false))
 
   pub chosen : (operation : Operation) (candidates : Ends → Ends → List Operands) (m_ends : Ends) (line : Line D)
       (follows : Line D → Outcome D → Type 0) (answer : Result D Operands) (pair : PostPair D) (o : Operands)
       → Answers meaning operation candidates (meaning.ends c.row.a) m_ends answer → IsOperands (meaning.ends c.row.a) m_ends o
       → new_a_at operation o < 2 ^ 18 → Decides meaning c line follows answer (Ok pair)
-      → (a : Told D) × (v1 : Bool) × IsChosen operation o line a v1 × follows (record line { a = a; v1 = v1 }) (Ok pair)
+      → (a : Told D) × (v1 : Bool) × (link : Option Link) × IsChosen operation o line a v1 link × follows (record line { a = a; v1 = v1; link = link }) (Ok pair)
   chosen operation candidates m_ends line follows (Ok d) pair o answers are below decides = (
     These d,
     line.v1,
+    line.link,
     record {
       among = lawful.ranged d (new_a_at operation o) answers.kept (answers.hull.each o are);
       named = λ over. absurd (never (sym (answers.none o are) ∙ over));
       set = λ over. absurd (never (sym (answers.none o are) ∙ over));
       keeps = λ h. h;
+      linked = its_own line.link (answers.none o are);
     },
     decides,
   )
   chosen operation candidates m_ends line follows (Err f) pair o answers are below decides =
-      let goes = goes_on (is_named c.limits c.row.location) (follows (record line { a = EveryWord; v1 = true }) (Ok pair)) pair (MayOverflow f) decides in (
+      let goes = goes_on (is_named c.limits c.row.location) (follows (record line { a = EveryWord; v1 = true; link = None }) (Ok pair)) pair (MayOverflow f) decides in (
         EveryWord,
         true,
+        None,
         record {
           among = below;
           named = λ over. goes.0;
           set = λ over. refl;
           keeps = λ h. refl;
+          linked = tt;
         },
         goes.1,
       )
@@ -173,11 +187,12 @@ module _ {D : Type 0} (meaning : Meaning D) (lawful : IsMeaning D meaning) (c : 
   abbrev pub met : ℕ → Operands
   met m = record { a = s.a; q = s.q; m = m }
 
-  -- it is in the line that goes on
-  pub computed_in_line : (operation : Operation) (m v : ℕ) (q a : Told D) (v1 : Bool)
-      → IsChosen operation (met m) (record (moves_on c) { q = q }) a v1 → operation.new_a s.a s.q m < 2 ^ 18 → v < 2 ^ 18 → IsAmong meaning q v
-      → IsInLine meaning s (computed operation m v).after (record (moves_on c) { q = q; a = a; v1 = v1 })
-  computed_in_line operation m v q a v1 is_chosen a_below v_below among = record {
+  -- it is in the line that goes on, where the line's link holds if the operation doesn't overflow
+  pub computed_in_line : (operation : Operation) (m v : ℕ) (line_link link : Option Link) (q a : Told D) (v1 : Bool)
+      → IsChosen operation (met m) (record (moves_on c) { q = q; link = line_link }) a v1 link
+      → ((l : Link) → line_link ≡ Some l → operation.overflows s.a s.q m ≡ false → LinkHolds (computed operation m v).after l) → operation.new_a s.a s.q m < 2 ^ 18 → v < 2 ^ 18 → IsAmong meaning q v
+      → IsInLine meaning s (computed operation m v).after (record (moves_on c) { q = q; a = a; v1 = v1; link = link })
+  computed_in_line operation m v line_link link q a v1 is_chosen holds a_below v_below among = record {
     next = next_is;
     a_word = a_below;
     a = is_chosen.among;
@@ -187,7 +202,14 @@ module _ {D : Type 0} (meaning : Meaning D) (lawful : IsMeaning D meaning) (c : 
     clear = λ no. clear_stays (or_clear s.indicator (operation.overflows s.a s.q m) no);
     set = λ yes. or_set s.indicator (operation.overflows s.a s.q m) (v1 ≡ true) (λ h. is_chosen.keeps (set_stays h)) is_chosen.set yes;
     cells = refl;
+    narrowed = tt;
+    link = linked_after link is_chosen.linked;
   }
+    where
+      linked_after : (link : Option Link) → IfSome link (λ l. (line_link ≡ Some l) × (operation.overflows s.a s.q m ≡ false))
+          → IfSome link (LinkHolds (computed operation m v).after)
+      linked_after None h = tt
+      linked_after (Some l) h = holds l h.0 h.1
 
   -- the operands that are met lie between the ends
   pub met_between : (m : ℕ) (m_ends : Ends) → IsBetween m_ends m → IsOperands (meaning.ends c.row.a) m_ends (met m)

@@ -10,10 +10,11 @@ use Rattle.ags_row.specs.Cover.{post_value}
 use Rattle.ags_row.specs.declared.rows.Row.{Row}
 use Rattle.ags_row.specs.declared.posts.Post.{Post}
 use Rattle.ags_posts.specs.Case.{Case}
+use Rattle.ags_posts.specs.Linked.{LinkHolds}
 use Rattle.ags_posts.specs.InRow.{HasFixedWords}
 use Rattle.ags_posts.specs.declared.answers.PostPair.{PostPair}
 
--- the state is one that the post of a row says: its location, A, Q, index, indicator, and every erasable cell
+-- the state is one that the post of a row says: its location, A, Q, index, indicator, every erasable cell, and the link
 pub record Agrees {D : Type 0} (meaning : Meaning D) (limits : Limiting D) (row : Row D) (post : Post D) (s : State) : Type 0 where
   pub location : s.location ≡ post.next
   pub a : meaning.held post.a s.a ≡ true
@@ -22,6 +23,7 @@ pub record Agrees {D : Type 0} (meaning : Meaning D) (limits : Limiting D) (row 
   pub clear : s.indicator ≡ false → post.v0 ≡ true
   pub set : s.indicator ≡ true → post.v1 ≡ true
   pub cells : (address : ℕ) → address < 2048 → meaning.held (post_value row limits post address) (cell s address) ≡ true
+  pub link : IfSome post.link (LinkHolds s)
 
 -- the post is there, and the state agrees with it
 abbrev pub AgreesWith : {D : Type 0} → Meaning D → Limiting D → Row D → Option (Post D) → State → Type 0

@@ -1,6 +1,7 @@
 //! What the posts of a case mean. Each law is what a function that does nothing ensures, so that it is proved with the crate.
 
-ghost use Rattle.std.specs.Prelude.{◌≡◌, ◌<◌, ℕ, true, List, Option, Some, Ok, IfOk};
+ghost use Rattle.std.specs.Prelude.{◌≡◌, ◌<◌, ℕ, true, List, Option, Some, None, Ok, IfOk};
+ghost use Rattle.ags_row.specs.declared.links.Link.{Link};
 ghost use Rattle.ags_domain.specs.WordSet.{lists};
 ghost use Rattle.ags_domain.specs.declared.word_sets.WordSet.{WordSet};
 ghost use Rattle.ags_ports.specs.declared.events.Event.TheVariants.{Step};
@@ -14,6 +15,7 @@ ghost use Rattle.ags_row.specs.declared.posts.Post.{Post};
 ghost use Rattle.ags_row.specs.declared.rows.Row.{Row};
 ghost use Rattle.ags_posts.specs.Case.{Case, IsCode};
 ghost use Rattle.ags_posts.specs.Posts.{Outcome, IsPostsOfCase};
+ghost use Rattle.ags_posts.specs.Plain.{IsPlainOfCase, AreNotNarrowed, outcome_without_link};
 ghost use Rattle.ags_posts.specs.InRow.{IsInRow, IsInCase, HasFixedWords, AreCellsInLimits};
 ghost use Rattle.ags_posts.specs.OneStep.{Agrees, Follows};
 ghost use Rattle.ags_posts.specs.Going.{GoWithin};
@@ -62,4 +64,21 @@ pub fn code_has_the_word_of_each_state<D: Domain>()
         → lists set.list (word_here s) ≡ true }
     ensures one { (image : List (Option ℕ)) (limits : Limiting D) (row : Row D) (one other : Option WordSet)
         → IsCode D.meaning image limits row one → IsCode D.meaning image limits row other → one ≡ other }
+{}
+
+/// A row without a link covers a post whatever the post's link is.
+pub fn row_without_link_covers_by_the_rest<D: Domain>()
+    ensures { (target base : Row D) (post : Post D) (limits : Limiting D) (link : Option Link) → target.link ≡ None
+        → Covers D.meaning target base post limits → Covers D.meaning target base (record post { link = link }) limits }
+{}
+
+/// Where a row has no link, the posts of its cases are, but for their links, those of the table without links, and its stops are the
+/// stops of that table; each of these is one of the case; and no post narrows a cell.
+pub fn posts_without_links_are_plain<D: Domain>()
+    ensures plain { (c : Case D) (outcome : Outcome D) → c.row.link ≡ None → IsPostsOfCase D.meaning c outcome
+        → IsPlainOfCase D.meaning c (outcome_without_link outcome) }
+    ensures each { (c : Case D) (outcome : Outcome D) → c.row.link ≡ None → IsPlainOfCase D.meaning c outcome
+        → (linked : Outcome D) × IsPostsOfCase D.meaning c linked × (outcome_without_link linked ≡ outcome) }
+    ensures narrowed { (c : Case D) (pair : PostPair D) → c.index < 8 → c.row.link ≡ None → IsPostsOfCase D.meaning c (Ok pair)
+        → AreNotNarrowed pair }
 {}

@@ -1,6 +1,6 @@
 //! What a cell may hold, and whether a row holds all that a post says.
 
-ghost use Rattle.std.specs.Prelude.{◌≡◌, ◌<◌, ◌↔◌, IsTrue, All, true};
+ghost use Rattle.std.specs.Prelude.{◌≡◌, ◌<◌, ◌↔◌, IsTrue, IfSome, Some, All, true};
 ghost use Rattle.std.specs.Option.{option_copied};
 ghost use Rattle.ags_domain.specs.Domain.{IsWithin};
 ghost use Rattle.ags_row.specs.Flag.{has_flag};
@@ -9,6 +9,7 @@ ghost use Rattle.ags_row.specs.Cover.{cell_value, post_value, value_if, Covers};
 use crate::ats::At;
 use crate::cells::value_among_from;
 use crate::limits::Limits;
+use crate::links::Link;
 use crate::posts::Post;
 use crate::rows::Row;
 use ags_domain::Domain;
@@ -53,8 +54,8 @@ fn value_if<D: Domain>(cell: &Option<At<D>>, address: u16) -> Option<&D>
     }
 }
 
-/// What an erasable cell may hold after a post: what was stored there, else the order's own word, else what the row says, where it
-/// is likely to stand at a place of the row's cells.
+/// What an erasable cell may hold after a post: what was stored there, else what a test left of it, else the order's own word,
+/// else what the row says, where it is likely to stand at a place of the row's cells.
 fn post_value<'a, D: Domain>(
     base: &'a Row<D>,
     limits: &'a Limits<D>,
@@ -66,6 +67,9 @@ fn post_value<'a, D: Domain>(
     ensures { result.now ≡ post_value base.now limits.now post.now address }
 {
     if let Some(value) = value_if(&post.stored, address) {
+        return value;
+    }
+    if let Some(value) = value_if(&post.narrowed, address) {
         return value;
     }
     if let Some(value) = value_if(&post.code, address) {
@@ -142,8 +146,21 @@ fn covers_registers<D: Domain>(target: &Row<D>, post: &Post<D>) -> bool
         && post.q.within(&target.q)
 }
 
+/// Whether a row has no link, or just the one that stands after a post.
+fn covers_link(link: Option<Link>, after: Option<Link>) -> bool
+    ensures { IsTrue result ↔ IfSome link (λ link. after ≡ Some link) }
+{
+    match link {
+        Some(link) => match after {
+            Some(left) => left.address == link.address && left.offset == link.offset,
+            None => false,
+        },
+        None => true,
+    }
+}
+
 /// Whether a row holds all that a post of a base row says: its location, A, Q, the index, every indicator that may stand, and
-/// each cell that the row names (docs/CHECKER.md, When a row covers a post).
+/// each cell that the row names, and its link (docs/CHECKER.md, When a row covers a post).
 pub fn covers<D: Domain>(target: &Row<D>, base: &Row<D>, post: &Post<D>, limits: &Limits<D>) -> bool
     ensures { IsTrue result ↔ Covers D.meaning target.now base.now post.now limits.now }
 {
@@ -151,6 +168,9 @@ pub fn covers<D: Domain>(target: &Row<D>, base: &Row<D>, post: &Post<D>, limits:
         return false;
     }
     if !covers_indicator(&target.v, post.v0, post.v1) {
+        return false;
+    }
+    if !covers_link(target.link(), post.link) {
         return false;
     }
     covers_cells(target.at(), base, limits, post)

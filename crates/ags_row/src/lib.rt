@@ -8,11 +8,13 @@ mod ats;
 mod cells;
 mod coverage;
 mod limits;
+mod links;
 mod posts;
 mod rows;
 
 pub use ats::At;
 pub use coverage::{cell_of, covers};
 pub use limits::Limits;
+pub use links::{Link, is_link};
 pub use posts::Post;
 pub use rows::{MOST_CELLS, Row, RowParts};

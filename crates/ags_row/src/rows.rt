@@ -3,9 +3,11 @@
 ghost use Rattle.std.specs.Prelude.{◌≡◌, ◌<◌, ◌≤◌, true, length};
 ghost use Rattle.ags_row.specs.Cell.{cells_ascend};
 ghost use Rattle.ags_row.specs.Flag.{some_flag};
+ghost use Rattle.ags_row.specs.Link.{is_link};
 
 use crate::ats::At;
 use crate::cells::{Cells, ascend};
+use crate::links::{Link, is_link};
 use ags_word::LOCATIONS;
 
 /// How many cells a row names at most.
@@ -26,6 +28,8 @@ pub struct RowParts<D> {
     pub v: [bool; 2],
     /// What some erasable cells may hold, at most 64, in ascending order.
     pub at: Vec<At<D>>,
+    /// The link of A to a cell, if it holds.
+    pub link: Option<Link>,
 }
 
 /// What may stand where the order at one location begins. A cell that it doesn't name may hold what the limits say.
@@ -37,6 +41,7 @@ pub struct Row<D> {
     pub(crate) x: [bool; 8],
     pub(crate) v: [bool; 2],
     at: Cells<D>,
+    link: Option<Link>,
     pub ghost below: { location < 4096 },
     pub ghost some_index: { some_flag x ≡ true },
     pub ghost some_indicator: { some_flag v ≡ true },
@@ -44,6 +49,7 @@ pub struct Row<D> {
     pub ghost indicators: { length v ≡ 2 },
     pub ghost few: { length at ≤ 64 },
     pub ghost ascending: { cells_ascend 0 at ≡ true },
+    pub ghost linked: { is_link link ≡ true },
 }
 
 impl<D: Copy> Row<D> {
@@ -51,7 +57,7 @@ impl<D: Copy> Row<D> {
     ghost use Rattle.ags_row.specs.Row.{AreRowParts, HasParts, IsRowOf};
 
     /// The row of some parts, and nothing where they make none: where the location is above 4095, no index or no indicator
-    /// may stand, or the cells are more than 64, not erasable, or don't ascend.
+    /// may stand, the cells are more than 64, not erasable, or don't ascend, or the link is to no erasable cell or its offset too large.
     pub fn of(parts: RowParts<D>) -> Option<Row<D>>
         ensures { IsRowOf parts result }
     {
@@ -59,6 +65,9 @@ impl<D: Copy> Row<D> {
             return None;
         }
         if parts.at.len() > MOST_CELLS || !ascend(parts.at.as_slice()) {
+            return None;
+        }
+        if !is_link(parts.link) {
             return None;
         }
         Some(Row::made_of(parts))
@@ -76,6 +85,7 @@ impl<D: Copy> Row<D> {
             x: parts.x,
             v: parts.v,
             at: Cells::of(parts.at),
+            link: parts.link,
         }
     }
 
@@ -112,6 +122,13 @@ impl<D: Copy> Row<D> {
         ensures { result ≡ self.now.v }
     {
         self.v
+    }
+
+    /// The link of A to a cell, if it holds.
+    pub fn link(&self) -> Option<Link>
+        ensures { result ≡ self.now.link }
+    {
+        self.link
     }
 
     /// What some erasable cells may hold, at most 64, in ascending order.

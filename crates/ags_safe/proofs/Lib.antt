@@ -6,3 +6,4 @@ pub mod FaultLemmas
 pub mod DecisionLemmas
 pub mod AcceptanceLemmas
 pub mod ExistenceLemmas
+pub mod PlainLemmas

@@ -73,6 +73,7 @@ module _ {D : Type 0} (meaning : Meaning D) (machine : Machine) (image : List (O
     indicator = is.indicator;
     fixed = is.fixed;
     cells = is.cells;
+    link = is.link;
   }
 
   -- another phase, and inputs in their limits

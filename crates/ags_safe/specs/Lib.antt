@@ -4,3 +4,4 @@ pub mod Start
 pub mod Safe
 pub mod Accepted
 pub mod Failing
+pub mod Plain

@@ -1,7 +1,7 @@
 //! That an accepted certificate is kept by every run, and that one is accepted where no item fails. Each law is what a function that
 //! does nothing ensures, so that it is proved with the crate.
 
-ghost use Rattle.std.specs.Prelude.{◌≡◌, ℕ, List, Option};
+ghost use Rattle.std.specs.Prelude.{◌≡◌, ◌↔◌, ℕ, List, Option, None, All};
 ghost use Rattle.ags_ports.specs.Machine.{IsMachine};
 ghost use Rattle.ags_image.specs.Image.{IsImage};
 ghost use Rattle.ags_ports.specs.State.{State};
@@ -9,6 +9,7 @@ ghost use Rattle.ags_safe.specs.Certificate.{Certificate, IsCertificate, Suits};
 ghost use Rattle.ags_safe.specs.Start.{IsStart};
 ghost use Rattle.ags_safe.specs.Safe.{Safe};
 ghost use Rattle.ags_safe.specs.Accepted.{Accepted};
+ghost use Rattle.ags_safe.specs.Plain.{PlainlyAccepted};
 ghost use Rattle.ags_safe.specs.Failing.{Item, Fault, Fails, IsFirstFault, AreAnswered};
 
 use ags_domain::Domain;
@@ -43,4 +44,10 @@ pub fn accepted_is_that_no_item_fails<D: Domain>()
 pub fn first_fault_is_one<D: Domain>()
     ensures { (machine : Machine) (image : List (Option ℕ)) (cert : Certificate D) (fault other : Fault D) → IsMachine machine
         → IsFirstFault D.meaning machine image cert fault → IsFirstFault D.meaning machine image cert other → fault ≡ other }
+{}
+
+/// A certificate in which no row has a link is accepted just where it is by the table of orders without links.
+pub fn accepted_without_links_is_plain<D: Domain>()
+    ensures { (machine : Machine) (image : List (Option ℕ)) (cert : Certificate D) → All (λ row. row.link ≡ None) cert.rows
+        → (Accepted D.meaning machine image cert ↔ PlainlyAccepted D.meaning machine image cert) }
 {}

@@ -111,6 +111,42 @@ fn refuses_overflows_that_are_not_named(rt: HostRuntime) {
     }
 }
 
+/// A count that goes up to 10 and stays there: it is loaded, compared with 10, and loaded again.
+const LIMITER: &str =
+    " ORG /20\nS BSS 1\n ORG /4000\nL CLA S\n SUB MAX\n TMI UP\n TRA L\nUP CLA S\n ADD ONE\n STO S\n TRA L\nMAX OCT 12\nONE OCT 1\n";
+
+/// Its listing.
+const LIMITER_LISTING: &str =
+    "0000001              ORG /20\n0000002             S BSS 1\n0000003              ORG /4000\n0000004 4000 200020 L CLA S\n0000005 4001 244010  SUB MAX\n0000006 4002 464004  TMI UP\n0000007 4003 404000  TRA L\n0000008 4004 200020 UP CLA S\n0000009 4005 224011  ADD ONE\n0000010 4006 100020  STO S\n0000011 4007 404000  TRA L\n0000012 4010 000012 MAX OCT 12\n0000013 4011 000001 ONE OCT 1\n";
+
+/// The rows of `certifies_a_limiter_by_its_links`.
+const CERTIFIES_A_LIMITER_BY_ITS_LINKS: [(&str, Status, &str); 3] = [
+    (
+        "AGSCERT 2\nCELL 0020 RANGE 0 10\nROW 4000 A ANY Q ANY X 0 V 0\nROW 4001 A RANGE 0 10 Q ANY X 0 V 0\nLINK 0020 0\nROW 4002 A RANGE -10 0 Q ANY X 0 V 0\nLINK 0020 10\nROW 4003 A ANY Q ANY X 0 V 0\nROW 4004 A ANY Q ANY X 0 V 0\nAT 0020 RANGE 0 9\nROW 4005 A RANGE 0 9 Q ANY X 0 V 0\nROW 4006 A RANGE 1 10 Q ANY X 0 V 0\nROW 4007 A ANY Q ANY X 0 V 0\nEND\n",
+        Status::Done,
+        "CERTIFIED ROWS 8 CASES 8\n",
+    ),
+    // without the second link
+    (
+        "AGSCERT 2\nCELL 0020 RANGE 0 10\nROW 4000 A ANY Q ANY X 0 V 0\nROW 4001 A RANGE 0 10 Q ANY X 0 V 0\nLINK 0020 0\nROW 4002 A RANGE -10 0 Q ANY X 0 V 0\nROW 4003 A ANY Q ANY X 0 V 0\nROW 4004 A ANY Q ANY X 0 V 0\nAT 0020 RANGE 0 9\nROW 4005 A RANGE 0 9 Q ANY X 0 V 0\nROW 4006 A RANGE 1 10 Q ANY X 0 V 0\nROW 4007 A ANY Q ANY X 0 V 0\nEND\n",
+        Status::No,
+        "REFUSED 10 NotCovered ROW 3 WORD 464004 X 0 V 0 NEXT 4004\n",
+    ),
+    // with another number in it
+    (
+        "AGSCERT 2\nCELL 0020 RANGE 0 10\nROW 4000 A ANY Q ANY X 0 V 0\nROW 4001 A RANGE 0 10 Q ANY X 0 V 0\nLINK 0020 0\nROW 4002 A RANGE -10 0 Q ANY X 0 V 0\nLINK 0020 9\nROW 4003 A ANY Q ANY X 0 V 0\nROW 4004 A ANY Q ANY X 0 V 0\nAT 0020 RANGE 0 9\nROW 4005 A RANGE 0 9 Q ANY X 0 V 0\nROW 4006 A RANGE 1 10 Q ANY X 0 V 0\nROW 4007 A ANY Q ANY X 0 V 0\nEND\n",
+        Status::No,
+        "REFUSED 10 NotCovered ROW 2 WORD 244010 X 0 V 0 NEXT 4002\n",
+    ),
+];
+
+#[test]
+fn certifies_a_limiter_by_its_links(rt: HostRuntime) {
+    for &(certificate, status, verdict) in &CERTIFIES_A_LIMITER_BY_ITS_LINKS {
+        compare_verdict(&rt, LIMITER, LIMITER_LISTING, certificate, status, verdict);
+    }
+}
+
 /// A source of one order, the certificate behind its first line, its listing and the verdict that refuses it.
 type Refused = (&'static str, &'static str, &'static str, &'static str);
 
@@ -208,13 +244,18 @@ fn compare_fault(rt: &(impl AllocGlobal + Abort), certificate: &str, line: &str)
 
 // A certificate with a fault is told by its line, without a listing.
 /// The rows of `says_the_first_fault_of_a_certificate`.
-const SAYS_THE_FIRST_FAULT_OF_A_CERTIFICATE: [(&str, &str); 8] = [
+const SAYS_THE_FIRST_FAULT_OF_A_CERTIFICATE: [(&str, &str); 9] = [
     (
         "AGSCERT 1\nSTART 4000\nROW 4000 A ANY Q ANY X 0 V 0\nROW 4001 A ANY Q ANY X 0 V 0\nROW 4002 A ANY Q WORDS 404001 X 0 V 0\nROW 4003 A ANY Q ANY X 0 V 0\nAT 0017 WORDS 404001\nROW 0017 A ANY Q ANY X 0 V 0\nAT 0017 WORDS 404001\n",
         "CERTIFICATE LINE 10 ERROR 1 BadLine\n",
     ),
     ("", "CERTIFICATE LINE 1 ERROR 1 BadLine\n"),
-    ("AGSCERT 2\n", "CERTIFICATE LINE 1 ERROR 2 Version\n"),
+    ("AGSCERT 3\n", "CERTIFICATE LINE 1 ERROR 2 Version\n"),
+    // that of the limiter, in version 1
+    (
+        "AGSCERT 1\nCELL 0020 RANGE 0 10\nROW 4000 A ANY Q ANY X 0 V 0\nROW 4001 A RANGE 0 10 Q ANY X 0 V 0\nLINK 0020 0\nROW 4002 A RANGE -10 0 Q ANY X 0 V 0\nLINK 0020 10\nROW 4003 A ANY Q ANY X 0 V 0\nROW 4004 A ANY Q ANY X 0 V 0\nAT 0020 RANGE 0 9\nROW 4005 A RANGE 0 9 Q ANY X 0 V 0\nROW 4006 A RANGE 1 10 Q ANY X 0 V 0\nROW 4007 A ANY Q ANY X 0 V 0\nEND\n",
+        "CERTIFICATE LINE 5 ERROR 1 BadLine\n",
+    ),
     (
         "AGSCERT 1\nSTART 4000\nSTART 4000\n",
         "CERTIFICATE LINE 3 ERROR 3 Twice\n",

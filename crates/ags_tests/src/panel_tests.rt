@@ -398,7 +398,7 @@ fn reads_the_files_of_a_guarded_run_in_order(rt: HostRuntime) {
     let files = [
         ("S", WAITING.as_bytes()),
         ("C", SMALL_DIGITS.as_bytes()),
-        ("B", b"AGSCERT 2\n".as_slice()),
+        ("B", b"AGSCERT 3\n".as_slice()),
         ("R", REFUSED.as_bytes()),
         ("T", STORING.as_bytes()),
         ("P", b"STEP\n".as_slice()),

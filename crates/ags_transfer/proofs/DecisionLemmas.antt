@@ -1,6 +1,6 @@
 -- What is decided is what the table of posts says of a line.
 use Rattle.std.proofs.Common.{◌≡◌, ℕ, ◌<◌, Bool, true, false, refl, ap, ◌∙◌, arith}
-use Rattle.std.specs.Prelude.{Result, Ok, Err, ◌||◌, MatchBool}
+use Rattle.std.specs.Prelude.{None, Result, Ok, Err, ◌||◌, MatchBool, if◌then◌else◌}
 use Rattle.std.proofs.lemmas.Bool.Decides.{nat_tests}
 use Rattle.ags_domain.specs.Domain.{Meaning}
 use Rattle.ags_domain.specs.declared.operands.Operands.{Operands}
@@ -34,7 +34,7 @@ or_true false = refl
 
 -- a post with the new A
 abbrev with_new : {D : Type 0} → Post D → NewA D → Post D
-with_new post new = record post { a = new.a; v1 = post.v1 || new.may_set }
+with_new post new = record post { a = new.a; v1 = post.v1 || new.may_set; link = if new.may_set then None else post.link }
 
 -- what was decided goes on, in its line
 pub decides_from : {D : Type 0} (meaning : Meaning D) (c : Case D) (answer : Result D Operands) (post : Post D) (new : NewA D) (line : Line D)
@@ -50,10 +50,12 @@ decides_from meaning c (Ok a) post new line follows outcome is is_post goes =
       v1 = ap (λ (n : NewA _). post.v1 || n.may_set) is ∙ or_false post.v1 ∙ is_post.v1;
       stored = is_post.stored;
       code = is_post.code;
+      narrowed = is_post.narrowed;
+      link = ap (λ (n : NewA _). if n.may_set then None else post.link) is ∙ is_post.link;
     })
 decides_from meaning c (Err o) post new line follows outcome is is_post goes =
     where_true (is_named c.limits c.row.location) _ _ is.named
-    (goes (record line { a = EveryWord; v1 = true }) (record {
+    (goes (record line { a = EveryWord; v1 = true; link = None }) (record {
       next = is_post.next;
       a = is.full;
       q = is_post.q;
@@ -62,4 +64,6 @@ decides_from meaning c (Err o) post new line follows outcome is is_post goes =
       v1 = ap (λ (b : Bool). post.v1 || b) is.may_set ∙ or_true post.v1;
       stored = is_post.stored;
       code = is_post.code;
+      narrowed = is_post.narrowed;
+      link = ap (λ (b : Bool). if b then None else post.link) is.may_set;
     }))

@@ -4,7 +4,7 @@ ghost use Rattle.std.specs.Prelude.{◌≡◌, ◌<◌};
 ghost use Rattle.ags_posts.specs.Case.{next_of_row};
 ghost use Rattle.ags_posts.specs.Told.{IsTold, AreCellsTold};
 ghost use Rattle.ags_posts.specs.Line.{moves_on, cell_in_case, code_cell, IsPostOf};
-ghost use Rattle.ags_posts.specs.Posts.{loads, frees_q};
+ghost use Rattle.ags_posts.specs.Posts.{loads, frees_q, unlinks};
 
 use ags_domain::Domain;
 use ags_image::Image;
@@ -115,23 +115,35 @@ impl<'a, D: Domain> Case<'a, D> {
             v1: self.indicator,
             stored: None,
             code: self.code_cell(),
+            narrowed: None,
+            link: self.row.link(),
         }
     }
 
-    /// Lets a post that moves on take the cell to A.
+    /// Lets a post that moves on lose the link.
+    pub(crate) fn unlinks(&self, post: &mut Post<D>)
+        requires { IsPostOf D.meaning self.now (moves_on self.now) post.old }
+        ensures { IsPostOf D.meaning self.now (unlinks D.meaning self.now) post.new }
+    {
+        post.link = None;
+    }
+
+    /// Lets a post that moves on take the cell to A, without a link.
     pub(crate) fn loads(&self, e: u16, post: &mut Post<D>)
         requires cell { e < 4096 }
         requires moves_on { IsPostOf D.meaning self.now (moves_on self.now) post.old }
         ensures { IsPostOf D.meaning self.now (loads D.meaning self.now e) post.new }
     {
+        self.unlinks(post);
         post.a = self.cell(e);
     }
 
-    /// Lets a post that moves on leave any Q.
+    /// Lets a post that moves on leave any Q, without a link.
     pub(crate) fn frees_q(&self, post: &mut Post<D>)
         requires { IsPostOf D.meaning self.now (moves_on self.now) post.old }
         ensures { IsPostOf D.meaning self.now (frees_q D.meaning self.now) post.new }
     {
+        self.unlinks(post);
         post.q = D::full();
     }
 }

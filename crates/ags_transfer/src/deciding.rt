@@ -1,6 +1,6 @@
 //! What is answered once a post is known.
 
-ghost use Rattle.std.specs.Prelude.{◌≡◌, ◌<◌, ◌||◌};
+ghost use Rattle.std.specs.Prelude.{◌≡◌, ◌<◌, ◌||◌, None, if◌then◌else◌};
 ghost use Rattle.ags_posts.specs.Told.{Told, IsTold};
 ghost use Rattle.ags_posts.specs.Line.{Line, IsPostOf};
 ghost use Rattle.ags_posts.specs.Posts.{IsSingle, Decides, IsStored, IsCleared};
@@ -21,12 +21,15 @@ pub(crate) struct NewA<D> {
 }
 
 impl<D: Copy> NewA<D> {
-    /// A post with this new A.
+    /// Puts this new A into a post; where the indicator may be set by it, no link holds.
     fn put_into(self, post: &mut Post<D>)
-        ensures { post.new ≡ record post.old { a = self.a; v1 = post.old.v1 || self.may_set } }
+        ensures { post.new ≡ record post.old { a = self.a; v1 = post.old.v1 || self.may_set; link = if self.may_set then None else post.old.link } }
     {
         post.a = self.a;
-        post.v1 = post.v1 || self.may_set;
+        if self.may_set {
+            post.v1 = true;
+            post.link = None;
+        }
     }
 }
 

@@ -7,6 +7,7 @@ mod cases;
 mod codes;
 mod deciding;
 mod judging;
+mod links;
 mod loads;
 mod ports;
 mod products;

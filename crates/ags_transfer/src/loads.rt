@@ -2,12 +2,14 @@
 
 ghost use Rattle.std.specs.Prelude.{◌<◌, ℕ};
 ghost use Rattle.ags_isa.specs.declared.orders.Order.TheVariants.{Cla, Clz, Ldq, Sto, Stq};
+ghost use Rattle.ags_posts.specs.Linked.{link_to, link_beside};
 ghost use Rattle.ags_posts.specs.Line.{IsPostOf, moves_on};
 ghost use Rattle.ags_posts.specs.Posts.{IsPosts};
 ghost use Rattle.ags_transfer.specs.Outcome.{outcome_of};
 ghost use Rattle.ags_transfer.specs.Decision.{single_pair};
 
 use crate::cases::Case;
+use crate::links::link_to;
 use ags_domain::Domain;
 use ags_posts::Stop;
 use ags_row::Post;
@@ -21,6 +23,7 @@ impl<'a, D: Domain> Case<'a, D> {
         ensures { (y : ℕ) → IsPosts D.meaning self.now Cla e y (outcome_of result (single_pair post.new)) }
     {
         self.loads(e, post);
+        post.link = link_to(e);
         Ok(())
     }
 
@@ -34,6 +37,22 @@ impl<'a, D: Domain> Case<'a, D> {
         Ok(())
     }
 
+    /// Lets a post that moves on link A to a cell.
+    fn links_to(&self, e: u16, post: &mut Post<D>)
+        requires { IsPostOf D.meaning self.now (moves_on self.now) post.old }
+        ensures { IsPostOf D.meaning self.now (record (moves_on self.now) { link = link_to e }) post.new }
+    {
+        post.link = link_to(e);
+    }
+
+    /// Lets a post that moves on keep the link to a cell other than one.
+    fn links_beside(&self, e: u16, post: &mut Post<D>)
+        requires { IsPostOf D.meaning self.now (moves_on self.now) post.old }
+        ensures { IsPostOf D.meaning self.now (record (moves_on self.now) { link = link_beside self.now.row.link e }) post.new }
+    {
+        post.link = self.link_beside(e);
+    }
+
     /// STO: the cell becomes A.
     pub(crate) fn sto(&self, e: u16, post: &mut Post<D>) -> Result<(), Stop<D>>
         requires moves_on { IsPostOf D.meaning self.now (moves_on self.now) post.old }
@@ -42,6 +61,7 @@ impl<'a, D: Domain> Case<'a, D> {
         if e >= ERASABLE {
             return Err(Stop::FixedWrite { address: e });
         }
+        self.links_to(e, post);
         self.stored(e, self.a(), post)
     }
 
@@ -53,6 +73,7 @@ impl<'a, D: Domain> Case<'a, D> {
         if e >= ERASABLE {
             return Err(Stop::FixedWrite { address: e });
         }
+        self.links_beside(e, post);
         self.stored(e, self.q(), post)
     }
 

@@ -21,6 +21,7 @@ impl<'a, D: Domain> Case<'a, D> {
     {
         match self.machine.ports.find_input(y) {
             Some(_) => {
+                self.unlinks(post);
                 post.a = self.limits.input(y);
                 Ok(())
             }

@@ -57,6 +57,7 @@ impl<'a, D: Domain> Case<'a, D> {
         ensures { (y : ℕ) → IsPosts D.meaning self.now Dvp e y (outcome_of result (single_pair post.new)) }
     {
         let m = self.cell(e);
+        self.unlinks(post);
         self.computed(self.a().quotient(&m), post)
     }
 }

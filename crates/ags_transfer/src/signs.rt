@@ -26,6 +26,7 @@ impl<'a, D: Domain> Case<'a, D> {
         requires moves_on { IsPostOf D.meaning self.now (moves_on self.now) post.old }
         ensures { (e y : ℕ) → IsPosts D.meaning self.now Com e y (outcome_of result (single_pair post.new)) }
     {
+        self.unlinks(post);
         self.computed(self.a().com(), post)
     }
 
@@ -34,6 +35,7 @@ impl<'a, D: Domain> Case<'a, D> {
         requires moves_on { IsPostOf D.meaning self.now (moves_on self.now) post.old }
         ensures { (e y : ℕ) → IsPosts D.meaning self.now Abs e y (outcome_of result (single_pair post.new)) }
     {
+        self.unlinks(post);
         self.computed(self.a().abs(), post)
     }
 
@@ -42,6 +44,7 @@ impl<'a, D: Domain> Case<'a, D> {
         requires moves_on { IsPostOf D.meaning self.now (moves_on self.now) post.old }
         ensures { (e : ℕ) → IsPosts D.meaning self.now Als e y (outcome_of result (single_pair post.new)) }
     {
+        self.unlinks(post);
         self.computed(self.a().als(count_of(y)), post)
     }
 

@@ -1,9 +1,9 @@
 //! The orders that add the cell, or take it away.
 
-ghost use Rattle.std.specs.Prelude.{◌<◌, ℕ};
+ghost use Rattle.std.specs.Prelude.{◌<◌, ℕ, neg_ℤ};
 ghost use Rattle.ags_isa.specs.declared.orders.Order.TheVariants.{Add, Adz, Sub, Suz};
 ghost use Rattle.ags_posts.specs.Line.{IsPostOf, moves_on};
-ghost use Rattle.ags_posts.specs.Posts.{IsPosts};
+ghost use Rattle.ags_posts.specs.Posts.{IsPosts, grows_by};
 ghost use Rattle.ags_transfer.specs.Outcome.{outcome_of};
 ghost use Rattle.ags_transfer.specs.Decision.{single_pair};
 
@@ -14,6 +14,22 @@ use ags_row::Post;
 use ags_word::ERASABLE;
 
 impl<'a, D: Domain> Case<'a, D> {
+    /// Lets a post that moves on have the link after the cell was added to A.
+    fn grows(&self, m: &D, post: &mut Post<D>)
+        requires { IsPostOf D.meaning self.now (moves_on self.now) post.old }
+        ensures { IsPostOf D.meaning self.now (grows_by D.meaning self.now (λ n. n) (D.meaning.ends m.now)) post.new }
+    {
+        post.link = self.link_of_sum(m);
+    }
+
+    /// Lets a post that moves on have the link after the cell was taken away from A.
+    fn shrinks(&self, m: &D, post: &mut Post<D>)
+        requires { IsPostOf D.meaning self.now (moves_on self.now) post.old }
+        ensures { IsPostOf D.meaning self.now (grows_by D.meaning self.now neg_ℤ (D.meaning.ends m.now)) post.new }
+    {
+        post.link = self.link_of_difference(m);
+    }
+
     /// ADD: A becomes its sum with the cell.
     pub(crate) fn add(&self, e: u16, post: &mut Post<D>) -> Result<(), Stop<D>>
         requires address { e < 4096 }
@@ -21,6 +37,7 @@ impl<'a, D: Domain> Case<'a, D> {
         ensures { (y : ℕ) → IsPosts D.meaning self.now Add e y (outcome_of result (single_pair post.new)) }
     {
         let m = self.cell(e);
+        self.grows(&m, post);
         self.computed(self.a().add(&m), post)
     }
 
@@ -31,6 +48,7 @@ impl<'a, D: Domain> Case<'a, D> {
         ensures { (y : ℕ) → IsPosts D.meaning self.now Sub e y (outcome_of result (single_pair post.new)) }
     {
         let m = self.cell(e);
+        self.shrinks(&m, post);
         self.computed(self.a().sub(&m), post)
     }
 
@@ -44,6 +62,7 @@ impl<'a, D: Domain> Case<'a, D> {
             return Err(Stop::FixedWrite { address: e });
         }
         let m = self.cell(e);
+        self.unlinks(post);
         self.computed_and_cleared(e, self.a().add(&m), post)
     }
 
@@ -57,6 +76,7 @@ impl<'a, D: Domain> Case<'a, D> {
             return Err(Stop::FixedWrite { address: e });
         }
         let m = self.cell(e);
+        self.unlinks(post);
         self.computed_and_cleared(e, self.a().sub(&m), post)
     }
 }

@@ -4,7 +4,7 @@ ghost use Rattle.std.specs.Prelude.{◌≡◌, ℕ, Ok};
 ghost use Rattle.ags_domain.specs.Domain.{IsPart, is_negative, is_not_negative};
 ghost use Rattle.ags_isa.specs.declared.orders.Order.TheVariants.{Axt, Dly, Tix, Tmi, Tov, Tra, Tsq};
 ghost use Rattle.ags_posts.specs.Line.{Line, IsPostOf, moves_on};
-ghost use Rattle.ags_posts.specs.Posts.{IsPosts, IsPostOfPart, pair_of};
+ghost use Rattle.ags_posts.specs.Posts.{IsPosts, IsPostLinked, IsPostOfPart, pair_of};
 ghost use Rattle.ags_transfer.specs.Outcome.{outcome_of};
 ghost use Rattle.ags_transfer.specs.Decision.{single_pair};
 
@@ -12,7 +12,7 @@ use crate::cases::Case;
 use ags_domain::Domain;
 use ags_isa::{Order, encode};
 use ags_posts::{PostPair, Stop};
-use ags_row::Post;
+use ags_row::{At, Post};
 
 /// Two posts that may be there: a single one is the first.
 fn pair_of<D: Domain>(first: Option<Post<D>>, second: Option<Post<D>>) -> PostPair<D>
@@ -30,16 +30,6 @@ fn pair_of<D: Domain>(first: Option<Post<D>>, second: Option<Post<D>>) -> PostPa
     }
 }
 
-/// A post with a part of A, where there is one.
-fn with_part<D: Domain>(part: Option<D>, post: Post<D>) -> Option<Post<D>>
-    ensures { (case : _) (line : Line D) → IsPostOf D.meaning case line post → IsPostOfPart D.meaning case line part result }
-{
-    match part {
-        Some(a) => Some(Post { a, ..post }),
-        None => None,
-    }
-}
-
 impl<'a, D: Domain> Case<'a, D> {
     /// TRA: goes to an address.
     pub(crate) fn tra(&self, e: u16, post: &mut Post<D>) -> Result<(), Stop<D>>
@@ -48,6 +38,40 @@ impl<'a, D: Domain> Case<'a, D> {
     {
         post.next = e;
         Ok(())
+    }
+
+    /// A post whose A is a set in hand, with the row's linked cell narrowed by it; there is none where nothing is left of the cell.
+    fn narrowed(&self, a: D, post: Post<D>) -> Option<Post<D>>
+        ensures { (line : Line D) → IsPostOf D.meaning self.now line post
+            → IsPostLinked D.meaning self.now self.now.row.link (D.meaning.ends a) line result }
+    {
+        match self.row.link() {
+            Some(link) => {
+                let least = a.least().value() + link.offset;
+                let greatest = a.greatest().value() + link.offset;
+                match self.cell(link.address).between(least, greatest) {
+                    Some(value) => Some(Post {
+                        narrowed: Some(At {
+                            address: link.address,
+                            value,
+                        }),
+                        ..post
+                    }),
+                    None => None,
+                }
+            }
+            None => Some(post),
+        }
+    }
+
+    /// A post with a part of A, where there is one, and with the row's linked cell narrowed by that part.
+    fn with_part(&self, part: Option<D>, post: Post<D>) -> Option<Post<D>>
+        ensures { (line : Line D) → IsPostOf D.meaning self.now line post → IsPostOfPart D.meaning self.now line part result }
+    {
+        match part {
+            Some(a) => self.narrowed(a, Post { a, ..post }),
+            None => None,
+        }
     }
 
     /// The part of A whose words are negative.
@@ -69,8 +93,8 @@ impl<'a, D: Domain> Case<'a, D> {
     pub(crate) fn tmi(&self, e: u16) -> PostPair<D>
         ensures { (y : ℕ) → IsPosts D.meaning self.now Tmi e y (Ok result) }
     {
-        let taken = with_part(self.negative_part(), self.goes_to(e));
-        let rest = with_part(self.rest_part(), self.moves_on());
+        let taken = self.with_part(self.negative_part(), self.goes_to(e));
+        let rest = self.with_part(self.rest_part(), self.moves_on());
         pair_of(taken, rest)
     }
 

@@ -5,6 +5,6 @@ use Rattle.ags_certread.proofs.next_states.next_state.Goals as goal
 
 pub returns-then-number-eq0-clause-next : goal.returns-then-number-eq0-clause-next
 returns-then-number-eq0-clause-next c =
-    let g = gathering_of c.args.gatherer.now in
     let none : c.args.number ≡ 0 = omega arith in
-    subst (λ (number : ℕ). IsNext c.args.ports.now number g c.args.line.now g c.first_state.result) (sym none) (c.first_state.ensures.next c.args.ports.now g)
+    subst (λ (number : ℕ). IsNext c.args.ports.now number (gathering_of c.args.gatherer.now) c.args.line.now (gathering_of c.first_state.new.gatherer) c.first_state.result) (sym none)
+    (c.first_state.ensures.next c.args.ports.now)

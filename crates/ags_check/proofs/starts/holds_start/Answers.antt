@@ -1,5 +1,9 @@
 use Rattle.ags_row.proofs.CellLemmas.{cells_below}
+use Rattle.ags_check.proofs.StartLemmas.{linked_erasable}
 use Rattle.ags_check.proofs.starts.holds_start.Goals as goal
+
+pub link_holds_start-requires : goal.link_holds_start-requires
+link_holds_start-requires c = rw c.link.ensures (linked_erasable c.args.row.now.link c.args.row.now.linked)
 
 pub cells_hold_start-requires : goal.cells_hold_start-requires
 cells_hold_start-requires c = rw c.at.ensures (cells_below 0 c.args.row.now.at c.args.row.now.ascending)

@@ -15,7 +15,8 @@ returns g c =
     let registers = c.covers_registers.ensures in
     let met = c.if-not-covers_registers.false in
     let indicator = c.covers_indicator.ensures in
-    let clear_or_set = c.if-not-covers_indicator.false in (
+    let clear_or_set = c.if-not-covers_indicator.false in
+    let linked = c.covers_link.ensures.0 c.if-not-covers_link.false in (
       λ holds. record {
         location = registers.location met;
         a = registers.a met;
@@ -24,6 +25,7 @@ returns g c =
         clear = indicator.clear clear_or_set;
         set = indicator.set clear_or_set;
         cells = rw (← c.at.ensures) (c.covers_cells.ensures.0 holds);
+        link = rw (← c.link.ensures) linked;
       },
       λ covers. c.covers_cells.ensures.1 (rw c.at.ensures covers.cells),
     )
@@ -35,3 +37,7 @@ returns-then-not-covers_registers g c = refused c.covers_registers.result
 pub returns-then-not-covers_indicator : goal.returns-then-not-covers_indicator
 returns-then-not-covers_indicator g c = refused c.covers_indicator.result
     (λ covers. c.covers_indicator.ensures.all covers.clear covers.set) c.if-not-covers_indicator.true
+
+pub returns-then-not-covers_link : goal.returns-then-not-covers_link
+returns-then-not-covers_link g c = refused c.covers_link.result
+    (λ covers. c.covers_link.ensures.1 (rw c.link.ensures covers.link)) c.if-not-covers_link.true

@@ -1,5 +1,5 @@
 use Rattle.std.proofs.Common.{arith}
-use Rattle.ags_posts.specs.Line.{moves_on}
+use Rattle.ags_posts.specs.Posts.{unlinks}
 use Rattle.ags_transfer.proofs.DecisionLemmas.{store_goes_on}
 use Rattle.ags_transfer.proofs.cases.Case.adz.Goals as goal
 
@@ -10,6 +10,6 @@ returns g c = λ y. store_goes_on c.args.e _ _ (omega (arith, c.if-e-ge-ERASABLE
   (
     c.add.result,
     rw (← c.a.ensures) c.add.ensures,
-    c.computed_and_cleared.ensures (moves_on c.args.self.now) c.requires.moves_on,
+    c.computed_and_cleared.ensures (unlinks g.D.Domain.meaning c.args.self.now) c.unlinks.ensures,
   ),
 )
