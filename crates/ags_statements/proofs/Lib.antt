@@ -1,0 +1,4 @@
+-- The lines of a text, one after the other.
+pub mod ReadLemmas
+-- A text means one thing.
+pub mod MeaningLemmas

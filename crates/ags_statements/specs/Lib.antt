@@ -1,0 +1,4 @@
+-- what the public contracts cite
+pub mod Fault
+pub mod Text
+pub mod Taking
