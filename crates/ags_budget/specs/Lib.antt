@@ -1,0 +1,7 @@
+-- what the public contracts cite
+pub mod Timing
+pub mod Over
+pub mod Timed
+pub mod Spent
+-- what serves inside
+pub mod Asking
