@@ -33,11 +33,11 @@ found_all p q (y ∷ xs) x is all =
       | inr fails ↦ found_all p q xs x (rw fails at is) parts.1
     ]
 
-named_name : {X : Type 0} (name : X → List ℕ) (all : List X) (text : List ℕ) (x : X) → named name all text ≡ Some x → name x ≡ text
+pub named_name : {X : Type 0} (name : X → List ℕ) (all : List X) (text : List ℕ) (x : X) → named name all text ≡ Some x → name x ≡ text
 named_name name all text x is = same_text (name x) text (sym (found_passes (λ y. pointwise nat_eq (name y) text) all x is))
 
 -- what is read of a text is what is found by that name, where each is found by its own
-named_read : {X : Type 0} (name : X → List ℕ) (all : List X) → ((x : X) → named name all (name x) ≡ Some x) → (text : List ℕ) (result : Option X) → IfSome result (λ x. name x ≡ text)
+pub named_read : {X : Type 0} (name : X → List ℕ) (all : List X) → ((x : X) → named name all (name x) ≡ Some x) → (text : List ℕ) (result : Option X) → IfSome result (λ x. name x ≡ text)
     → ((x : X) → name x ≡ text → result ≡ Some x) → result ≡ named name all text
 named_read name all finds text result found only =
     same_answer (λ x. name x ≡ text) result (named name all text) found only (named_name name all text) (λ x is. ap (named name all) (sym is) ∙ finds x)

@@ -51,7 +51,7 @@ are_some [] are = tt
 are_some (field ∷ fields) are = (are.0.some, are_some fields are.1)
 
 -- the fields that stand in a line
-standing : (line : List ℕ) (fields : List (List ℕ)) → AreFields fields → HasFields line fields → fields_of line ≡ fields
+pub standing : (line : List ℕ) (fields : List (List ℕ)) → AreFields fields → HasFields line fields → fields_of line ≡ fields
 standing line fields are has =
     let cut = cut_up_to (length line) line (omega arith) in
     cut_one line (fields_of line) fields cut.0 (are_some fields are) cut.1 (standing_cut line fields are has)
@@ -60,7 +60,7 @@ stand : (line : List ℕ) → AreFields (fields_of line) × HasFields line (fiel
 stand line = let cut = cut_up_to (length line) line (omega arith) in cut_standing line (fields_of line) cut.0 cut.1
 
 -- the first field and the others
-line_cut : (line name : List ℕ) (operands : List (List ℕ)) → fields_of line ≡ name ∷ operands → (next_field line ≡ name) × (fields_of (behind_field line) ≡ operands)
+pub line_cut : (line name : List ℕ) (operands : List (List ℕ)) → fields_of line ≡ name ∷ operands → (next_field line ≡ name) × (fields_of (behind_field line) ≡ operands)
 line_cut line name operands is =
     elim (list_cases (next_field line)) [
       | inl none ↦ absurd (let no : fields_of line ≡ [] = fields_none line none in cc)
@@ -69,17 +69,17 @@ line_cut line name operands is =
 
 -- ---- what operands tell
 
-some_mapped : {X Y : Type 0} (make : X → Y) (found : Option X) (y : Y) → option_map make found ≡ Some y → (x : X) × (found ≡ Some x) × (y ≡ make x)
+pub some_mapped : {X Y : Type 0} (make : X → Y) (found : Option X) (y : Y) → option_map make found ≡ Some y → (x : X) × (found ≡ Some x) × (y ≡ make x)
 some_mapped make None y is = absurd cc
 some_mapped make (Some x) y is = (x, refl, let same : make x ≡ y = cc in sym same)
 
 -- the one field that is read
-record OneTold (read : List ℕ → Option ℕ) (operands : List (List ℕ)) (number : ℕ) : Type 0 where
-  field : List ℕ
-  are : operands ≡ field ∷ []
-  is : read field ≡ Some number
+pub record OneTold (read : List ℕ → Option ℕ) (operands : List (List ℕ)) (number : ℕ) : Type 0 where
+  pub field : List ℕ
+  pub are : operands ≡ field ∷ []
+  pub is : read field ≡ Some number
 
-one_told : (read : List ℕ → Option ℕ) (operands : List (List ℕ)) (number : ℕ) → read_field read (only_field operands) ≡ Some number → OneTold read operands number
+pub one_told : (read : List ℕ → Option ℕ) (operands : List (List ℕ)) (number : ℕ) → read_field read (only_field operands) ≡ Some number → OneTold read operands number
 one_told read [] number is = absurd cc
 one_told read (field ∷ []) number is = record { field = field; are = refl; is = is }
 one_told read (field ∷ other ∷ others) number is = absurd cc
@@ -277,7 +277,7 @@ sign_first : (line : List ℕ) → get_or line 0 0 ≡ 35 → get_or (next_field
 sign_first [] is = absurd (omega arith)
 sign_first (b ∷ line) is = first_byte b line (rw is refl) ∙ is
 
-unsigned : (line name : List ℕ) → next_field line ≡ name → (get_or name 0 0 == 35) ≡ false → (get_or line 0 0 == 35) ≡ false
+pub unsigned : (line name : List ℕ) → next_field line ≡ name → (get_or name 0 0 == 35) ≡ false → (get_or line 0 0 == 35) ≡ false
 unsigned line name is other_first =
     elim (cases_Bool (get_or line 0 0 == 35)) [
       | inl sign ↦
@@ -322,7 +322,7 @@ spelled_read line (Keys keys) spells =
 spelled_read line Malformed spells = absurd spells
 
 -- what a line is read as is what it spells
-form : (line : List ℕ) (Is : List (List ℕ) → Type 0) → length line ≤ 512 → Is (fields_of line) → HasForm line Is
+pub form : (line : List ℕ) (Is : List (List ℕ) → Type 0) → length line ≤ 512 → Is (fields_of line) → HasForm line Is
 form line Is most is = record { most = most; fields = fields_of line; are = (stand line).0; has = (stand line).1; is = is }
 
 keys_spelled : (line : List ℕ) (operands : List (List ℕ)) → length line ≤ 512 → fields_of line ≡ codes "KEY" ∷ operands
@@ -399,3 +399,9 @@ malformed_spells_nothing line asked is spells = no_malformed asked (sym (spelled
     no_malformed (One command) is spells = absurd cc
     no_malformed (Keys keys) is spells = absurd cc
     no_malformed Malformed is spells = spells
+
+-- ---- lines that no script has
+
+-- FEED has no operand
+pub feed_alone : (line operand : List ℕ) → length line ≤ 512 → fields_of line ≡ codes "FEED" ∷ operand ∷ [] → reading line ≡ Malformed
+feed_alone line operand most are = with_fields line verb.Feed (operand ∷ []) most are

@@ -114,3 +114,13 @@ unfoldable pub reading : List ℕ → LineReading
 reading line =
     if nat_lt 512 (length line) then Malformed else (
     if list_all is_blank line || slice_index line 0 == 35 then Skipped else fields_reading line)
+
+-- the line is skipped
+abbrev pub is_skipped : LineReading → Bool
+is_skipped Skipped = true
+is_skipped _ = false
+
+-- the one command that a line asks for; a line of keys asks for none, as a skipped or a malformed one
+abbrev pub one_command : LineReading → Option Command
+one_command (One command) = Some command
+one_command _ = None

@@ -29,8 +29,8 @@ pub(crate) fn is_setting(command: &Command) -> bool
     )
 }
 
-/// The steps that a command counts for.
-pub(crate) fn step_count(command: &Command) -> u64
+/// The steps that a command counts for: a cycle counts for 20,000.
+pub fn step_count(command: &Command) -> u64
     ensures { result ≡ step_count command.now }
 {
     match command {
@@ -41,7 +41,7 @@ pub(crate) fn step_count(command: &Command) -> u64
 }
 
 /// Whether a machine lacks the register that a command names.
-pub(crate) fn lacks_port(machine: &Machine, command: &Command) -> bool
+pub fn lacks_port(machine: &Machine, command: &Command) -> bool
     ensures { result ≡ lacks_port machine.now command.now }
 {
     match command {

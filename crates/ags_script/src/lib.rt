@@ -8,6 +8,7 @@ mod commands;
 mod counting;
 mod keys;
 pub mod laws;
+mod lines;
 mod numbers;
 mod operands;
 mod reader;
@@ -17,6 +18,8 @@ mod verb_commands;
 mod verbs;
 
 pub use commands::Command;
-pub use counting::{CYCLE_STEPS, STEP_LIMIT};
+pub use counting::{CYCLE_STEPS, STEP_LIMIT, lacks_port, step_count};
+pub use lines::{is_skipped_line, line_command};
+pub use operands::count_operand;
 pub use script_errors::{ScriptError, ScriptKind};
 pub use scripts::{SCRIPT_LIMIT, Script, read};

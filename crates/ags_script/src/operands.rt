@@ -55,8 +55,8 @@ pub(crate) fn address_operand(text: &[u8]) -> Option<u16>
     }
 }
 
-/// The count that a text's only field writes.
-pub(crate) fn count_operand(text: &[u8]) -> Option<u32>
+/// The count that a text's only field writes, in one to nine decimal digits, and nothing for any other text.
+pub fn count_operand(text: &[u8]) -> Option<u32>
     ensures { result ≡ count_operand (fields_of text.now) }
 {
     match only_field(text) {

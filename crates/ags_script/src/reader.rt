@@ -1,8 +1,6 @@
 //! The reader of a script's lines, one after the other.
 
-ghost use Rattle.std.specs.Prelude.{◌≡◌, ◌≤◌, ◌+◌, ◌++◌, ◌||◌, ◌==◌, ◌⊎◌, List, [], ◌∷◌, map, Some, None, IfOk, IfErr, slice_index};
-ghost use Rattle.std.specs.List.{list_all};
-ghost use Rattle.ags_text.specs.Field.{is_blank};
+ghost use Rattle.std.specs.Prelude.{◌≡◌, ◌≤◌, ◌+◌, ◌++◌, ◌⊎◌, List, [], ◌∷◌, map, Some, None, IfOk, IfErr};
 ghost use Rattle.ags_deda.specs.declared.keys.Key.{Key};
 ghost use Rattle.ags_script.specs.declared.commands.Command.TheVariants.{Press};
 ghost use Rattle.ags_script.specs.Limit.{step_limit};
@@ -16,12 +14,13 @@ ghost use Rattle.ags_script.specs.Tally.{IsTally, TellsFault};
 use crate::commands::Command;
 use crate::counting::{STEP_LIMIT, is_setting, is_start, lacks_port, step_count};
 use crate::keys::key_named;
+use crate::lines::is_skipped;
 use crate::operands::has_no_field;
 use crate::script_errors::{ScriptError, ScriptKind};
 use crate::verb_commands::{is_key, verb_command};
 use crate::verbs::verb_named;
 use ags_ports::Machine;
-use ags_text::{MOST_LINE_BYTES, are_blanks, split_field};
+use ags_text::{MOST_LINE_BYTES, split_field};
 use std::alloc::Global;
 
 /// What is read of a script so far.
@@ -44,16 +43,6 @@ fn bad_line(line: u32) -> ScriptError
     ScriptError::At {
         line,
         kind: ScriptKind::BadLine,
-    }
-}
-
-/// Whether a line of at most 512 bytes is skipped: it has nothing but blanks, or begins with a number sign.
-fn is_skipped(line: &[u8]) -> bool
-    ensures { result ≡ (list_all is_blank line.now || slice_index line.now 0 == 35) }
-{
-    match line {
-        [b'#', ..] => true,
-        _ => are_blanks(line),
     }
 }
 

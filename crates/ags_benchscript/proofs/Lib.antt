@@ -1,0 +1,4 @@
+pub mod VerbLemmas
+pub mod ScriptLemmas
+pub mod SpellingLaws
+pub mod SuitingLaws
