@@ -2,6 +2,8 @@
 --     start_is_safe     the state that it begins in
 --     steps_are_safe    each step of the run of its events
 --     safe_where_cut    the state at each cut
+-- and the crates above cite
+--     last_is_safe      the state that a run of safe steps ends in
 use Rattle.std.proofs.Common.{◌≡◌, ℕ, ◌<◌, List, [], ◌∷◌, ◌++◌, sym, subst}
 use Rattle.std.specs.Prelude.{Option, Some}
 use Rattle.std.specs.List.{AllByRecursion}
@@ -31,7 +33,7 @@ front_puts [] second all = tt
 front_puts (act ∷ first) second all = (all.0, front_puts first second all.1)
 
 -- where each step of a run is safe, so is the state at its end
-last_is_safe : (machine : Machine) (image : List (Option ℕ)) (cert : Certificate Value) (s : State) (events : List Event) (moments : List Moment)
+pub last_is_safe : (machine : Machine) (image : List (Option ℕ)) (cert : Certificate Value) (s : State) (events : List Event) (moments : List Moment)
     → IsSafeState value_meaning machine image cert s → AtEachStep (IsSafeStep value_meaning machine image cert) s events moments
     → IsSafeState value_meaning machine image cert (last_state s moments)
 last_is_safe machine image cert s [] [] safe steps = safe

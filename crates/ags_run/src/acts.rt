@@ -16,7 +16,7 @@ use ags_ports::{Event, Machine, Phase};
 use ags_timed::{CYCLE_MICROS, run_for, run_steps};
 
 /// The carry that a cycle leaves in a phase, by the time that it had and the time of its orders.
-fn carry_in(phase: Phase, had: u64, spent: u64) -> u64
+pub fn carry_in(phase: Phase, had: u64, spent: u64) -> u64
     ensures carry { result ≡ carry_in phase had spent }
     ensures most { result ≤ spent - had }
 {

@@ -102,8 +102,8 @@ fn find_word(machine: &Machine, image: &Image, cert: &Cert, core: &Core) -> Opti
     Some(Outside::Port { address, word })
 }
 
-/// What of a state is outside first.
-fn find_outside(machine: &Machine, image: &Image, cert: &Cert, core: &Core) -> Option<Outside>
+/// What of a state is outside first: what a certificate doesn't declare of a start.
+pub fn find_outside(machine: &Machine, image: &Image, cert: &Cert, core: &Core) -> Option<Outside>
     requires { length core.now.inputs ≡ length machine.now.ports.inputs }
     ensures { IsFirstOutside machine.now image.now (certificate_of cert.now) core.now (option_map outside_of result) }
 {

@@ -21,7 +21,11 @@ mod showing;
 mod shown_lines;
 mod starting;
 
+pub use acts::carry_in;
+pub use guarding::find_outside;
 pub use outside::Outside;
 pub use play_error::PlayError;
 pub use playing::{Played, play};
+pub use putting::cert_lets_through;
+pub use showing::{output_at, whole_line};
 pub use shown_lines::{cell_line, output_line, reg_line};

@@ -23,7 +23,7 @@ use ags_word::Word;
 const DIGIT_BASE: u32 = 0o20;
 
 /// Whether a certificate lets a word be put.
-fn cert_lets_through(machine: &Machine, cert: &Cert, address: u16, word: Word) -> bool
+pub fn cert_lets_through(machine: &Machine, cert: &Cert, address: u16, word: Word) -> bool
     ensures { result ≡ guarding.lets_through machine.now (certificate_of cert.now) (record { address = address; word = word }) }
 {
     machine_is_made_of_tables(machine);

@@ -38,7 +38,7 @@ fn deda_line(panel: &Panel) -> ArrayVec<u8, 17>
 }
 
 /// The word of the output register at an address, and 0 where there is none.
-fn output_at(machine: &Machine, core: &Core, address: u16) -> Word
+pub fn output_at(machine: &Machine, core: &Core, address: u16) -> Word
     requires { length core.now.outputs ≡ length machine.now.ports.outputs }
     ensures { result ≡ register_at core.now.outputs (place_of machine.now.ports.outputs address) }
 {
@@ -49,7 +49,7 @@ fn output_at(machine: &Machine, core: &Core, address: u16) -> Word
 }
 
 /// A line with its line feed.
-fn whole_line(line: &[u8]) -> ArrayVec<u8, 35>
+pub fn whole_line(line: &[u8]) -> ArrayVec<u8, 35>
     requires { length line.now ≤ 34 }
     ensures { result.items ≡ line.now ++ codes "\n" }
 {

@@ -1,0 +1,10 @@
+use Rattle.ags_drive.proofs.HearLemmas.{told_more, told_partly}
+use Rattle.ags_drive.proofs.hearing.hear_words.Goals as goal
+
+pub returns-in-Err-clause-part : goal.returns-in-Err-clause-part
+returns-in-Err-clause-part g c =
+    told_partly c.args.machine.now _ _ _ c.args.words.now c.loop-gave.gave-index c.gave-item.result c.loop-gave-test.true c.gave-item.is c.loop-gave.invariant c.in-Err.ensures.part
+
+pub loop-gave-preserved : goal.loop-gave-preserved
+loop-gave-preserved g c =
+    told_more c.args.machine.now _ _ _ c.args.words.now c.loop-gave.gave-index c.gave-item.result c.loop-gave-test.true c.gave-item.is c.loop-gave.invariant c.in_default.ensures.heard
