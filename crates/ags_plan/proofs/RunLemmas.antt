@@ -15,7 +15,7 @@ use Rattle.ags_plan.specs.Answer.{ComesWith, IsAnswer}
 use Rattle.ags_plan.specs.Outcome.{TookPrefix, EndsBy, Ends, CountsOnShelf, CountsOnSink}
 use Rattle.ags_plan.specs.Lawful.{IsLawful}
 use Rattle.ags_plan.specs.Loading.{Loads, end_of, is_absence, is_read_fault}
-use Rattle.ags_plan.specs.Saying.{Says, SaysWhy, settled}
+use Rattle.ags_plan.specs.Saying.{Says, SaysWhy, SaysEarly, settled}
 use Rattle.ags_plan.proofs.WalkLemmas.{some_end, way_to_refused}
 use Rattle.ags_plan.proofs.AnswerLemmas.{some_text}
 
@@ -169,3 +169,13 @@ module _ {Status : Type 0} (D : Definition Status) (plan_of : List (List ℕ) �
         let is : D.cause (settled D ended) ≡ Memory = ap (λ (e : Result Status SendError). D.cause (settled D e)) says.0 ∙ lawful.apart.memory in
         let stays : HasCause faults faults_now false = subst (λ (e : Result Status SendError). HasCause faults faults_now (is_write_fault e)) says.0 counts in
         record { write_fault = λ other. absurd cc; clean = rw is (stays.clean refl) }
+
+    -- what is said of them is said of an end before any work
+    pub unloaded_early : (reason : Unloaded R) (old new : Option (List ℕ)) (ended : Result Status SendError)
+        → Loads D told (plan_of arguments) (Err (end_of D line_of status_of reason)) → SaysWhy D line_of status_of reason old new ended
+        → SaysEarly D told (plan_of arguments) old new (settled D ended)
+    unloaded_early (why.Absent name) old new ended loads says = inl (AbsentAt name.now, tt, loads, (ended, says, refl))
+    unloaded_early (why.TooLong name limit) old new ended loads says = inl (LongAt name.now limit, tt, loads, (ended, says, refl))
+    unloaded_early (why.Refused refusal) old new ended loads says = inl (RefusedAt (line_of refusal) (status_of refusal), tt, loads, (ended, says, refl))
+    unloaded_early why.ReadFault old new ended loads says = inr (inl (ap (λ (e : Result Status SendError). settled D e) says.0), says.1)
+    unloaded_early why.NoMemory old new ended loads says = inr (inr (ap (λ (e : Result Status SendError). settled D e) says.0), says.1)

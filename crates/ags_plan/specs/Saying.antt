@@ -6,8 +6,9 @@ use Rattle.ags_outside.specs.Sink.{appended, WroteFront}
 use Rattle.ags_plan.specs.declared.causes.Stop.TheVariants as stop
 use Rattle.ags_plan.specs.declared.unloaded.Unloaded.{Unloaded}
 use Rattle.ags_plan.specs.declared.unloaded.Unloaded.TheVariants.{Absent, TooLong, Refused, ReadFault, NoMemory}
-use Rattle.ags_plan.specs.Plan.{Definition, End, AbsentAt, LongAt, RefusedAt}
+use Rattle.ags_plan.specs.Plan.{Definition, Plan, End, AbsentAt, LongAt, RefusedAt, WorkAt}
 use Rattle.ags_plan.specs.Answer.{ComesWith}
+use Rattle.ags_plan.specs.Walk.{Told, Agrees, EndsAt}
 
 -- The sink took a text that the end comes with, and this status.
 pub record SaidWhole {Status : Type 0} (D : Definition Status) (end : End D) (old new : Option (List ℕ)) (status : Status) : Type 0 where
@@ -41,3 +42,16 @@ abbrev pub settled : {Status : Type 0} (D : Definition Status) → Result Status
 settled D (Ok status) = status
 settled D (Err send.WriteFault) = D.status_of stop.WriteFault
 settled D (Err send.NoMemory) = D.status_of stop.NoMemory
+
+-- ---- a run whose files weren't loaded
+
+-- the end is no work
+abbrev pub IsEarly : {Status : Type 0} {D : Definition Status} → End D → Type 0
+IsEarly (WorkAt work) = ⊥
+IsEarly _ = Unit {0}
+
+-- The walk ends before any work, and that is said; or a fault of the shelf or want of memory stopped it, and nothing is.
+abbrev pub SaysEarly : {Status : Type 0} (D : Definition Status) (told : Told) (plan : Plan D) (old new : Option (List ℕ)) → Status → Type 0
+SaysEarly {Status} D told plan old new status =
+    ((end : End D) × IsEarly end × EndsAt D Agrees told plan end × ((ended : Result Status SendError) × Says D end old new ended × (status ≡ settled D ended)))
+    ⊎ (((status ≡ D.status_of stop.ReadFault) ⊎ (status ≡ D.status_of stop.NoMemory)) × (new ≡ old))

@@ -5,6 +5,7 @@ ghost use Rattle.std.specs.String.{string_bytes};
 ghost use Rattle.ags_plan.specs.Answer.{IsAnswer};
 ghost use Rattle.ags_plan.specs.Outcome.{CountsOnShelf, CountsOnSink, Ends};
 ghost use Rattle.ags_plan.specs.Plan.{WorkAt};
+ghost use Rattle.ags_plan.specs.Saying.{SaysEarly};
 ghost use Rattle.ags_plan.specs.Walk.{Agrees, EndsAt, Told};
 
 use crate::program::{Loader, Program};
@@ -30,6 +31,8 @@ pub fn load_or_say<P: Loader, S: Shelf, K: Sink>(
     ensures shelf { IfErr result (λ status. CountsOnShelf P.definition (S.told shelf.old) (P.plan_of (map string_bytes arguments.now)) (K.told out.old) (K.told out.new) status
         (S.faults shelf.old) (S.faults shelf.new) (S.absences shelf.old) (S.absences shelf.new)) }
     ensures sink { IfErr result (λ status. CountsOnSink P.definition status (K.faults out.old) (K.faults out.new)) }
+    // What is said is said of an end before any work, so that it is the same whatever a work makes.
+    ensures early { IfErr result (λ status. SaysEarly P.definition (S.told shelf.old) (P.plan_of (map string_bytes arguments.now)) (K.told out.old) (K.told out.new) status) }
 {
     match P::load(alloc, arguments, shelf) {
         Ok(work) => Ok(work),

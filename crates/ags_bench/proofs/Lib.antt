@@ -1,0 +1,10 @@
+pub mod FilesLemmas
+pub mod OverLemmas
+pub mod CertifiedLemmas
+pub mod LeavesLemmas
+pub mod NoFormLemmas
+pub mod EarlyLemmas
+pub mod CertifiedLineLemmas
+pub mod StatusLemmas
+pub mod DrivingLemmas
+pub mod PromiseLemmas

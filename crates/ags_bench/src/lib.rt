@@ -1,0 +1,22 @@
+//! The bench's one call: a certified program is run with devices at its registers. The source, the certificate and the script
+//! are loaded along the walk of `ags_plan`, the certificate is judged by `ags_check`, and where it is certified the script is
+//! driven by `ags_drive` with the devices that were handed in. `bench_main` answers exactly what the definitions in `specs/` say
+//! of the words, the files and the devices (docs/BENCH.md).
+#![tactic(auto)]
+
+mod driving;
+mod files;
+mod loader;
+mod loading;
+mod main_call;
+mod refusal;
+mod scripts;
+mod status;
+mod verdicts;
+mod words;
+mod works;
+
+pub use ags_benchscript::{BenchCommand, BenchScript, read};
+pub use ags_drive::{DriveError, Driven, drive};
+pub use main_call::bench_main;
+pub use status::Status;
