@@ -1,9 +1,10 @@
 #!/usr/bin/env bash
 # Runs the README's tour and compares what each command prints, on standard output and, where the output has no line, on standard
-# error. Another program than bin/ags may be named, as a build without proofs. Ends with 1 where something differs.
+# error. Other programs than bin/ags and bin/agsbench may be named, in this order, as builds without proofs. Ends with 1 where something differs.
 set -u
 cd "$(dirname "$(readlink -f "${BASH_SOURCE[0]}")")/.." || exit 2
 ags=${1:-bin/ags}
+bench=${2:-bin/agsbench}
 room=$(mktemp -d) || exit 2
 trap 'rm -rf "$room"' EXIT
 differing=0
@@ -183,6 +184,29 @@ WORKLOAD 400 CARDS 811 WORDS 807 ROWS 3201 CASES 3201 CERTIFIED
 END
 
 prints 3 workload 401 <<'END'
+WORDS
+END
+
+# --- the bench
+
+# drives STATUS ARGUMENT..: the whole standard output of the bench
+drives() {
+  local wanted=$1 status
+  shift
+  "$bench" "$@" >"$room/got" 2>"$room/said"
+  status=$?
+  compare "agsbench $*" "$status" "$wanted"
+}
+
+drives 0 examples/deck.lem examples/deck.cert examples/deck.bench <<'END'
+CERTIFIED ROWS 31 CASES 32
+DETACHED 3 LEFT 0 HEARD 100 LAST 001750
+A 777777 Q 404012 X 0 V 0 P 4000 W
+DEVICE 1 LEFT 0 HEARD 0 LAST ------
+DEVICE 2 LEFT 0 HEARD 9 LAST 000037
+END
+
+drives 3 examples/deck.lem <<'END'
 WORDS
 END
 
