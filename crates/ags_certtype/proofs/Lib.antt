@@ -1,3 +1,4 @@
 pub mod CheckLemmas
 mod IndexLemmas
 pub mod NumberLemmas
+pub mod EditLemmas

@@ -2,3 +2,4 @@
 pub mod Limit
 pub mod Cert
 pub mod Index
+pub mod Edit

@@ -35,12 +35,12 @@ pub struct CertParts {
 /// keeps an index of its rows by location.
 #[derive(Drop)]
 pub struct Cert {
-    start: u16,
-    limits: Limits<Value>,
-    init: Vec<Option<Value>>,
-    rows: Vec<Row<Value>>,
-    starts: Vec<u32>,
-    numbers: Vec<u32>,
+    pub(crate) start: u16,
+    pub(crate) limits: Limits<Value>,
+    pub(crate) init: Vec<Option<Value>>,
+    pub(crate) rows: Vec<Row<Value>>,
+    pub(crate) starts: Vec<u32>,
+    pub(crate) numbers: Vec<u32>,
 }
 
 impl Model for Cert {

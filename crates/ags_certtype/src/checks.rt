@@ -45,7 +45,7 @@ pub(crate) fn are_few_at_each(alloc: Global, rows: &[Row<Value>]) -> Result<bool
 }
 
 /// Whether what is stated of an erasable cell at the start, if anything is, is within its limit.
-fn is_first_within(stated: Option<Value>, limit: Value) -> bool
+pub(crate) fn is_first_within(stated: Option<Value>, limit: Value) -> bool
     ensures { IsTrue result ↔ IfSome stated (λ value. IsWithin value_meaning value limit) }
 {
     match stated {

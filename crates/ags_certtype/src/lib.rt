@@ -6,7 +6,10 @@
 
 mod certs;
 mod checks;
+mod edit_errors;
+mod edits;
 mod indexes;
 pub mod laws;
 
 pub use certs::{Cert, CertParts, MOST_ROWS, MOST_ROWS_AT_ONE};
+pub use edit_errors::EditError;
