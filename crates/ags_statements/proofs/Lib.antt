@@ -2,3 +2,5 @@
 pub mod ReadLemmas
 -- A text means one thing.
 pub mod MeaningLemmas
+-- What the statements of a text keep, one after the other.
+pub mod KeptLemmas

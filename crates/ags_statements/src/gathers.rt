@@ -31,6 +31,7 @@ pub trait Gathers: Statements + Drop {
 
     /// Takes a statement of a text of a version after those that were gathered, or tells its fault after them.
     fn take(&mut self, version: u32, statement: Self::Statement) -> Result<(), Untaken<Self::Fault>>
+        requires { (line : List ℕ) × Self.Statements.states line statement }
         ensures taken { IfOk result (λ _. TakesStatement gathered (faults self.old) version self.old statement self.new) }
         ensures untaken { IfErr result (TellsUntaken gathered (faults self.old) version self.old statement) }
         ensures stays { stays self.old self.new };
