@@ -23,4 +23,5 @@ mod states;
 
 pub use cert_readers::CertReader;
 pub use laws::{first_version_has_no_links, read_certificates_suit, text_has_one_meaning};
+pub use open_rows::{add_cell, has_cell};
 pub use reading::{CERT_LIMIT, read};

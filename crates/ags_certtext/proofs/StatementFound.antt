@@ -1,5 +1,5 @@
 -- What each line is read as, over every text: the one statement that stands behind its keyword, or none.
-use Rattle.std.proofs.Common.{◌≡◌, ℕ, cond, eqb, Bool, List, length, get_or, Option, refl, sym, ap, ◌∙◌, inl, inr, arith}
+use Rattle.std.proofs.Common.{◌≡◌, ℕ, cond, eqb, Bool, List, length, get_or, Option, ◌⊎◌, refl, sym, ap, ◌∙◌, inl, inr, arith}
 use Rattle.std.specs.Prelude.{ℤ}
 use Rattle.std.specs.List.{list_all}
 use Rattle.ags_text.specs.Field.{is_blank, AreBlanks, next_field, behind_field}
@@ -121,7 +121,7 @@ behind_q : (text : List ℕ) (row : RowLine) (a : OnlyFront (BeginsWithNamed 65 
 behind_q text row a front is =
     front.one row.q is.behind_q (rw (← (behind_a text row a is).1) is.q_is) (no_word_name is.behind_q _ is.flags_are.x_is.named (omega arith))
 
-row_found : (text : List ℕ) → OneFound RowLine (IsRow text)
+pub row_found : (text : List ℕ) → OneFound RowLine (IsRow text)
 row_found text =
     elim (written_found 4 (next_field text)) [
       | inr none ↦ inr (λ row is. none row.location is.location_is)
@@ -149,6 +149,20 @@ row_found text =
           row_parts row location.it a.value q.value flags.it.x flags.it.v (location.one row.location is.location_is) (behind_a text row a is).0 (behind_q text row a q is).0
           (ap (λ (f : RowFlags). f.x) same) (ap (λ (f : RowFlags). f.v) same);
     })
+
+-- a text's fields state a row, or none
+pub some_row : (text : List ℕ) → ((row : RowLine) × IsRow text row) ⊎ ((row : RowLine) → IsRow text row → ⊥)
+some_row text = elim (row_found text) [
+  | inl found ↦ inl (found.it, found.is)
+  | inr none ↦ inr none
+]
+
+-- and one at most
+pub one_row : (text : List ℕ) (row other : RowLine) → IsRow text row → IsRow text other → row ≡ other
+one_row text row other is also = elim (row_found text) [
+  | inl found ↦ found.one row is ∙ sym (found.one other also)
+  | inr none ↦ absurd (none row is)
+]
 
 -- ---- statements
 

@@ -1,6 +1,7 @@
 -- What a line states, and what stands behind its keyword.
 --
--- The crates above may cite stated_is, which is behind the law spelled_statements_are_lawful.
+-- The crates above may cite stated_is, which is behind the law spelled_statements_are_lawful, and row_states and row_stands, which are
+-- behind the law row_fields_have_one_reading.
 use Rattle.std.proofs.Common.{◌≡◌, ℕ, ◌<◌, ◌^◌, ◌⊎◌, Bool, List, [], ◌∷◌, ◌++◌, length, slice_index, get_or, Option, Some, refl, sym, ap, ◌∙◌, inl, inr, arith}
 use Rattle.std.specs.Prelude.{ℤ, codes}
 use Rattle.std.specs.Option.{option_map}
@@ -18,8 +19,8 @@ use Rattle.ags_certtext.specs.declared.statements.Statement.{Statement}
 use Rattle.ags_certtext.specs.declared.statements.Statement.TheVariants.{Start, Entry as EntryOf, May, Row, Linked, End}
 use Rattle.ags_certtext.specs.declared.statements.Table.TheVariants.{Cell, Init, In, Out, At}
 use Rattle.ags_certtext.specs.Statement.{IsStatement}
-use Rattle.ags_certtext.specs.Spelling.{StatesPlace, StatesEntry, StatesRow, StatesLink, States, table_name, flag_digits}
-use Rattle.ags_certtext.specs.Front.{IsPlace}
+use Rattle.ags_certtext.specs.Spelling.{StatesPlace, StatesEntry, StatesRowBehind, StatesLink, States, table_name, flag_digits}
+use Rattle.ags_certtext.specs.Front.{AreAtFront, IsPlace}
 use Rattle.ags_certtext.specs.Operand.{IsEntry, IsRow, IsLinkText, keyword_name, AreOperands}
 use Rattle.ags_certtext.proofs.FrontLemmas.{front_cut, cut_front, fields_append, cut_stands, value_fields, signed_field, flags_field}
 
@@ -83,14 +84,16 @@ link_states line link named is =
           (named, (refl, (refl, is.ends)));
     }
 
-row_states : (line : List ℕ) (row : RowLine) → next_field line ≡ codes "ROW" → IsRow (behind_field line) row → StatesRow line row
-row_states line row named is =
+-- the fields of a row behind others
+pub row_states : (front : List (List ℕ)) (line text : List ℕ) (row : RowLine) → AreFields front → AreAtFront front line text → IsRow text row → StatesRowBehind front line row
+row_states front line text row front_are at_front is =
     let a = is.a_is.value_is in
     let q = is.q_is.value_is in
     let x = is.flags_are.x_is in
     let v = is.flags_are.v_is in
     let flags : List (List ℕ) = codes "X" ∷ flag_digits 48 row.x ∷ codes "V" ∷ flag_digits 48 row.v ∷ [] in
     let behind_q : List (List ℕ) = codes "Q" ∷ (q.taken ++ flags) in
+    let all : List (List ℕ) = next_field text ∷ codes "A" ∷ (a.taken ++ behind_q) in
     let flags_are : AreFields flags = (
       record { some = omega arith; marks = refl },
       (flags_field row.x x.flags_are.some, (record { some = omega arith; marks = refl }, (flags_field row.v v.flags_are.some, tt))),
@@ -98,8 +101,13 @@ row_states line row named is =
     let flags_cut : AreCut flags is.behind_q = (x.named, (x.flags_are.digits, (v.named, (v.flags_are.digits, is.flags_are.ends)))) in
     let q_are : AreFields behind_q = (record { some = omega arith; marks = refl }, fields_append q.taken flags (value_fields q.taken row.q q.value_is) flags_are) in
     let q_cut : AreCut behind_q is.behind_a = (is.q_is.named, front_cut q.taken flags (behind_field is.behind_a) is.behind_q q.front flags_cut) in
+    let all_are : AreFields all = (
+      writes_field 8 4 _ row.location (omega arith) (omega arith) is.location_is,
+      (record { some = omega arith; marks = refl }, fields_append a.taken behind_q (value_fields a.taken row.a a.value_is) q_are),
+    ) in
+    let all_cut : AreCut all text = (refl, (is.a_is.named, front_cut a.taken behind_q (behind_field (behind_field text)) is.behind_a a.front q_cut)) in
     record {
-      place = next_field (behind_field line);
+      place = next_field text;
       a = a.taken;
       q = q.taken;
       location_is = is.location_is;
@@ -109,21 +117,14 @@ row_states line row named is =
       indicators = v.flags_are.count_is;
       some_index = x.flags_are.some;
       some_indicator = v.flags_are.some;
-      fields = cut_stands line (codes "ROW" ∷ next_field (behind_field line) ∷ codes "A" ∷ (a.taken ++ behind_q)) (
-        record { some = omega arith; marks = refl },
-        (
-          writes_field 8 4 _ row.location (omega arith) (omega arith) is.location_is,
-          (record { some = omega arith; marks = refl }, fields_append a.taken behind_q (value_fields a.taken row.a a.value_is) q_are),
-        ),
-      )
-          (named, (refl, (is.a_is.named, front_cut a.taken behind_q (behind_field (behind_field (behind_field line))) is.behind_a a.front q_cut)));
+      fields = cut_stands line (front ++ all) (fields_append front all front_are all_are) (front_cut front all line text at_front all_cut);
     }
 
 pub operands_state : (its : Keyword) (line : List ℕ) (statement : Statement) → keyword_name its ≡ next_field line → AreOperands its (behind_field line) statement → States line statement
 operands_state keyword.Start line statement named is = rw is.2 (place_states (codes "START") line is.0 (keyword_field keyword.Start) (sym named) is.1)
 operands_state (keyword.Entry table) line statement named is = rw is.2 (entry_states (table_name table) line is.0 (keyword_field (keyword.Entry table)) (sym named) is.1)
 operands_state keyword.May line statement named is = rw is.2 (place_states (codes "MAY") line is.0 (keyword_field keyword.May) (sym named) is.1)
-operands_state keyword.Row line statement named is = rw is.2 (row_states line is.0 (sym named) is.1)
+operands_state keyword.Row line statement named is = rw is.2 (row_states (codes "ROW" ∷ []) line (behind_field line) is.0 (keyword_field keyword.Row, tt) (sym named, refl) is.1)
 operands_state keyword.Link line statement named is = rw is.2 (link_states line is.0 (sym named) is.1)
 operands_state keyword.End line statement named is = rw is.1 (cut_stands line (codes "END" ∷ []) (keyword_field keyword.End, tt) (sym named, is.0))
 
@@ -161,29 +162,36 @@ link_stands line link is =
       },
     )
 
-row_stands : (line : List ℕ) (row : RowLine) → StatesRow line row → (codes "ROW" ≡ next_field line) × IsRow (behind_field line) row
-row_stands line row is =
+-- the fields of a row stand behind others
+pub record RowStands (front : List (List ℕ)) (line : List ℕ) (row : RowLine) : Type 0 where
+  pub text : List ℕ
+  pub at_front : AreAtFront front line text
+  pub is_row : IsRow text row
+
+pub row_stands : (front : List (List ℕ)) (line : List ℕ) (row : RowLine) → AreFields front → StatesRowBehind front line row → RowStands front line row
+row_stands front line row front_are is =
     let flags : List (List ℕ) = codes "X" ∷ flag_digits 48 row.x ∷ codes "V" ∷ flag_digits 48 row.v ∷ [] in
     let behind_q : List (List ℕ) = codes "Q" ∷ (is.q ++ flags) in
+    let all : List (List ℕ) = is.place ∷ codes "A" ∷ (is.a ++ behind_q) in
     let flags_are : AreFields flags = (
       record { some = omega arith; marks = refl },
       (flags_field row.x is.some_index, (record { some = omega arith; marks = refl }, (flags_field row.v is.some_indicator, tt))),
     ) in
     let q_are : AreFields behind_q = (record { some = omega arith; marks = refl }, fields_append is.q flags (value_fields is.q row.q is.q_is) flags_are) in
-    let cut = standing_cut line (codes "ROW" ∷ is.place ∷ codes "A" ∷ (is.a ++ behind_q)) (
-      record { some = omega arith; marks = refl },
-      (
-        writes_field 8 4 is.place row.location (omega arith) (omega arith) is.location_is,
-        (record { some = omega arith; marks = refl }, fields_append is.a behind_q (value_fields is.a row.a is.a_is) q_are),
-      ),
-    ) is.fields in
-    let a = cut_front is.a behind_q (behind_field (behind_field (behind_field line))) cut.1.1.1 in
-    let q = cut_front is.q flags (behind_field a.rest) a.are.1 in (
-      sym cut.0,
-      record {
-        location_is = rw cut.1.0 is.location_is;
+    let all_are : AreFields all = (
+      writes_field 8 4 is.place row.location (omega arith) (omega arith) is.location_is,
+      (record { some = omega arith; marks = refl }, fields_append is.a behind_q (value_fields is.a row.a is.a_is) q_are),
+    ) in
+    let whole = cut_front front all line (standing_cut line (front ++ all) (fields_append front all front_are all_are) is.fields) in
+    let a = cut_front is.a behind_q (behind_field (behind_field whole.rest)) whole.are.1.1 in
+    let q = cut_front is.q flags (behind_field a.rest) a.are.1 in
+    record {
+      text = whole.rest;
+      at_front = whole.front;
+      is_row = record {
+        location_is = rw whole.are.0 is.location_is;
         behind_a = a.rest;
-        a_is = record { named = cut.1.1.0; value_is = record { taken = is.a; front = a.front; value_is = is.a_is } };
+        a_is = record { named = whole.are.1.0; value_is = record { taken = is.a; front = a.front; value_is = is.a_is } };
         behind_q = q.rest;
         q_is = record { named = a.are.0; value_is = record { taken = is.q; front = q.front; value_is = is.q_is } };
         flags_are = record {
@@ -191,8 +199,8 @@ row_stands line row is =
           v_is = record { named = q.are.1.1.0; flags_are = record { count_is = is.indicators; some = is.some_indicator; digits = q.are.1.1.1.0 } };
           ends = q.are.1.1.1.1;
         };
-      },
-    )
+      };
+    }
 
 -- the keyword of a line that makes a statement
 pub record HasOperands (line : List ℕ) (statement : Statement) : Type 0 where
@@ -204,7 +212,9 @@ pub state_operands : (line : List ℕ) (statement : Statement) → States line s
 state_operands line (Start location) is = let stands = place_stands (codes "START") line location (keyword_field keyword.Start) is in record { its = keyword.Start; named = stands.0; are = (location, stands.1, refl) }
 state_operands line (EntryOf table entry) is = let stands = entry_stands (table_name table) line entry (keyword_field (keyword.Entry table)) is in record { its = keyword.Entry table; named = stands.0; are = (entry, stands.1, refl) }
 state_operands line (May location) is = let stands = place_stands (codes "MAY") line location (keyword_field keyword.May) is in record { its = keyword.May; named = stands.0; are = (location, stands.1, refl) }
-state_operands line (Row row) is = let stands = row_stands line row is in record { its = keyword.Row; named = stands.0; are = (row, stands.1, refl) }
+state_operands line (Row row) is =
+    let stands = row_stands (codes "ROW" ∷ []) line row (keyword_field keyword.Row, tt) is in
+    record { its = keyword.Row; named = sym stands.at_front.0; are = (row, rw stands.at_front.1 stands.is_row, refl) }
 state_operands line (Linked link) is = let stands = link_stands line link is in record { its = keyword.Link; named = stands.0; are = (link, stands.1, refl) }
 state_operands line End is = let cut = standing_cut line (codes "END" ∷ []) (keyword_field keyword.End, tt) is in record { its = keyword.End; named = sym cut.0; are = (cut.1, refl) }
 

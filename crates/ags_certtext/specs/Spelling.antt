@@ -89,8 +89,9 @@ flag_digits digit [] = []
 flag_digits digit (true ∷ flags) = digit ∷ flag_digits (digit + 1) flags
 flag_digits digit (false ∷ flags) = flag_digits (digit + 1) flags
 
--- the line of a row: its location, what A and Q may hold, and the digits of each index and each indicator that may stand
-pub record StatesRow (line : List ℕ) (row : RowLine) : Type 0 where
+-- the line has some fields, and behind them those of a row: its location, what A and Q may hold, and the digits of each index and each
+-- indicator that may stand
+pub record StatesRowBehind (front : List (List ℕ)) (line : List ℕ) (row : RowLine) : Type 0 where
   pub place : List ℕ
   pub a : List (List ℕ)
   pub q : List (List ℕ)
@@ -101,8 +102,12 @@ pub record StatesRow (line : List ℕ) (row : RowLine) : Type 0 where
   pub indicators : length row.v ≡ 2
   pub some_index : some_flag row.x ≡ true
   pub some_indicator : some_flag row.v ≡ true
-  pub fields : HasFields line (codes "ROW" ∷ place ∷ codes "A" ∷ (a ++ (codes "Q" ∷ (q
-      ++ (codes "X" ∷ flag_digits 48 row.x ∷ codes "V" ∷ flag_digits 48 row.v ∷ [])))))
+  pub fields : HasFields line (front ++ (place ∷ codes "A" ∷ (a ++ (codes "Q" ∷ (q
+      ++ (codes "X" ∷ flag_digits 48 row.x ∷ codes "V" ∷ flag_digits 48 row.v ∷ []))))))
+
+-- the line of a row has them behind its keyword
+abbrev pub StatesRow : (line : List ℕ) → RowLine → Type 0
+StatesRow line row = StatesRowBehind (codes "ROW" ∷ []) line row
 
 -- the keyword of a table's entries
 abbrev pub table_name : Table → List ℕ

@@ -1,10 +1,14 @@
 //! What the definitions of a certificate's lines mean, over every line.
 
-ghost use Rattle.std.specs.Prelude.{◌≡◌, ℕ, List};
+ghost use Rattle.std.specs.Prelude.{◌≡◌, ◌⊎◌, ℕ, List};
+ghost use Rattle.ags_text.specs.Field.{AreFields};
 ghost use Rattle.ags_frame.specs.Line.{Spells};
 ghost use Rattle.ags_certtext.specs.declared.statements.Statement.{Statement};
 ghost use Rattle.ags_certtext.specs.Reading.{Reading, IsFirstReading, IsReading};
-ghost use Rattle.ags_certtext.specs.Spelling.{States};
+ghost use Rattle.ags_certtext.specs.declared.statements.RowLine.{RowLine};
+ghost use Rattle.ags_certtext.specs.Front.{AreAtFront};
+ghost use Rattle.ags_certtext.specs.Operand.{IsRow};
+ghost use Rattle.ags_certtext.specs.Spelling.{States, StatesRowBehind};
 ghost use Rattle.ags_certtext.specs.Statement.{IsStatement};
 
 /// A line has one reading as a certificate's first line, and no other.
@@ -22,4 +26,14 @@ pub fn line_has_one_reading()
 /// A statement that a line spells has addresses and locations below 4096, and a row has an index and an indicator.
 pub fn spelled_statements_are_lawful()
     ensures { (line : List ℕ) (statement : Statement) → Spells States line statement → IsStatement statement }
+{}
+
+/// A text's fields state one row, or none. What `read_row` reads behind some fields of a line is the row that the line states behind them.
+pub fn row_fields_have_one_reading()
+    ensures some { (text : List ℕ) → ((row : RowLine) × IsRow text row) ⊎ ((row : RowLine) → IsRow text row → ⊥) }
+    ensures one { (text : List ℕ) (row other : RowLine) → IsRow text row → IsRow text other → row ≡ other }
+    ensures states { (front : List (List ℕ)) (line text : List ℕ) (row : RowLine) → AreFields front → AreAtFront front line text → IsRow text row
+        → StatesRowBehind front line row }
+    ensures stands { (front : List (List ℕ)) (line : List ℕ) (row : RowLine) → AreFields front → StatesRowBehind front line row
+        → (text : List ℕ) × AreAtFront front line text × IsRow text row }
 {}

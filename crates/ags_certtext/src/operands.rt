@@ -133,8 +133,9 @@ fn read_flags(text: &[u8]) -> Option<([bool; 8], [bool; 2])>
     }
 }
 
-/// The row that a text's fields state.
-pub(crate) fn read_row(text: &[u8]) -> Option<RowLine>
+/// The row that a text's fields state: a location, what A and Q may hold, the index digits and the indicator digits, and nothing behind
+/// them (docs/CERTIFICATE.md, Rows).
+pub fn read_row(text: &[u8]) -> Option<RowLine>
     ensures found { IfSome result (λ row. IsRow text.now row) }
     ensures only { (row : RowLine) → IsRow text.now row → result ≡ Some row }
 {
