@@ -4,3 +4,5 @@ pub mod LineLemmas
 pub mod BoundLemmas
 -- The greatest bound.
 pub mod GreatestLemmas
+-- What a text means.
+pub mod MeaningLaws
