@@ -6,3 +6,8 @@ pub mod TimingLemmas
 pub mod RowLemmas
 -- What a run spends.
 pub mod SpentLemmas
+-- Things in order, least bounds and greatest bounds: that there are some, and one alone.
+pub mod OrderedLemmas
+pub mod LeastLemmas
+-- That each budget has one answer.
+pub mod OneLemmas

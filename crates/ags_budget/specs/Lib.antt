@@ -2,6 +2,7 @@
 pub mod Timing
 pub mod Over
 pub mod Timed
+pub mod TimedText
 pub mod Spent
 -- what serves inside
 pub mod Asking

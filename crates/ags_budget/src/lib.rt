@@ -9,6 +9,7 @@ mod answers;
 mod covering;
 mod judging;
 pub mod laws;
+mod texts;
 mod timing;
 
 pub use ags_times::{Budget, BudgetError, BudgetKind, TIMES_LIMIT, read};
