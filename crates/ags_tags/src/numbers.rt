@@ -1,0 +1,84 @@
+//! Scales, and the tags of rows, as fields of a line.
+
+ghost use Rattle.std.specs.Prelude.{◌≡◌, ◌∷◌, ℕ, ℤ, List, IfSome, IfNone, Some};
+ghost use Rattle.ags_certtext.specs.Spelling.{IsSigned};
+ghost use Rattle.ags_tags.specs.declared.tags.RowTag.{RowTag};
+ghost use Rattle.ags_tags.specs.Spelling.{IsScale, IsRowTag, is_scale};
+
+use crate::tags::{RowTag, Tag};
+use ags_frame::read_size;
+
+/// The least scale.
+const LEAST_SCALE: i32 = -128;
+
+/// The greatest scale.
+const GREATEST_SCALE: i32 = 127;
+
+/// What stands behind a minus, where a text begins with one.
+fn behind_minus(text: &[u8]) -> Option<&[u8]>
+    ensures found { IfSome result (λ digits. text.now ≡ 45 ∷ digits.now) }
+    ensures none { IfNone result ((digits : List ℕ) → text.now ≡ 45 ∷ digits → ⊥) }
+{
+    match text {
+        [b'-', digits @ ..] => Some(digits),
+        _ => None,
+    }
+}
+
+/// The number that a minus or nothing, and one to six decimal digits, write.
+fn read_signed(text: &[u8]) -> Option<i32>
+    ensures found { IfSome result (λ number. IsSigned text.now number) }
+    ensures only { (number : ℤ) → IsSigned text.now number → result ≡ Some number }
+{
+    match behind_minus(text) {
+        Some(digits) => match read_size(digits) {
+            Some(size) => Some(-(size as i32)),
+            None => None,
+        },
+        None => match read_size(text) {
+            Some(size) => Some(size as i32),
+            None => None,
+        },
+    }
+}
+
+/// Whether a number is a scale.
+fn is_scale(number: i32) -> bool
+    ensures { result ≡ is_scale number }
+{
+    LEAST_SCALE <= number && number <= GREATEST_SCALE
+}
+
+/// The scale that a text writes, and nothing where the number is no scale.
+pub(crate) fn read_scale(text: &[u8]) -> Option<i8>
+    ensures found { IfSome result (λ scale. IsScale text.now scale) }
+    ensures only { (scale : ℤ) → IsScale text.now scale → result ≡ Some scale }
+{
+    match read_signed(text) {
+        Some(number) => {
+            if is_scale(number) {
+                Some(number as i8)
+            } else {
+                None
+            }
+        }
+        None => None,
+    }
+}
+
+/// The tag of a row that a text writes.
+pub(crate) fn read_row_tag(text: &[u8]) -> Option<RowTag>
+    ensures found { IfSome result (IsRowTag text.now) }
+    ensures only { (tag : RowTag) → IsRowTag text.now tag → result ≡ Some tag }
+{
+    if text == b"ANY".as_slice() {
+        return Some(RowTag::Any);
+    }
+    if text == b"RAW".as_slice() {
+        return Some(RowTag::Known(Tag::Raw));
+    }
+    match read_scale(text) {
+        Some(scale) => Some(RowTag::Known(Tag::Scale(scale))),
+        None => None,
+    }
+}
