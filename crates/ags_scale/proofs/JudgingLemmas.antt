@@ -1,0 +1,16 @@
+-- The answer that tells what fails first.
+use Rattle.std.proofs.Common.{ℕ, List}
+use Rattle.std.specs.Prelude.{Option}
+use Rattle.ags_domain.specs.declared.values.Value.{Value}
+use Rattle.ags_ports.specs.declared.machines.Machine.{Machine}
+use Rattle.ags_safe.specs.Certificate.{Certificate}
+use Rattle.ags_tags.specs.Tag.{Scaling}
+use Rattle.ags_scale.specs.Scaled.{FailsFirst, IsScaled}
+use Rattle.ags_scale.specs.Telling.{answer_of}
+use Rattle.ags_scale.specs.declared.answers.TagFault.{TagFault}
+use Rattle.ags_scale.specs.declared.answers.TagFault.TheVariants.{Mixes, Loses}
+
+pub told_scaled : (machine : Machine) (image : List (Option ℕ)) (cert : Certificate Value) (scales : Scaling) (row : ℕ) (fault : TagFault)
+    → FailsFirst machine image cert scales row fault → IsScaled machine image cert scales (answer_of row fault)
+told_scaled machine image cert scales row (Mixes word x v two) fails = fails
+told_scaled machine image cert scales row (Loses word x v next) fails = fails

@@ -1,0 +1,25 @@
+-- The answer that tells what fails first.
+pub mod JudgingLemmas
+-- The rows that are found.
+pub mod FoundLemmas
+-- What comes of a case that is accepted.
+pub mod TaggingLemmas
+-- What comes of the rows of an accepted certificate.
+pub mod RowLemmas
+-- What orders do to the tags of a run and of a row that holds them.
+pub mod ChangeLemmas
+-- What the tags tell of words.
+pub mod ValueLemmas
+-- What the tags tell of a step.
+pub mod StepLemmas
+-- The tags after an event.
+pub mod NextLemmas
+-- The row at the start.
+pub mod StartLemmas
+-- Tagged runs.
+pub mod TaggedLemmas
+-- Scales have an answer, and one alone.
+pub mod OrderedLemmas
+pub mod OneLemmas
+-- Scales that are accepted.
+pub mod AcceptedLemmas
