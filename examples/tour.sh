@@ -151,6 +151,40 @@ CERTIFIED ROWS 31 CASES 32
 OUTSIDE IN 2001 001751
 END
 
+# --- bounds on order time
+
+prints 0 budget examples/deck.lem examples/deck_split.cert examples/deck.times <<'END'
+CERTIFIED ROWS 44 CASES 44
+WITHIN 492
+END
+
+sed 's/^TIME 18 10/TIME 18 9/' examples/deck.times >"$room/late.times"
+prints 1 budget examples/deck.lem examples/deck_split.cert "$room/late.times" <<'END'
+CERTIFIED ROWS 44 CASES 44
+OVER ROW 18 WORD 704000 X 0 V 0 NEXT ---- NEEDS 10 BOUND 9
+END
+
+prints 9 budget examples/deck.lem examples/deck.cert examples/deck.times <<'END'
+TIMES LINE 33 ERROR 4 NoRow
+END
+
+# --- scale tags
+
+prints 0 scales examples/scaled_sum.lem examples/scaled_sum.cert examples/scaled_sum.scales <<'END'
+CERTIFIED ROWS 5 CASES 5
+SCALES AGREE
+END
+
+sed 's/^CELL 4005 6/CELL 4005 7/' examples/scaled_sum.scales >"$room/mixed.scales"
+prints 1 scales examples/scaled_sum.lem examples/scaled_sum.cert "$room/mixed.scales" <<'END'
+CERTIFIED ROWS 5 CASES 5
+MIXED ROW 3 WORD 224005 X 0 V 0 LEFT 6 RIGHT 7
+END
+
+prints 9 scales examples/limiter.lem examples/limiter.cert examples/deck.times <<'END'
+SCALES LINE 1 ERROR 1 BadLine
+END
+
 # --- listings, tapes and symbols
 
 "$ags" assemble examples/first.lem >"$room/first.lst"
@@ -213,7 +247,7 @@ END
 # --- what standard error says
 
 says 3 assemble <<'END'
-ags: the forms of arguments are: assemble S [M], compare S L [M], tape S [M], xref S [M], certify S C [M], run S P [M], guard S P C [M], workload N
+ags: the forms of arguments are: assemble S [M], compare S L [M], tape S [M], xref S [M], certify S C [M], run S P [M], guard S P C [M], budget S C T [M], scales S C K [M], workload N
 END
 
 says 5 assemble examples <<'END'

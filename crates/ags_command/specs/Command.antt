@@ -20,6 +20,10 @@ pub data Command : Type 0 where
   Run : (source script : List ℕ) → Command
   -- the same with the certificate of that name as its guard, where it is accepted for those words
   Guard : (source script certificate : List ℕ) → Command
+  -- whether the bounds of the text of times of that name are kept, where the certificate is accepted for the words of that source
+  Budget : (source certificate times : List ℕ) → Command
+  -- whether the scales of the text of scales of that name agree, where the certificate is accepted for the words of that source
+  Scales : (source certificate scales : List ℕ) → Command
 
 -- What a command line asks for: a command, and the name of the file of the machine that it is for, or nothing, where it is for
 -- the standard machine.
@@ -40,6 +44,8 @@ arguments_of (Compare source listing) = codes "compare" ∷ source ∷ listing �
 arguments_of (Certify source certificate) = codes "certify" ∷ source ∷ certificate ∷ []
 arguments_of (Run source script) = codes "run" ∷ source ∷ script ∷ []
 arguments_of (Guard source script certificate) = codes "guard" ∷ source ∷ script ∷ certificate ∷ []
+arguments_of (Budget source certificate times) = codes "budget" ∷ source ∷ certificate ∷ times ∷ []
+arguments_of (Scales source certificate scales) = codes "scales" ∷ source ∷ certificate ∷ scales ∷ []
 
 -- the argument that names a machine file, where one is named
 abbrev pub machine_argument : Option (List ℕ) → List (List ℕ)
@@ -90,6 +96,8 @@ forms =
     ∷ record { verb = codes "certify"; line_of = two_names Certify }
     ∷ record { verb = codes "run"; line_of = two_names Run }
     ∷ record { verb = codes "guard"; line_of = three_names Guard }
+    ∷ record { verb = codes "budget"; line_of = three_names Budget }
+    ∷ record { verb = codes "scales"; line_of = three_names Scales }
     ∷ []
 
 -- what a verb and the names behind it ask for, by the form of that verb

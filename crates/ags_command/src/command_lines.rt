@@ -48,6 +48,24 @@ pub enum Command<'a> {
         /// The name of the certificate.
         certificate: &'a str,
     },
+    /// Whether bounds on order time are kept, where a certificate is accepted for the words of a source.
+    Budget {
+        /// The name of the source.
+        source: &'a str,
+        /// The name of the certificate.
+        certificate: &'a str,
+        /// The name of the text of times.
+        times: &'a str,
+    },
+    /// Whether scales agree, where a certificate is accepted for the words of a source.
+    Scales {
+        /// The name of the source.
+        source: &'a str,
+        /// The name of the certificate.
+        certificate: &'a str,
+        /// The name of the text of scales.
+        scales: &'a str,
+    },
 }
 
 /// What a command line asks for.
@@ -157,6 +175,40 @@ fn read_guard(names: &[String]) -> Option<CommandLine<'_>>
     }
 }
 
+/// What `budget` and these names ask for.
+fn read_budget(names: &[String]) -> Option<CommandLine<'_>>
+    ensures { option_map line_view result ≡ asked.three_names asked.Budget (map string_bytes names.now) }
+{
+    match names {
+        [source, certificate, times, behind @ ..] => line_with(
+            Command::Budget {
+                source: source.as_str(),
+                certificate: certificate.as_str(),
+                times: times.as_str(),
+            },
+            behind,
+        ),
+        _ => None,
+    }
+}
+
+/// What `scales` and these names ask for.
+fn read_scales(names: &[String]) -> Option<CommandLine<'_>>
+    ensures { option_map line_view result ≡ asked.three_names asked.Scales (map string_bytes names.now) }
+{
+    match names {
+        [source, certificate, scales, behind @ ..] => line_with(
+            Command::Scales {
+                source: source.as_str(),
+                certificate: certificate.as_str(),
+                scales: scales.as_str(),
+            },
+            behind,
+        ),
+        _ => None,
+    }
+}
+
 /// What a verb and the names behind it ask for.
 pub(crate) fn read_names<'a>(verb: &str, names: &'a [String]) -> Option<CommandLine<'a>>
     ensures { option_map line_view result ≡ asked.line_named asked.forms verb.now (map string_bytes names.entry.now) }
@@ -169,6 +221,8 @@ pub(crate) fn read_names<'a>(verb: &str, names: &'a [String]) -> Option<CommandL
         "certify" => read_certify(names),
         "run" => read_run(names),
         "guard" => read_guard(names),
+        "budget" => read_budget(names),
+        "scales" => read_scales(names),
         _ => None,
     }
 }

@@ -1,10 +1,22 @@
 //! Command lines, the files that they read, and what comes of them.
 
-use ags_decks::{DECK, DECK_CERTIFICATE, DECK_SCRIPT};
+use ags_decks::{DECK, DECK_CERTIFICATE, DECK_SCRIPT, DECK_SPLIT_CERTIFICATE, DECK_TIMES};
 use ags_outside::{MemoryShelf, MemorySink};
 use ags_top::{Status, ags_main};
 use std::alloc::Global;
 use std::process::Abort;
+
+/// A sum of two words at scale 6.
+const SUM: &str =
+    " ORG /20\nX BSS 1\n ORG /4000\nL INP /2001\n LRS 3\n ADD C\n STO X\n DLY L\nC DEC 1B6\n";
+
+/// Its certificate.
+const SUM_CERTIFICATE: &str =
+    "AGSCERT 1\nIN 2001 RANGE -1000 1000\nROW 4000 A ANY Q ANY X 0 V 0\nROW 4001 A RANGE -1000 1000 Q ANY X 0 V 0\nROW 4002 A RANGE -125 125 Q ANY X 0 V 0\nROW 4003 A RANGE 1923 2173 Q ANY X 0 V 0\nROW 4004 A ANY Q ANY X 0 V 0\nEND\n";
+
+/// Its scales.
+const SUM_SCALES: &str =
+    "AGSSCALE 1\nCELL 0020 6\nCELL 4005 6\nIN 2001 3\nROW 2 3 ANY\nROW 3 6 ANY\nROW 4 6 ANY\nEND\n";
 
 /// The arguments of a command line.
 pub(crate) fn arguments_of(rt: &impl Abort, alloc: Global, line: &str) -> Vec<String> {
@@ -36,7 +48,8 @@ fn add_file(rt: &impl Abort, shelf: &mut MemoryShelf, absent: &str, name: &str, 
     }
 }
 
-/// A source S with its listing L; and the deck D with its certificate C and its script P. One of them may be absent.
+/// A source S with its listing L; the deck D with its certificate C, its script P, and the certificate K with the bounds T of its rows;
+/// and the sum A with its certificate B and its scales E. One of them may be absent.
 pub(crate) fn files_without(rt: &impl Abort, alloc: Global, absent: &str) -> MemoryShelf {
     let mut shelf = MemoryShelf::new(alloc);
     add_file(
@@ -50,6 +63,11 @@ pub(crate) fn files_without(rt: &impl Abort, alloc: Global, absent: &str) -> Mem
     add_file(rt, &mut shelf, absent, "D", DECK);
     add_file(rt, &mut shelf, absent, "C", DECK_CERTIFICATE);
     add_file(rt, &mut shelf, absent, "P", DECK_SCRIPT);
+    add_file(rt, &mut shelf, absent, "K", DECK_SPLIT_CERTIFICATE);
+    add_file(rt, &mut shelf, absent, "T", DECK_TIMES);
+    add_file(rt, &mut shelf, absent, "A", SUM);
+    add_file(rt, &mut shelf, absent, "B", SUM_CERTIFICATE);
+    add_file(rt, &mut shelf, absent, "E", SUM_SCALES);
     shelf
 }
 

@@ -148,6 +148,18 @@ fn a_guarded_deck_is_cut_off_at_each_call(rt: HostRuntime) {
     fail_each_call(&rt, "guard D P C", 6, text.as_str());
 }
 
+#[test]
+fn bounds_of_a_deck_are_cut_off_at_each_call(rt: HostRuntime) {
+    let text = "CERTIFIED ROWS 44 CASES 44\nWITHIN 492\n";
+    fail_each_call(&rt, "budget D K T", 6, text);
+}
+
+#[test]
+fn scales_of_a_sum_are_cut_off_at_each_call(rt: HostRuntime) {
+    let text = "CERTIFIED ROWS 5 CASES 5\nSCALES AGREE\n";
+    fail_each_call(&rt, "scales A B E", 6, text);
+}
+
 // Two faults at once: behind a pull that failed no put is made, so the first put is still to come, and fails.
 #[test]
 fn the_second_of_two_faults_is_not_reached(rt: HostRuntime) {
@@ -165,7 +177,7 @@ fn the_second_of_two_faults_is_not_reached(rt: HostRuntime) {
 }
 
 /// A command line, the file that is absent, and what is printed.
-const ABSENT: [(&str, &str, &str); 10] = [
+const ABSENT: [(&str, &str, &str); 12] = [
     ("assemble S", "S", "ABSENT S\n"),
     ("compare S L", "S", "ABSENT S\n"),
     ("compare S L", "L", "ABSENT L\n"),
@@ -176,6 +188,8 @@ const ABSENT: [(&str, &str, &str); 10] = [
     ("guard D P C", "D", "ABSENT D\n"),
     ("guard D P C", "P", "ABSENT P\n"),
     ("guard D P C", "C", "ABSENT C\n"),
+    ("budget D K T", "T", "ABSENT T\n"),
+    ("scales A B E", "E", "ABSENT E\n"),
 ];
 
 #[test]

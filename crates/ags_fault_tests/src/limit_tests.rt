@@ -88,6 +88,143 @@ fn files_have_limits(rt: HostRuntime) {
     );
 }
 
+/// The certificate of the source of one order.
+const WAITING_CERTIFICATE: &str = "AGSCERT 1\nROW 4000 A ANY Q ANY X 0 V 0\nEND\n";
+
+/// Expects what comes of a text of times for that certificate.
+fn expect_times(rt: &(impl AllocGlobal + Abort), times: &[u8], status: Status, text: &str) {
+    let mut shelf = MemoryShelf::new(rt.alloc());
+    assert!(rt; shelf.add("S", WAITING.as_bytes()).is_ok());
+    assert!(rt; shelf.add("C", WAITING_CERTIFICATE.as_bytes()).is_ok());
+    assert!(rt; shelf.add("F", times).is_ok());
+    expect_over(rt, &mut shelf, "budget S C F", status, text);
+}
+
+// A text of times of empty lines, as long as it may be, and one byte longer.
+#[test]
+fn texts_of_times_have_a_limit(rt: HostRuntime) {
+    let mut file = many(&rt, rt.alloc(), b'\n', 4_194_304);
+    let text = "TIMES LINE 1 ERROR 1 BadLine\n";
+    expect_times(&rt, file.as_slice(), Status::BadText, text);
+    assert!(&rt; file.push(b'\n').is_ok());
+    expect_times(&rt, file.as_slice(), Status::LongFile, "LONG F 4194304\n");
+}
+
+// A text of scales of empty lines, as long as it may be, and one byte longer.
+#[test]
+fn texts_of_scales_have_a_limit(rt: HostRuntime) {
+    let alloc = rt.alloc();
+    let mut file = many(&rt, alloc, b'\n', 4_194_304);
+    let mut shelf = MemoryShelf::new(alloc);
+    assert!(&rt; shelf.add("S", WAITING.as_bytes()).is_ok());
+    assert!(&rt; shelf.add("C", WAITING_CERTIFICATE.as_bytes()).is_ok());
+    assert!(&rt; shelf.add("F", file.as_slice()).is_ok());
+    assert!(&rt; file.push(b'\n').is_ok());
+    assert!(&rt; shelf.add("G", file.as_slice()).is_ok());
+    let text = "SCALES LINE 1 ERROR 1 BadLine\n";
+    expect_over(&rt, &mut shelf, "scales S C F", Status::BadText, text);
+    let text = "LONG G 4194304\n";
+    expect_over(&rt, &mut shelf, "scales S C G", Status::LongFile, text);
+}
+
+/// Adds a line to a text.
+fn add_line(rt: &impl Abort, text: &mut Vec<u8>, line: &str) {
+    assert!(rt; text.extend_from_slice(line.as_bytes()).is_ok());
+    assert!(rt; text.push(b'\n').is_ok());
+}
+
+/// An address in four octal digits.
+fn octal(address: u16) -> [u8; 4] {
+    let digits = [
+        address / 512 % 8,
+        address / 64 % 8,
+        address / 8 % 8,
+        address % 8,
+    ];
+    [
+        b'0' + digits[0] as u8,
+        b'0' + digits[1] as u8,
+        b'0' + digits[2] as u8,
+        b'0' + digits[3] as u8,
+    ]
+}
+
+/// Adds a line with an address between two parts to a text.
+fn add_addressed(rt: &impl Abort, text: &mut Vec<u8>, first: &str, address: u16, last: &str) {
+    assert!(rt; text.extend_from_slice(first.as_bytes()).is_ok());
+    assert!(rt; text.extend_from_slice(&octal(address)).is_ok());
+    add_line(rt, text, last);
+}
+
+/// A source of 2000 orders, each of which goes to itself.
+fn loops(rt: &impl Abort, alloc: Global) -> Vec<u8> {
+    let mut text = Vec::new(alloc);
+    add_line(rt, &mut text, " ORG /4000");
+    for _ in 0..2000 {
+        add_line(rt, &mut text, " TRA *");
+    }
+    text
+}
+
+/// A certificate of it, with ten rows at each order.
+fn loops_certificate(rt: &impl Abort, alloc: Global) -> Vec<u8> {
+    let mut text = Vec::new(alloc);
+    add_line(rt, &mut text, "AGSCERT 1");
+    for place in 0..2000u16 {
+        for _ in 0..10 {
+            add_addressed(rt, &mut text, "ROW ", 2048 + place, " A ANY Q ANY X 0 V 0");
+        }
+    }
+    add_line(rt, &mut text, "END");
+    text
+}
+
+/// Adds so many lines, each with its number from 1 between two parts, to a text.
+fn add_numbered(
+    rt: &(impl AllocGlobal + Abort),
+    text: &mut Vec<u8>,
+    first: &str,
+    count: u32,
+    last: &str,
+) {
+    for place in 0..count {
+        let number = place + 1;
+        let line = format!(in rt.alloc(); "{first}{number}{last}").expect(rt, "memory for a line");
+        add_line(rt, text, &line);
+    }
+}
+
+// A text of times with a bound for each of 20,000 rows, and a text of scales with a scale for each of 4096 cells and tags for each row.
+#[test]
+fn each_row_and_each_cell_may_be_named(rt: HostRuntime) {
+    let alloc = rt.alloc();
+    let mut times = Vec::new(alloc);
+    add_line(&rt, &mut times, "AGSTIME 1");
+    add_numbered(&rt, &mut times, "TIME ", 20_000, " 20000");
+    add_line(&rt, &mut times, "END");
+    let mut scales = Vec::new(alloc);
+    add_line(&rt, &mut scales, "AGSSCALE 1");
+    for address in 0..4096u16 {
+        add_addressed(&rt, &mut scales, "CELL ", address, " -128");
+    }
+    add_numbered(&rt, &mut scales, "ROW ", 20_000, " ANY RAW");
+    add_line(&rt, &mut scales, "END");
+    let mut shelf = MemoryShelf::new(alloc);
+    assert!(&rt; shelf.add("S", loops(&rt, alloc).as_slice()).is_ok());
+    assert!(&rt;
+        shelf
+            .add("C", loops_certificate(&rt, alloc).as_slice())
+            .is_ok()
+    );
+    assert!(&rt; shelf.add("T", times.as_slice()).is_ok());
+    assert!(&rt; shelf.add("K", scales.as_slice()).is_ok());
+    let text =
+        "CERTIFIED ROWS 20000 CASES 20000\nOVER ROW 1 WORD 404000 X 0 V 0 NEXT 4000 NEEDS 20010 BOUND 20000\n";
+    expect_over(&rt, &mut shelf, "budget S C T", Status::No, text);
+    let text = "CERTIFIED ROWS 20000 CASES 20000\nSCALES AGREE\n";
+    expect_over(&rt, &mut shelf, "scales S C K", Status::Done, text);
+}
+
 // A certificate of empty lines behind its first, as long as it may be and one byte longer. Its END is missing.
 #[test]
 fn certificates_have_a_limit(rt: HostRuntime) {

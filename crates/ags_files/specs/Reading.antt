@@ -25,6 +25,15 @@ use Rattle.ags_script.specs.declared.script_errors.ScriptError.{ScriptError}
 use Rattle.ags_script.specs.declared.script_errors.ScriptError.TheVariants as script
 use Rattle.ags_script.specs.Limit.{script_limit}
 use Rattle.ags_script.specs.Script.{IsScript, IsFaultyScript}
+use Rattle.ags_times.specs.declared.budget_errors.BudgetError.{BudgetError}
+use Rattle.ags_times.specs.declared.budget_errors.BudgetError.TheVariants as times
+use Rattle.ags_times.specs.Limit.{times_limit}
+use Rattle.ags_times.specs.Text.{IsBudgetOf, IsFaultyBudget}
+use Rattle.ags_tags.specs.declared.scale_errors.ScaleError.{ScaleError}
+use Rattle.ags_tags.specs.declared.scale_errors.ScaleError.TheVariants as scales
+use Rattle.ags_tags.specs.Limit.{scales_limit}
+use Rattle.ags_tags.specs.Tag.{Scaling}
+use Rattle.ags_tags.specs.Text.{IsScalesOf, IsFaultyScales}
 use Rattle.ags_files.specs.declared.sources.SourceFile.{SourceFile}
 use Rattle.ags_files.specs.Source.{IsSourceOf}
 
@@ -99,3 +108,21 @@ RefusesScript machine bytes script.NoMemory = ⊥
 -- a script, for a machine
 abbrev pub script_reading : Machine → Reading (List Command) ScriptError
 script_reading machine = record { limit = script_limit; Holds = IsScript machine; Refuses = RefusesScript machine }
+
+-- the first fault of a text of times, for so many rows
+abbrev pub RefusesTimes : (rows : ℕ) → (bytes : List ℕ) → BudgetError → Type 0
+RefusesTimes rows bytes (times.At line kind) = IsFaultyBudget rows bytes line kind
+RefusesTimes rows bytes times.NoMemory = ⊥
+
+-- a text of times, for so many rows
+abbrev pub times_reading : (rows : ℕ) → Reading (List ℕ) BudgetError
+times_reading rows = record { limit = times_limit; Holds = IsBudgetOf rows; Refuses = RefusesTimes rows }
+
+-- the first fault of a text of scales, for a machine and so many rows
+abbrev pub RefusesScales : (machine : Machine) → (rows : ℕ) → (bytes : List ℕ) → ScaleError → Type 0
+RefusesScales machine rows bytes (scales.At line kind) = IsFaultyScales machine.ports rows bytes line kind
+RefusesScales machine rows bytes scales.NoMemory = ⊥
+
+-- a text of scales, for a machine and so many rows
+abbrev pub scales_reading : (machine : Machine) → (rows : ℕ) → Reading Scaling ScaleError
+scales_reading machine rows = record { limit = scales_limit; Holds = IsScalesOf machine.ports rows; Refuses = RefusesScales machine rows }

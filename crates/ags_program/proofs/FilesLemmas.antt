@@ -1,10 +1,10 @@
 -- What the loaders of files answer.
-use Rattle.std.proofs.Common.{◌≡◌, ℕ, Bool, false, List, Option, Result, Ok, Err, refl, subst, ◌∙◌, arith}
+use Rattle.std.proofs.Common.{◌≡◌, ℕ, Bool, false, List, length, Option, Result, Ok, Err, refl, subst, ◌∙◌, arith}
 use Rattle.std.specs.Prelude.{IfOk}
 use Rattle.ags_certtext.specs.declared.cert_error.CertError.{CertError}
 use Rattle.ags_certtext.specs.declared.cert_error.CertError.TheVariants as certificate
 use Rattle.ags_files.specs.declared.sources.SourceFile.{SourceFile}
-use Rattle.ags_files.specs.Reading.{ReadsAs, ReadsBytes, ReadsFile, RefusesCertificate, RefusesScript, machine_reading, source_reading, listing_reading, certificate_reading, script_reading, with_refusal}
+use Rattle.ags_files.specs.Reading.{ReadsAs, ReadsBytes, ReadsFile, RefusesCertificate, RefusesScript, RefusesTimes, RefusesScales, machine_reading, source_reading, listing_reading, certificate_reading, script_reading, times_reading, scales_reading, with_refusal}
 use Rattle.ags_cert.specs.Cert.{Stated}
 use Rattle.ags_load.specs.Workload.{source_text, cert_text}
 use Rattle.ags_outside.specs.Count.{HasCause, rose_since}
@@ -23,12 +23,17 @@ use Rattle.ags_script.specs.declared.script_errors.ScriptError.{ScriptError}
 use Rattle.ags_script.specs.declared.script_errors.ScriptError.TheVariants as script
 use Rattle.ags_script.specs.Script.{IsReadFor}
 use Rattle.ags_program.specs.declared.refusal.Refusal.TheVariants as refusal
-use Rattle.ags_program.specs.Files.{Kind, MachineFile, Source, Listing, Certificate, Script, Assembly, Pair, Value, RefusesCertificate as RefusesCert, RefusesScript as RefusesCommands}
+use Rattle.ags_tags.specs.Tag.{Scaling}
+use Rattle.ags_tags.specs.declared.scale_errors.ScaleError.{ScaleError}
+use Rattle.ags_tags.specs.declared.scale_errors.ScaleError.TheVariants as scales
+use Rattle.ags_times.specs.declared.budget_errors.BudgetError.{BudgetError}
+use Rattle.ags_times.specs.declared.budget_errors.BudgetError.TheVariants as times
+use Rattle.ags_program.specs.Files.{Kind, MachineFile, Source, Listing, Certificate, Script, Times, ScaleTags, Assembly, Pair, Value, RefusesCertificate as RefusesCert, RefusesScript as RefusesCommands, RefusesTimes as RefusesBounds, RefusesScales as RefusesTags}
 use Rattle.ags_program.specs.Loaded.{LoadsPair}
-use Rattle.ags_program.specs.Program.{program, workload_certificate, workload_plan, workload_source}
-use Rattle.ags_program.specs.Text.{certificate_fault_line, script_fault_line}
+use Rattle.ags_program.specs.Program.{program, pair_plan, workload_certificate, workload_plan, workload_source}
+use Rattle.ags_program.specs.Text.{certificate_fault_line, scales_fault_line, script_fault_line, times_fault_line}
 use Rattle.ags_program.specs.Views.{IsReadSource, assembly_of, line_of, status_of}
-use Rattle.ags_program.specs.Work.{Work, JudgePair, CountsInstead}
+use Rattle.ags_program.specs.Work.{Work, JudgePair, Sequel, CountsInstead}
 
 -- ---- the program's kinds read as the readings do
 
@@ -70,6 +75,13 @@ script_as machine = record { limit = refl; holds = λ bytes commands is. is; ref
     refuses bytes (script.At number kind) faulty = record { number = number; kind = kind; faulty = faulty; line_is = refl }
     refuses bytes script.NoMemory faulty = absurd faulty
 
+pub times_as : (rows : ℕ) → ReadsAs (times_reading rows) program (Times rows) (λ bounds. bounds) refusal.Times line_of status_of
+times_as rows = record { limit = refl; holds = λ bytes bounds is. is; refuses = refuses; status = λ error. refl }
+  where
+    refuses : (bytes : List ℕ) (error : BudgetError) → RefusesTimes rows bytes error → RefusesBounds rows bytes (times_fault_line error)
+    refuses bytes (times.At number kind) faulty = record { number = number; kind = kind; faulty = faulty; line_is = refl }
+    refuses bytes times.NoMemory faulty = absurd faulty
+
 -- ---- what was read is ready
 
 pub source_ready : (machine : Machine) (told : ToldFile) (name : List ℕ) (result : Result SourceFile (Unloaded SourceError)) → ReadsFile (source_reading machine) told name result
@@ -89,6 +101,15 @@ script_ready machine told name (Err (Absent absent)) reads = tt
 script_ready machine told name (Err (TooLong long most)) reads = tt
 script_ready machine told name (Err ReadFault) reads = tt
 script_ready machine told name (Err NoMemory) reads = tt
+
+pub times_ready : (rows : ℕ) (told : ToldFile) (name : List ℕ) (result : Result (List ℕ) (Unloaded BudgetError)) → ReadsFile (times_reading rows) told name result
+    → IfOk (with_refusal refusal.Times result) (λ bounds. length bounds ≡ rows)
+times_ready rows told name (Ok bounds) (bytes, agrees, short, is) = is.are_bounds.count
+times_ready rows told name (Err (Refused error)) reads = tt
+times_ready rows told name (Err (Absent absent)) reads = tt
+times_ready rows told name (Err (TooLong long most)) reads = tt
+times_ready rows told name (Err ReadFault) reads = tt
+times_ready rows told name (Err NoMemory) reads = tt
 
 -- ---- the counts, and what is told
 
@@ -151,6 +172,44 @@ module _ (told now : Told) (machine : Machine) (source certificate : List ℕ) w
         loads_on program told (Source machine) source (certificate_plan behind) assembly result first
         (loads_on program told (Certificate machine) certificate (λ c. behind (record { machine = machine; assembly = assembly; cert = c })) cert result
         (loads_as_before told now (Certificate machine) certificate (Ok cert) same loads) later)
+
+pub scales_as : (machine : Machine) (rows : ℕ) → ReadsAs (scales_reading machine rows) program (ScaleTags machine rows) (λ scales. scales) refusal.Scales line_of status_of
+scales_as machine rows = record { limit = refl; holds = λ bytes scales is. is; refuses = refuses; status = λ error. refl }
+  where
+    refuses : (bytes : List ℕ) (error : ScaleError) → RefusesScales machine rows bytes error → RefusesTags machine rows bytes (scales_fault_line error)
+    refuses bytes (scales.At number kind) faulty = record { number = number; kind = kind; faulty = faulty; line_is = refl }
+    refuses bytes scales.NoMemory faulty = absurd faulty
+
+pub scales_ready : (machine : Machine) (rows : ℕ) (told : ToldFile) (name : List ℕ) (result : Result Scaling (Unloaded ScaleError))
+    → ReadsFile (scales_reading machine rows) told name result → IfOk (with_refusal refusal.Scales result) (λ scales. length scales.rows ≡ rows)
+scales_ready machine rows told name (Ok scales) (bytes, agrees, short, is) = is.are_scales.of_rows.count
+scales_ready machine rows told name (Err (Refused error)) reads = tt
+scales_ready machine rows told name (Err (Absent absent)) reads = tt
+scales_ready machine rows told name (Err (TooLong long most)) reads = tt
+scales_ready machine rows told name (Err ReadFault) reads = tt
+scales_ready machine rows told name (Err NoMemory) reads = tt
+
+-- ---- a source and a certificate, and then a file that is read for them
+
+module _ (told now : Told) (machine : Machine) (source certificate name : List ℕ) (kind_of : Pair → Kind) (sequel_of : (pair : Pair) → Value (kind_of pair) → Sequel)
+    (pair : Pair) (first : LoadsPair told machine source certificate (Ok pair)) (same : now ≡ told) where
+  -- what is read behind the pair
+  abbrev file_plan : Pair → Plan program
+  file_plan p = Read (kind_of p) name (λ value. Do (JudgePair p (sequel_of p value)))
+
+  -- the file is why they aren't loaded
+  pub file_stops : (why : Option (End program)) → LoadsFile program now (kind_of pair) name (Err why) → Loads program told (pair_plan machine source certificate file_plan) (Err why)
+  file_stops why stops =
+      first file_plan (Err why)
+      (loads_stop program told (kind_of pair) name (λ value. Do (JudgePair pair (sequel_of pair value))) why (loads_as_before told now (kind_of pair) name (Err why) same stops))
+
+  -- all are loaded
+  pub file_loads : (value : Value (kind_of pair)) → LoadsFile program now (kind_of pair) name (Ok value)
+      → Loads program told (pair_plan machine source certificate file_plan) (Ok (JudgePair pair (sequel_of pair value)))
+  file_loads value loads =
+      first file_plan (Ok (JudgePair pair (sequel_of pair value)))
+      (loads_on program told (kind_of pair) name (λ v. Do (JudgePair pair (sequel_of pair v))) value (Ok (JudgePair pair (sequel_of pair value)))
+      (loads_as_before told now (kind_of pair) name (Ok value) same loads) refl)
 
 -- ---- a workload
 

@@ -20,17 +20,29 @@ use Rattle.ags_script.specs.declared.commands.Command.{Command}
 use Rattle.ags_script.specs.declared.script_errors.ScriptKind.{ScriptKind}
 use Rattle.ags_script.specs.declared.script_errors.ScriptError.TheVariants.{At}
 use Rattle.ags_script.specs.Script.{IsScript, IsFaultyScript}
+use Rattle.ags_tags.specs.declared.scale_errors.ScaleKind.{ScaleKind}
+use Rattle.ags_tags.specs.declared.scale_errors.ScaleError.TheVariants as scales
+use Rattle.ags_tags.specs.Limit.{scales_limit}
+use Rattle.ags_tags.specs.Tag.{Scaling}
+use Rattle.ags_tags.specs.Text.{IsScalesOf, IsFaultyScales}
+use Rattle.ags_times.specs.declared.budget_errors.BudgetKind.{BudgetKind}
+use Rattle.ags_times.specs.declared.budget_errors.BudgetError.TheVariants as times
+use Rattle.ags_times.specs.Limit.{times_limit}
+use Rattle.ags_times.specs.Text.{IsBudgetOf, IsFaultyBudget}
 use Rattle.ags_program.specs.declared.status.Status.{Status}
 use Rattle.ags_program.specs.declared.status.Status.TheVariants.{BadMachine, BadSource, BadCert, BadText}
-use Rattle.ags_program.specs.Text.{certificate_fault_line, fault_line, listing_fault_line, machine_fault_line, script_fault_line}
+use Rattle.ags_program.specs.Text.{certificate_fault_line, fault_line, listing_fault_line, machine_fault_line, scales_fault_line, script_fault_line, times_fault_line}
 
--- a machine file; a source, a certificate or a script for a machine; or a listing
+-- a machine file; a source, a certificate or a script for a machine; a listing; a text of times for so many rows; or a text of scales
+-- for a machine and so many rows
 pub data Kind : Type 0 where
   MachineFile : Kind
   Source : (machine : Machine) → Kind
   Listing : Kind
   Certificate : (machine : Machine) → Kind
   Script : (machine : Machine) → Kind
+  Times : (rows : ℕ) → Kind
+  ScaleTags : (machine : Machine) → (rows : ℕ) → Kind
 
 -- a source that was read: its bytes, and the places and the words of its cards
 pub record Assembly : Type 0 where
@@ -50,6 +62,8 @@ Value (Source machine) = Assembly
 Value Listing = List (Option ℕ)
 Value (Certificate machine) = Stated
 Value (Script machine) = List Command
+Value (Times rows) = List ℕ
+Value (ScaleTags machine rows) = Scaling
 
 -- how many bytes a file of a kind has at most
 abbrev pub limit_of : Kind → ℕ
@@ -58,6 +72,8 @@ limit_of (Source machine) = source_limit
 limit_of Listing = listing_limit
 limit_of (Certificate machine) = certificate_limit
 limit_of (Script machine) = script_limit
+limit_of (Times rows) = times_limit
+limit_of (ScaleTags machine rows) = scales_limit
 
 -- the bytes are a source without a fault, and this is what was read of it by the table of codes
 pub record HoldsSource (order_codes bytes : List ℕ) (assembly : Assembly) : Type 0 where
@@ -71,6 +87,8 @@ Holds (Source machine) bytes assembly = HoldsSource machine.codes bytes assembly
 Holds Listing bytes image = Reads bytes image
 Holds (Certificate machine) bytes cert = IsCertOf machine.ports bytes cert
 Holds (Script machine) bytes commands = IsScript machine bytes commands
+Holds (Times rows) bytes bounds = IsBudgetOf rows bytes bounds
+Holds (ScaleTags machine rows) bytes scales = IsScalesOf machine.ports rows bytes scales
 
 -- the bytes are no machine file, and this is the line of the first test that they fail
 pub record RefusesMachine (bytes line : List ℕ) : Type 0 where
@@ -104,6 +122,20 @@ pub record RefusesScript (machine : Machine) (bytes line : List ℕ) : Type 0 wh
   pub faulty : IsFaultyScript machine bytes number kind
   pub line_is : line ≡ script_fault_line (At number kind)
 
+-- the bytes are a text of times with a fault for so many rows, and this is the line of its first one
+pub record RefusesTimes (rows : ℕ) (bytes line : List ℕ) : Type 0 where
+  pub number : ℕ
+  pub kind : BudgetKind
+  pub faulty : IsFaultyBudget rows bytes number kind
+  pub line_is : line ≡ times_fault_line (times.At number kind)
+
+-- the bytes are a text of scales with a fault for a machine and so many rows, and this is the line of its first one
+pub record RefusesScales (machine : Machine) (rows : ℕ) (bytes line : List ℕ) : Type 0 where
+  pub number : ℕ
+  pub kind : ScaleKind
+  pub faulty : IsFaultyScales machine.ports rows bytes number kind
+  pub line_is : line ≡ scales_fault_line (scales.At number kind)
+
 -- the bytes are refused with this line
 abbrev pub Refuses : (kind : Kind) → (bytes line : List ℕ) → Type 0
 Refuses MachineFile bytes line = RefusesMachine bytes line
@@ -111,6 +143,8 @@ Refuses (Source machine) bytes line = RefusesSource bytes line
 Refuses Listing bytes line = RefusesListing bytes line
 Refuses (Certificate machine) bytes line = RefusesCertificate machine bytes line
 Refuses (Script machine) bytes line = RefusesScript machine bytes line
+Refuses (Times rows) bytes line = RefusesTimes rows bytes line
+Refuses (ScaleTags machine rows) bytes line = RefusesScales machine rows bytes line
 
 -- the status of a refused file
 abbrev pub refused_status : Kind → Status
@@ -119,3 +153,5 @@ refused_status (Source machine) = BadSource
 refused_status Listing = BadText
 refused_status (Certificate machine) = BadCert
 refused_status (Script machine) = BadText
+refused_status (Times rows) = BadText
+refused_status (ScaleTags machine rows) = BadText

@@ -12,6 +12,16 @@ use Rattle.ags_places.specs.declared.source_error.SourceError.{SourceError}
 use Rattle.ags_places.specs.FaultText.{fault_text}
 use Rattle.ags_machfile.specs.declared.mach_error.MachError.{MachError}
 use Rattle.ags_machfile.specs.FaultText as machine
+use Rattle.ags_budget.specs.TimedText.{timed_text}
+use Rattle.ags_budget.specs.declared.answers.Timed.{Timed}
+use Rattle.ags_budget.specs.declared.answers.Timed.TheVariants.{Unsafe}
+use Rattle.ags_scale.specs.ScaledText.{scaled_text}
+use Rattle.ags_scale.specs.declared.answers.Scaled.{Scaled}
+use Rattle.ags_scale.specs.declared.answers.Scaled.TheVariants as scaled
+use Rattle.ags_tags.specs.declared.scale_errors.ScaleError.{ScaleError}
+use Rattle.ags_tags.specs.FaultText as scales
+use Rattle.ags_times.specs.declared.budget_errors.BudgetError.{BudgetError}
+use Rattle.ags_times.specs.FaultText as times
 use Rattle.ags_verdict.specs.VerdictText.{verdict_text}
 use Rattle.ags_verdict.specs.declared.verdicts.Verdict.{Verdict}
 use Rattle.ags_domain.specs.declared.values.Value.{Value}
@@ -44,6 +54,14 @@ fault_line error = fault_text error ++ codes "\n"
 abbrev pub script_fault_line : ScriptError → List ℕ
 script_fault_line error = error_text error ++ codes "\n"
 
+-- the text of times has that fault
+abbrev pub times_fault_line : BudgetError → List ℕ
+times_fault_line error = times.error_text error ++ codes "\n"
+
+-- the text of scales has that fault
+abbrev pub scales_fault_line : ScaleError → List ℕ
+scales_fault_line error = scales.error_text error ++ codes "\n"
+
 -- a word where there is one
 abbrev pub word_column : Option ℕ → List ℕ
 word_column None = codes "------"
@@ -73,3 +91,13 @@ workload_line size cards words rows cases =
 abbrev pub met_line : Met → List ℕ
 met_line Nothing = []
 met_line met = met_text met ++ codes "\n"
+
+-- what comes of bounds on order time, and nothing where the certificate isn't certified, which its verdict tells
+abbrev pub timed_line : Timed → List ℕ
+timed_line (Unsafe told) = []
+timed_line timed = timed_text timed ++ codes "\n"
+
+-- what comes of scales, and nothing where the certificate isn't certified, which its verdict tells
+abbrev pub scaled_line : Scaled → List ℕ
+scaled_line (scaled.Unsafe told) = []
+scaled_line answer = scaled_text answer ++ codes "\n"

@@ -1,9 +1,8 @@
 -- What clauses see of the program's own values.
-use Rattle.std.specs.Prelude.{ℕ, List}
+use Rattle.std.specs.Prelude.{◌≡◌, ℕ, List, length}
 use Rattle.ags_asm.specs.Source.{card_words}
 use Rattle.ags_files.specs.declared.sources.SourceFile.{SourceFile}
 pub use Rattle.ags_files.specs.Source.{HasImage, IsSourceRead}
-use Rattle.ags_ports.specs.declared.machines.Machine.{Machine}
 use Rattle.ags_script.specs.Script.{IsReadFor}
 use Rattle.ags_program.specs.declared.refusal.Refusal.{Refusal}
 use Rattle.ags_program.specs.declared.refusal.Refusal.TheVariants as refusal
@@ -15,7 +14,7 @@ use Rattle.ags_program.specs.declared.works.Sequel.TheVariants as loaded_sequel
 use Rattle.ags_program.specs.declared.works.Work.{Work}
 use Rattle.ags_program.specs.declared.works.Work.TheVariants as loaded
 use Rattle.ags_program.specs.Files.{Assembly, Pair}
-use Rattle.ags_program.specs.Text.{certificate_fault_line, fault_line, listing_fault_line, machine_fault_line, script_fault_line}
+use Rattle.ags_program.specs.Text.{certificate_fault_line, fault_line, listing_fault_line, machine_fault_line, scales_fault_line, script_fault_line, times_fault_line}
 use Rattle.ags_program.specs.Work as work
 
 -- a source that was read, as its bytes and what its cards define
@@ -31,6 +30,8 @@ abbrev pub sequel_of : Sequel → work.Sequel
 sequel_of loaded_sequel.ListingBefore = work.ListingBefore
 sequel_of (loaded_sequel.PlayBehind script) = work.PlayBehind script
 sequel_of (loaded_sequel.CountsInstead size) = work.CountsInstead size
+sequel_of (loaded_sequel.BudgetBehind budget) = work.BudgetBehind budget
+sequel_of (loaded_sequel.ScalesBehind scales) = work.ScalesBehind scales
 
 -- a work without where it lies in memory
 abbrev pub work_of : Work → work.Work
@@ -44,18 +45,21 @@ work_of (loaded.PlayScript machine made script) = work.PlayScript machine (card_
 abbrev pub IsReadSource : SourceFile → Type 0
 IsReadSource source = (order_codes : List ℕ) × IsSourceRead order_codes source.bytes.items source.made
 
--- what is so of what stands with a verdict for a machine
-abbrev pub IsSequelReady : Machine → Sequel → Type 0
-IsSequelReady machine loaded_sequel.ListingBefore = Unit {0}
-IsSequelReady machine (loaded_sequel.PlayBehind script) = IsReadFor machine script
-IsSequelReady machine (loaded_sequel.CountsInstead size) = Unit {0}
+-- what is so of what stands with the verdict of a pair: a script is one for its machine, a budget has a bound for each of its rows, and
+-- scales have tags for each
+abbrev pub IsSequelReady : ReadPair → Sequel → Type 0
+IsSequelReady pair loaded_sequel.ListingBefore = Unit {0}
+IsSequelReady pair (loaded_sequel.PlayBehind script) = IsReadFor pair.machine script
+IsSequelReady pair (loaded_sequel.CountsInstead size) = Unit {0}
+IsSequelReady pair (loaded_sequel.BudgetBehind budget) = length budget ≡ length pair.cert.rows
+IsSequelReady pair (loaded_sequel.ScalesBehind scales) = length scales.rows ≡ length pair.cert.rows
 
 -- what is so of a work that was loaded
 abbrev pub IsReady : Work → Type 0
 IsReady loaded.NoForm = Unit {0}
 IsReady (loaded.WriteText text source) = IsReadSource source
 IsReady (loaded.CompareImages made listed) = HasImage made
-IsReady (loaded.JudgePair pair sequel) = IsReadSource pair.source × IsSequelReady pair.machine sequel
+IsReady (loaded.JudgePair pair sequel) = IsReadSource pair.source × IsSequelReady pair sequel
 IsReady (loaded.PlayScript machine made script) = HasImage made × IsReadFor machine script
 
 -- the line of a refusal
@@ -65,6 +69,8 @@ line_of (refusal.Source error) = fault_line error
 line_of (refusal.Listing error) = listing_fault_line error
 line_of (refusal.Certificate error) = certificate_fault_line error
 line_of (refusal.Script error) = script_fault_line error
+line_of (refusal.Times error) = times_fault_line error
+line_of (refusal.Scales error) = scales_fault_line error
 
 -- the status of a refusal
 abbrev pub status_of : Refusal → Status
@@ -73,3 +79,5 @@ status_of (refusal.Source error) = BadSource
 status_of (refusal.Listing error) = BadText
 status_of (refusal.Certificate error) = BadCert
 status_of (refusal.Script error) = BadText
+status_of (refusal.Times error) = BadText
+status_of (refusal.Scales error) = BadText

@@ -20,6 +20,13 @@ use Rattle.ags_domain.specs.declared.values.Value.{Value}
 use Rattle.ags_verdict.specs.Verdict.{IsVerdict}
 use Rattle.ags_verdict.specs.declared.verdicts.Verdict.{Verdict}
 use Rattle.ags_verdict.specs.declared.verdicts.Verdict.TheVariants.{Certified, Refused}
+use Rattle.ags_budget.specs.Timed.{IsTimed}
+use Rattle.ags_budget.specs.declared.answers.Timed.{Timed}
+use Rattle.ags_budget.specs.declared.answers.Timed.TheVariants.{Within}
+use Rattle.ags_scale.specs.Scaled.{IsScaled}
+use Rattle.ags_scale.specs.declared.answers.Scaled.{Scaled}
+use Rattle.ags_scale.specs.declared.answers.Scaled.TheVariants.{Agree}
+use Rattle.ags_tags.specs.Tag.{Scaling}
 use Rattle.ags_image.specs.Tape.{tape_text}
 use Rattle.ags_xref.specs.Xref.{xref_text}
 use Rattle.ags_script.specs.declared.commands.Command.{Command}
@@ -28,15 +35,17 @@ use Rattle.ags_play.specs.Played.{Met, Nothing, IsPlayOf}
 use Rattle.ags_program.specs.declared.status.Status.{Status}
 use Rattle.ags_program.specs.declared.status.Status.TheVariants.{Done, No, BadWords}
 use Rattle.ags_program.specs.Files.{Assembly, Pair}
-use Rattle.ags_program.specs.Text.{compared_line, met_line, verdict_line, words_line, workload_line}
+use Rattle.ags_program.specs.Text.{compared_line, met_line, scaled_line, timed_line, verdict_line, words_line, workload_line}
 
 -- What stands with the verdict of a certificate for a source's words: the listing of the source before it; or behind it, where it
--- certifies, the play of a script with the certificate as its guard; or nothing, and where it certifies the counts of the workload of
--- a size stand in its place.
+-- certifies, the play of a script with the certificate as its guard, or what comes of the bounds of its rows, or of scales; or nothing,
+-- and where it certifies the counts of the workload of a size stand in its place.
 pub data Sequel : Type 0 where
   ListingBefore : Sequel
   PlayBehind : (commands : List Command) → Sequel
   CountsInstead : (size : ℕ) → Sequel
+  BudgetBehind : (bounds : List ℕ) → Sequel
+  ScalesBehind : (scales : Scaling) → Sequel
 
 -- what is done once the files are loaded
 pub data Work : Type 0 where
@@ -108,6 +117,32 @@ abbrev pub IsPlayedBy : Machine → (image : List (Option ℕ)) → Stated → L
 IsPlayedBy machine image cert commands (Certified rows cases) text status = IsGuardedPlay machine image cert commands (Certified rows cases) text status
 IsPlayedBy machine image cert commands (Refused refusal) text status = (text ≡ verdict_line (Refused refusal)) × (status ≡ No)
 
+-- the status of what comes of bounds on order time
+abbrev pub timed_status : Timed → Status
+timed_status (Within rows cases greatest) = Done
+timed_status timed = No
+
+-- The text is the line of the verdict, and behind it the line of what comes of these bounds of the rows for the image, where the
+-- certificate is certified; and this is the status of that.
+pub record IsBudgetJudged (machine : Machine) (image : List (Option ℕ)) (cert : Stated) (bounds : List ℕ) (verdict : Verdict Value) (text : List ℕ) (status : Status) : Type 0 where
+  pub timed : Timed
+  pub is_timed : IsTimed machine image (certificate_of cert) bounds timed
+  pub text_is : text ≡ verdict_line verdict ++ timed_line timed
+  pub status_is : status ≡ timed_status timed
+
+-- the status of what comes of scales
+abbrev pub scaled_status : Scaled → Status
+scaled_status (Agree rows cases) = Done
+scaled_status answer = No
+
+-- The text is the line of the verdict, and behind it the line of what comes of these scales for the image, where the certificate is
+-- certified; and this is the status of that.
+pub record IsScalesJudged (machine : Machine) (image : List (Option ℕ)) (cert : Stated) (scales : Scaling) (verdict : Verdict Value) (text : List ℕ) (status : Status) : Type 0 where
+  pub answer : Scaled
+  pub is_scaled : IsScaled machine image (certificate_of cert) scales answer
+  pub text_is : text ≡ verdict_line verdict ++ scaled_line answer
+  pub status_is : status ≡ scaled_status answer
+
 -- what is said of a workload's certificate: where it is certified, the counts of cards, words, rows and cases; where it is refused, the
 -- line of its verdict
 abbrev pub counts_line : (size : ℕ) → CardWords → Verdict Value → List ℕ
@@ -120,6 +155,8 @@ ComesWith ListingBefore pair image verdict text status =
     (text ≡ listing pair.assembly.bytes pair.assembly.defined ++ verdict_line verdict) × (status ≡ verdict_status verdict)
 ComesWith (PlayBehind commands) pair image verdict text status = IsPlayedBy pair.machine image pair.cert commands verdict text status
 ComesWith (CountsInstead size) pair image verdict text status = (text ≡ counts_line size pair.assembly.defined verdict) × (status ≡ verdict_status verdict)
+ComesWith (BudgetBehind bounds) pair image verdict text status = IsBudgetJudged pair.machine image pair.cert bounds verdict text status
+ComesWith (ScalesBehind scales) pair image verdict text status = IsScalesJudged pair.machine image pair.cert scales verdict text status
 
 -- The text and the status are those of the verdict of the pair's certificate for the image of the words of its source, and of what
 -- stands with it.

@@ -1,6 +1,6 @@
 //! The files of each command, loaded for a machine.
 
-ghost use Rattle.std.specs.Prelude.{◌≡◌, IfOk};
+ghost use Rattle.std.specs.Prelude.{◌≡◌, ◌≤◌, IfOk, length};
 ghost use Rattle.std.specs.Result.{result_map_both};
 ghost use Rattle.ags_command.specs.Command as command;
 ghost use Rattle.ags_command.specs.Views.{command_view};
@@ -10,9 +10,12 @@ ghost use Rattle.ags_program.specs.Loaded.{LoadsPair};
 ghost use Rattle.ags_program.specs.Program.{program, command_plan};
 ghost use Rattle.ags_program.specs.Views.{IsReadSource, IsReady, line_of, pair_of, status_of, work_of};
 
-use crate::files::{load_certificate, load_listing, load_script, load_source};
+use crate::files::{
+    load_certificate, load_listing, load_scales, load_script, load_source, load_times,
+};
 use crate::refusal::Refusal;
 use crate::works::{ReadPair, Sequel, Work};
+use ags_cert::Cert;
 use ags_command::{Command, SourceText};
 use ags_outside::Shelf;
 use ags_plan::Unloaded;
@@ -149,6 +152,60 @@ fn load_guarded<'a, S: Shelf>(
     })
 }
 
+/// How many rows a certificate has.
+fn row_count(cert: &Cert) -> u32
+    ensures count { result ≡ length cert.now.rows }
+    ensures few { result ≤ 20000 }
+{
+    cert.rows().len() as u32
+}
+
+/// Loads the source, the certificate and the text of times of these names, in this order, to be judged for a machine.
+fn load_budgeted<'a, S: Shelf>(
+    alloc: Global,
+    machine: Machine,
+    source: &'a str,
+    certificate: &'a str,
+    times: &'a str,
+    shelf: &mut S,
+) -> Result<Work, Unloaded<'a, Refusal>>
+    ensures loads { Loads program (S.told shelf.old) (command_plan machine (command.Budget source.entry.now certificate.entry.now times.entry.now))
+        (result_map_both work_of (end_of program line_of status_of) result) }
+    ensures ready { IfOk result IsReady }
+    ensures faults { HasCause (S.faults shelf.old) (S.faults shelf.new) (is_read_fault result) }
+    ensures absences { HasCause (S.absences shelf.old) (S.absences shelf.new) (is_absence result) }
+{
+    let pair = load_pair(alloc, machine, source, certificate, shelf)?;
+    let budget = load_times(alloc, row_count(&pair.cert), times, shelf)?;
+    Ok(Work::JudgePair {
+        pair,
+        sequel: Sequel::BudgetBehind(budget),
+    })
+}
+
+/// Loads the source, the certificate and the text of scales of these names, in this order, to be judged for a machine.
+fn load_scaled<'a, S: Shelf>(
+    alloc: Global,
+    machine: Machine,
+    source: &'a str,
+    certificate: &'a str,
+    scales: &'a str,
+    shelf: &mut S,
+) -> Result<Work, Unloaded<'a, Refusal>>
+    ensures loads { Loads program (S.told shelf.old) (command_plan machine (command.Scales source.entry.now certificate.entry.now scales.entry.now))
+        (result_map_both work_of (end_of program line_of status_of) result) }
+    ensures ready { IfOk result IsReady }
+    ensures faults { HasCause (S.faults shelf.old) (S.faults shelf.new) (is_read_fault result) }
+    ensures absences { HasCause (S.absences shelf.old) (S.absences shelf.new) (is_absence result) }
+{
+    let pair = load_pair(alloc, machine, source, certificate, shelf)?;
+    let declared = load_scales(alloc, &pair.machine, row_count(&pair.cert), scales, shelf)?;
+    Ok(Work::JudgePair {
+        pair,
+        sequel: Sequel::ScalesBehind(declared),
+    })
+}
+
 /// Loads the files of a command, for a machine.
 pub(crate) fn load_command<'a, S: Shelf>(
     alloc: Global,
@@ -177,5 +234,15 @@ pub(crate) fn load_command<'a, S: Shelf>(
             script,
             certificate,
         } => load_guarded(alloc, machine, source, script, certificate, shelf),
+        Command::Budget {
+            source,
+            certificate,
+            times,
+        } => load_budgeted(alloc, machine, source, certificate, times, shelf),
+        Command::Scales {
+            source,
+            certificate,
+            scales,
+        } => load_scaled(alloc, machine, source, certificate, scales, shelf),
     }
 }

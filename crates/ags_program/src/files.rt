@@ -1,6 +1,6 @@
 //! The files that commands read, each a kind of the program's: loaded as any program's, with the program's own refusals.
 
-ghost use Rattle.std.specs.Prelude.{◌≡◌, IfOk};
+ghost use Rattle.std.specs.Prelude.{◌≡◌, ◌≤◌, IfOk, length};
 ghost use Rattle.std.specs.Result.{result_map_both};
 ghost use Rattle.ags_outside.specs.Count.{HasCause};
 ghost use Rattle.ags_plan.specs.Loading.{LoadsFile, end_of, is_absence, is_read_fault};
@@ -17,6 +17,8 @@ use ags_outside::Shelf;
 use ags_plan::Unloaded;
 use ags_ports::Machine;
 use ags_script::Script;
+use ags_tags::Scales;
+use ags_times::Budget;
 use std::alloc::Global;
 
 /// Loads the machine of a file of that name.
@@ -92,4 +94,39 @@ pub(crate) fn load_script<'a, S: Shelf>(
     ensures absences { HasCause (S.absences shelf.old) (S.absences shelf.new) (is_absence result) }
 {
     refused_by(ags_files::load_script(alloc, machine, name, shelf))
+}
+
+/// Loads the text of times of a name, for a certificate of so many rows.
+pub(crate) fn load_times<'a, S: Shelf>(
+    alloc: Global,
+    rows: u32,
+    name: &'a str,
+    shelf: &mut S,
+) -> Result<Budget, Unloaded<'a, Refusal>>
+    requires { rows ≤ 20000 }
+    ensures same { S.told shelf.new ≡ S.told shelf.old }
+    ensures loads { LoadsFile program (S.told shelf.old) (file.Times rows) name.entry.now (result_map_both (λ budget. budget) (end_of program line_of status_of) result) }
+    ensures ready { IfOk result (λ budget. length budget ≡ rows) }
+    ensures faults { HasCause (S.faults shelf.old) (S.faults shelf.new) (is_read_fault result) }
+    ensures absences { HasCause (S.absences shelf.old) (S.absences shelf.new) (is_absence result) }
+{
+    refused_by(ags_files::load_times(alloc, rows, name, shelf))
+}
+
+/// Loads the text of scales of a name, for a machine and a certificate of so many rows.
+pub(crate) fn load_scales<'a, S: Shelf>(
+    alloc: Global,
+    machine: &Machine,
+    rows: u32,
+    name: &'a str,
+    shelf: &mut S,
+) -> Result<Scales, Unloaded<'a, Refusal>>
+    requires { rows ≤ 20000 }
+    ensures same { S.told shelf.new ≡ S.told shelf.old }
+    ensures loads { LoadsFile program (S.told shelf.old) (file.ScaleTags machine.now rows) name.entry.now (result_map_both (λ scales. scales) (end_of program line_of status_of) result) }
+    ensures ready { IfOk result (λ scales. length scales.rows ≡ rows) }
+    ensures faults { HasCause (S.faults shelf.old) (S.faults shelf.new) (is_read_fault result) }
+    ensures absences { HasCause (S.absences shelf.old) (S.absences shelf.new) (is_absence result) }
+{
+    refused_by(ags_files::load_scales(alloc, machine, rows, name, shelf))
 }

@@ -2,8 +2,8 @@
 //! plans and its works, and the files of a command line, or the texts of a workload, read into a work. `load_asked` loads
 //! what the plan in `specs/` says, and ties each fault to the shelf. It stands on `ags_command` for the forms of
 //! arguments, on `ags_plan` for the walk along files, on `ags_files` for loading each, and on `ags_load` for the texts of
-//! a workload; what the works make is defined by the words of `ags_compare`, `ags_image`, `ags_xref`, `ags_verdict` and
-//! `ags_play`.
+//! a workload; what the works make is defined by the words of `ags_compare`, `ags_image`, `ags_xref`, `ags_verdict`,
+//! `ags_play`, `ags_budget` and `ags_scale`.
 #![tactic(auto)]
 
 mod commands;

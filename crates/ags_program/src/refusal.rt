@@ -11,6 +11,8 @@ use ags_files::RefusesBy;
 use ags_listing::ListError;
 use ags_machfile::MachError;
 use ags_script::ScriptError;
+use ags_tags::ScaleError;
+use ags_times::BudgetError;
 use std::alloc::{AllocError, Global};
 
 /// Why a file is refused: the first fault of its text.
@@ -26,6 +28,10 @@ pub enum Refusal {
     Certificate(CertError),
     /// A script has this fault.
     Script(ScriptError),
+    /// A text of times has this fault.
+    Times(BudgetError),
+    /// A text of scales has this fault.
+    Scales(ScaleError),
 }
 
 impl Refusal {
@@ -39,6 +45,8 @@ impl Refusal {
             Refusal::Certificate(_) => Status::BadCert,
             Refusal::Listing(_) => Status::BadText,
             Refusal::Script(_) => Status::BadText,
+            Refusal::Times(_) => Status::BadText,
+            Refusal::Scales(_) => Status::BadText,
         }
     }
 
@@ -52,6 +60,8 @@ impl Refusal {
             Refusal::Listing(error) => format!(in alloc; "{error}\n"),
             Refusal::Certificate(error) => format!(in alloc; "{error}\n"),
             Refusal::Script(error) => format!(in alloc; "{error}\n"),
+            Refusal::Times(error) => format!(in alloc; "{error}\n"),
+            Refusal::Scales(error) => format!(in alloc; "{error}\n"),
         }
     }
 }
@@ -103,5 +113,25 @@ impl RefusesBy<ScriptError> for Refusal {
 
     fn refusal_of(fault: ScriptError) -> Refusal {
         Refusal::Script(fault)
+    }
+}
+
+impl RefusesBy<BudgetError> for Refusal {
+    ghost use Rattle.ags_program.specs.declared.refusal.Refusal.TheVariants as refusal;
+
+    ghost refusal_of = { refusal.Times };
+
+    fn refusal_of(fault: BudgetError) -> Refusal {
+        Refusal::Times(fault)
+    }
+}
+
+impl RefusesBy<ScaleError> for Refusal {
+    ghost use Rattle.ags_program.specs.declared.refusal.Refusal.TheVariants as refusal;
+
+    ghost refusal_of = { refusal.Scales };
+
+    fn refusal_of(fault: ScaleError) -> Refusal {
+        Refusal::Scales(fault)
     }
 }

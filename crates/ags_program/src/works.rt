@@ -1,11 +1,13 @@
 //! What is loaded for a command line, and then done.
 
 use ags_asm::Assembled;
+use ags_budget::Budget;
 use ags_cert::Cert;
 use ags_command::SourceText;
 use ags_files::SourceFile;
 use ags_image::Image;
 use ags_ports::Machine;
+use ags_scale::Scales;
 use ags_script::Script;
 
 /// A source and a certificate that were read for a machine.
@@ -28,6 +30,10 @@ pub enum Sequel {
     PlayBehind(Script),
     /// The counts of the workload of this size stand in its place, where it certifies.
     CountsInstead(u32),
+    /// Behind it, where it certifies, stands what comes of the bounds of its rows on order time.
+    BudgetBehind(Budget),
+    /// Behind it, where it certifies, stands what comes of scales.
+    ScalesBehind(Scales),
 }
 
 /// What is loaded for a command line.

@@ -80,7 +80,7 @@ fn long_file(rt: &impl Abort, alloc: Global) -> Vec<u8> {
 }
 
 /// Arguments that ask for no command.
-const BAD_WORDS: [&str; 24] = [
+const BAD_WORDS: [&str; 28] = [
     "",
     "assemble",
     "workload",
@@ -101,6 +101,10 @@ const BAD_WORDS: [&str; 24] = [
     "run S P M N",
     "guard S P",
     "guard S P C M N",
+    "budget S C",
+    "budget S C T M N",
+    "scales S C",
+    "scales S C K M N",
     "RUN S P",
     "run assemble",
     "ASSEMBLE S",

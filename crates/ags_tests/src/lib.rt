@@ -5,6 +5,8 @@
 #[cfg(test)]
 mod answer_tests;
 #[cfg(test)]
+mod budget_tests;
+#[cfg(test)]
 mod certify_tests;
 #[cfg(test)]
 mod command_lines;
@@ -24,6 +26,8 @@ mod order_tests;
 mod panel_tests;
 #[cfg(test)]
 mod piece_tests;
+#[cfg(test)]
+mod scales_tests;
 #[cfg(test)]
 mod source_tests;
 #[cfg(test)]

@@ -1,3 +1,4 @@
+pub mod BudgetLemmas
 pub mod CertifiedLineLemmas
 pub mod CertifyLemmas
 pub mod CompareLemmas
@@ -8,5 +9,6 @@ pub mod ListedLemmas
 pub mod MainLemmas
 pub mod PlayLemmas
 pub mod PromiseLemmas
+pub mod ScaledLemmas
 pub mod WorkloadLemmas
 pub mod WriteLemmas

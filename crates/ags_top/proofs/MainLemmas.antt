@@ -1,7 +1,7 @@
 -- What `ags_main` says, from its content: command by command and status by status.
 use Rattle.std.proofs.Common.{◌≡◌, ℕ, ◌≤◌, List, ◌++◌, length, ◌⊎◌, Option, Some, None, Ok, refl, sym, ap, subst, ◌∙◌, inl, inr}
 use Rattle.ags_command.specs.declared.source_texts.SourceText.{SourceText}
-use Rattle.ags_command.specs.Command.{Command, Write, Compare, Certify, Run, Guard, CommandLine, line_arguments, Asked, OnMachine, Workload, IsAsked, asked_arguments, asked_of, AreNoForm}
+use Rattle.ags_command.specs.Command.{Command, Write, Compare, Certify, Run, Guard, Budget, Scales, CommandLine, line_arguments, Asked, OnMachine, Workload, IsAsked, asked_arguments, asked_of, AreNoForm}
 use Rattle.ags_command.proofs.AskedLemmas.{asked_of-asked_arguments, asked_arguments-asked_of}
 use Rattle.ags_load.specs.Workload.{cert_text}
 use Rattle.ags_outside.specs.ToldFile.{Stored}
@@ -21,6 +21,8 @@ use Rattle.ags_compare.proofs.ComparisonLemmas.{equal_is_one}
 use Rattle.ags_image.specs.Image.{IsImageOf}
 use Rattle.ags_listing.specs.Listing.{listing}
 use Rattle.ags_listing.specs.Reads.{Reads}
+use Rattle.ags_budget.specs.declared.answers.Timed.{Timed}
+use Rattle.ags_budget.specs.declared.answers.Timed.TheVariants.{Within, Unsafe, Over}
 use Rattle.ags_cert.specs.Cert.{certificate_of}
 use Rattle.ags_certread.proofs.SuitLemmas.{suits}
 use Rattle.ags_cert.specs.Text.{IsCertOf}
@@ -42,15 +44,19 @@ use Rattle.ags_ports.specs.Machine.{standard_machine}
 use Rattle.ags_script.specs.declared.commands.Command.{Command as ScriptCommand}
 use Rattle.ags_script.specs.Script.{IsScript}
 use Rattle.ags_play.specs.Played.{Met, Nothing}
+use Rattle.ags_scale.specs.declared.answers.Scaled.{Scaled}
+use Rattle.ags_scale.specs.declared.answers.Scaled.TheVariants as scaled
+use Rattle.ags_top.proofs.BudgetLemmas.{budget_told, kept_where_done}
+use Rattle.ags_top.proofs.ScaledLemmas.{scales_told, tagged_where_done}
 use Rattle.ags_top.proofs.DeclaredLemmas.{guarded_told, declared_of}
 use Rattle.ags_program.specs.declared.status.Status.{Status}
 use Rattle.ags_program.specs.declared.status.Status.TheVariants.{Done, No, BadMachine, BadSource, BadWords, BadCert, BadText}
-use Rattle.ags_program.specs.Files.{Kind, MachineFile, Source, Listing, Certificate, Script, limit_of, Refuses, refused_status}
-use Rattle.ags_top.specs.Outcome.{Call, EndsWith, IsMachineOf, WritesWhatIsDefined, IsComparedOn, ComparesWhatIsDefined, IsJudgedOn, JudgesWhatIsDefined, IsCertifiedOn, CertifiesWhatIsSafe, TellsMachine, TellsAccepted, CertifiesAccepted, IsWorkloadJudged, IsWorkloadCertified, JudgesWorkload, CertifiesWorkload, BadCertExactly, IsOneImage, EqualsWhatIsDefined, IsShownOn, PlaysWhatIsDefined, IsGuardedOn, GuardsWhatIsDefined, IsDeclaredOn, PlaysWhatIsDeclared, DoneAlways, NoExactly, BadWordsExactly, FindsFault, BadMachineExactly, BadSourceExactly, BadTextExactly}
+use Rattle.ags_program.specs.Files.{Kind, MachineFile, Source, Listing, Certificate, Script, Times, ScaleTags, limit_of, Refuses, refused_status}
+use Rattle.ags_top.specs.Outcome.{Call, EndsWith, IsMachineOf, WritesWhatIsDefined, IsComparedOn, ComparesWhatIsDefined, IsJudgedOn, JudgesWhatIsDefined, IsCertifiedOn, CertifiesWhatIsSafe, TellsMachine, TellsAccepted, CertifiesAccepted, IsWorkloadJudged, IsWorkloadCertified, JudgesWorkload, CertifiesWorkload, BadCertExactly, IsOneImage, EqualsWhatIsDefined, IsShownOn, PlaysWhatIsDefined, IsGuardedOn, GuardsWhatIsDefined, IsDeclaredOn, PlaysWhatIsDeclared, IsBudgetedOn, JudgesBudget, BoundsOrderTime, IsScaledOn, JudgesScales, KeepsDeclaredScales, DoneAlways, NoExactly, BadWordsExactly, FindsFault, BadMachineExactly, BadSourceExactly, BadTextExactly}
 use Rattle.ags_program.specs.Program.{program, command_plan, plan_on, workload_plan, asked_plan, plan_of}
 use Rattle.ags_top.specs.ProgramLaws.{IsWorkStatus, comes_to_no_form, lawful_program, not_refused_work}
 use Rattle.ags_program.specs.Text.{words_line, certificate_fault_line, fault_line, machine_fault_line, verdict_line, workload_line}
-use Rattle.ags_program.specs.Work.{Work, NoForm, WriteText, CompareImages, JudgePair, PlayScript, Sequel, ListingBefore, PlayBehind, CountsInstead, ComesWith as VerdictComesWith, IsTextOf, IsJudgementOf, IsPlayedBy, compared_status, counts_line, met_status, verdict_status, Makes}
+use Rattle.ags_program.specs.Work.{Work, NoForm, WriteText, CompareImages, JudgePair, PlayScript, Sequel, ListingBefore, PlayBehind, CountsInstead, BudgetBehind, ScalesBehind, ComesWith as VerdictComesWith, IsTextOf, IsJudgementOf, IsPlayedBy, compared_status, counts_line, met_status, scaled_status, timed_status, verdict_status, Makes}
 
 -- ---- a run that ends with the status of a work came to a work
 
@@ -268,10 +274,21 @@ no_form_work (JudgePair pair sequel) text makes = absurd (never sequel makes.ver
     never_play commands (Certified rows cases) played = never_met played.met played.status_is
     never_play commands (Refused refusal) played = let is = played.1 in absurd cc
 
+    never_timed : (timed : Timed) → BadWords ≡ timed_status timed → ⊥
+    never_timed (Within rows cases greatest) is = absurd cc
+    never_timed (Unsafe told) is = absurd cc
+    never_timed (Over row word x v next needs bound) is = absurd cc
+
+    never_scaled : (answer : Scaled) → BadWords ≡ scaled_status answer → ⊥
+    never_scaled (scaled.Agree rows cases) is = absurd cc
+    never_scaled _ is = absurd cc
+
     never : (other : Sequel) (verdict : Verdict Value) → VerdictComesWith other pair makes.image verdict text BadWords → ⊥
     never ListingBefore verdict comes = never_verdict verdict comes.1
     never (PlayBehind commands) verdict comes = never_play commands verdict comes
     never (CountsInstead size) verdict comes = never_verdict verdict comes.1
+    never (BudgetBehind bounds) verdict comes = never_timed comes.timed comes.status_is
+    never (ScalesBehind declared) verdict comes = never_scaled comes.answer comes.status_is
 
 module _ (call : Call) (ends : Ends program (IsAnswer program call.told (plan_of call.arguments)) call.old call.new call.result) where
   -- what a run with that status answered
@@ -423,6 +440,34 @@ module _ (call : Call) (ends : Ends program (IsAnswer program call.told (plan_of
       declared_of machine source_bytes script_bytes certificate_bytes text status valid
       (guarded_told call.told machine source script certificate source_bytes script_bytes certificate_bytes text status work known also too way makes))
 
+  pub judges_budget : JudgesBudget call
+  judges_budget source certificate times source_bytes certificate_bytes times_bytes held machine_file is asked known too also holds =
+      let (machine, machine_is, (text, budgeted, sent)) =
+      work_of_either machine_file (Budget source certificate times) (λ machine text status. IsBudgetedOn machine source_bytes certificate_bytes times_bytes text status) is asked
+      (λ machine text status work valid way makes. budget_told call.told machine source certificate times source_bytes certificate_bytes times_bytes text status work known too also way makes) in
+      (machine, machine_is, (text, budgeted, took held text holds sent))
+
+  pub bounds_order_time : BoundsOrderTime call
+  unfolding IsWorkStatus
+  bounds_order_time source certificate times source_bytes certificate_bytes times_bytes machine_file is asked known too also =
+      let (machine, machine_is, valid, (text, work, way, makes, sent)) = work_with Done machine_file (Budget source certificate times) tt is asked in
+      let budgeted = budget_told call.told machine source certificate times source_bytes certificate_bytes times_bytes text Done work known too also way makes in
+      (machine, machine_is, (text, kept_where_done machine source_bytes certificate_bytes times_bytes text valid budgeted, sent))
+
+  pub judges_scales : JudgesScales call
+  judges_scales source certificate scales source_bytes certificate_bytes scales_bytes held machine_file is asked known too also holds =
+      let (machine, machine_is, (text, judged, sent)) =
+      work_of_either machine_file (Scales source certificate scales) (λ machine text status. IsScaledOn machine source_bytes certificate_bytes scales_bytes text status) is asked
+      (λ machine text status work valid way makes. scales_told call.told machine source certificate scales source_bytes certificate_bytes scales_bytes text status work known too also way makes) in
+      (machine, machine_is, (text, judged, took held text holds sent))
+
+  pub keeps_declared_scales : KeepsDeclaredScales call
+  unfolding IsWorkStatus
+  keeps_declared_scales source certificate scales source_bytes certificate_bytes scales_bytes machine_file is asked known too also =
+      let (machine, machine_is, valid, (text, work, way, makes, sent)) = work_with Done machine_file (Scales source certificate scales) tt is asked in
+      let judged = scales_told call.told machine source certificate scales source_bytes certificate_bytes scales_bytes text Done work known too also way makes in
+      (machine, machine_is, (text, tagged_where_done machine source_bytes certificate_bytes scales_bytes text valid judged, sent))
+
   -- what is exact of a status is so of the run's end
   exactly_with : (text : List ℕ) (status : Status) → EndsExactly program call.old call.new call.result text status → EndsWith call.result status
   exactly_with text status (inl so) = inl so.0
@@ -496,48 +541,51 @@ module _ (call : Call) (ends : Ends program (IsAnswer program call.told (plan_of
       (refused_exactly program plan_of lawful_program call.told call.arguments call.old call.new call.result ends kind).always name bytes line given
       (record { short = short; refuses = refuses })
 
+  -- what is found where a file was refused with that status: where one kind alone has it, a file of that kind
+  FindsOne : Status → Type 0
+  FindsOne BadMachine = FindsFault MachineFile call
+  FindsOne BadSource = (machine : Machine) × FindsFault (Source machine) call
+  FindsOne BadCert = (machine : Machine) × FindsFault (Certificate machine) call
+  FindsOne status = Unit {0}
+
+  found_one : (kind : Kind) → FindsFault kind call → FindsOne (refused_status kind)
+  unfolding FindsOne
+  found_one MachineFile found = found
+  found_one (Source machine) found = (machine, found)
+  found_one Listing found = tt
+  found_one (Certificate machine) found = (machine, found)
+  found_one (Script machine) found = tt
+  found_one (Times rows) found = tt
+  found_one (ScaleTags machine rows) found = tt
+
+  -- the kind of a file that was refused with that status, where there is one kind of it
+  of_kind : (status : Status) → (kind : Kind) × (refused_status kind ≡ status) × FindsFault kind call → FindsOne status
+  of_kind status (kind, is, found) = subst FindsOne is (found_one kind found)
+
   pub bad_machine_exactly : BadMachineExactly call
+  unfolding FindsOne
   bad_machine_exactly = record {
-    only = λ is. of_kind (refused_file BadMachine ((refused_exactly program plan_of lawful_program call.told call.arguments call.old call.new call.result ends MachineFile).only is));
+    only = λ is. of_kind BadMachine (refused_file BadMachine ((refused_exactly program plan_of lawful_program call.told call.arguments call.old call.new call.result ends MachineFile).only is));
     always = λ name bytes error given short faulty.
         refused_always MachineFile name bytes (machine_fault_line error) given short (record { error = error; faulty = faulty; line_is = refl });
   }
-    where
-      of_kind : (kind : Kind) × (refused_status kind ≡ BadMachine) × FindsFault kind call → FindsFault MachineFile call
-      of_kind (MachineFile, is, found) = found
-      of_kind (Source machine, is, found) = absurd cc
-      of_kind (Listing, is, found) = absurd cc
-      of_kind (Certificate machine, is, found) = absurd cc
-      of_kind (Script machine, is, found) = absurd cc
 
   pub bad_source_exactly : BadSourceExactly call
+  unfolding FindsOne
   bad_source_exactly = record {
-    only = λ is. of_kind (refused_file BadSource ((refused_exactly program plan_of lawful_program call.told call.arguments call.old call.new call.result ends (Source standard_machine)).only is));
+    only = λ is. of_kind BadSource (refused_file BadSource ((refused_exactly program plan_of lawful_program call.told call.arguments call.old call.new call.result ends (Source standard_machine)).only is));
     always = λ machine name bytes error given short faulty.
         refused_always (Source machine) name bytes (fault_line error) given short (record { error = error; faulty = faulty; line_is = refl });
   }
-    where
-      of_kind : (kind : Kind) × (refused_status kind ≡ BadSource) × FindsFault kind call → (machine : Machine) × FindsFault (Source machine) call
-      of_kind (Source machine, is, found) = (machine, found)
-      of_kind (MachineFile, is, found) = absurd cc
-      of_kind (Listing, is, found) = absurd cc
-      of_kind (Certificate machine, is, found) = absurd cc
-      of_kind (Script machine, is, found) = absurd cc
 
   pub bad_cert_exactly : BadCertExactly call
+  unfolding FindsOne
   bad_cert_exactly = record {
-    only = λ is. of_kind (refused_file BadCert ((refused_exactly program plan_of lawful_program call.told call.arguments call.old call.new call.result ends (Certificate standard_machine)).only is));
+    only = λ is. of_kind BadCert (refused_file BadCert ((refused_exactly program plan_of lawful_program call.told call.arguments call.old call.new call.result ends (Certificate standard_machine)).only is));
     always = λ machine name bytes line kind given short faulty.
         refused_always (Certificate machine) name bytes (certificate_fault_line (certificate.At line kind)) given short
         (record { number = line; kind = kind; faulty = faulty; line_is = refl });
   }
-    where
-      of_kind : (kind : Kind) × (refused_status kind ≡ BadCert) × FindsFault kind call → (machine : Machine) × FindsFault (Certificate machine) call
-      of_kind (Certificate machine, is, found) = (machine, found)
-      of_kind (MachineFile, is, found) = absurd cc
-      of_kind (Source machine, is, found) = absurd cc
-      of_kind (Listing, is, found) = absurd cc
-      of_kind (Script machine, is, found) = absurd cc
 
   pub bad_text_exactly : BadTextExactly call
   bad_text_exactly = record {

@@ -10,7 +10,7 @@ use Rattle.ags_top.specs.Outcome.{Call}
 use Rattle.ags_top.specs.ProgramLaws.{lawful_program}
 use Rattle.ags_top.specs.Promises.{Counts, Promises}
 use Rattle.ags_top.proofs.CertifiedLineLemmas.{safe_where_certified_is_written}
-use Rattle.ags_top.proofs.MainLemmas.{writes_what_is_defined, compares_what_is_defined, equals_what_is_defined, judges_what_is_defined, certifies_what_is_safe, certifies_accepted, certifies_workload, judges_workload, bad_cert_exactly, plays_what_is_defined, guards_what_is_defined, plays_what_is_declared, done_always, no_exactly, bad_words_exactly, bad_machine_exactly, bad_source_exactly, bad_text_exactly}
+use Rattle.ags_top.proofs.MainLemmas.{judges_scales, keeps_declared_scales, writes_what_is_defined, compares_what_is_defined, equals_what_is_defined, judges_what_is_defined, certifies_what_is_safe, certifies_accepted, certifies_workload, judges_workload, bad_cert_exactly, plays_what_is_defined, guards_what_is_defined, plays_what_is_declared, done_always, no_exactly, bad_words_exactly, bad_machine_exactly, bad_source_exactly, bad_text_exactly, bounds_order_time, judges_budget}
 
 pub promises : (call : Call) (counts : Counts) → Ends program (IsAnswer program call.told (plan_of call.arguments)) call.old call.new call.result
     → CountsOnShelf program call.told (plan_of call.arguments) call.old call.new call.result counts.faults counts.faults_now counts.absences counts.absences_now
@@ -31,6 +31,10 @@ promises call counts ends shelf sink = record {
   certified_line = safe_where_certified_is_written call ends;
   workload = certifies_workload call ends;
   workload_judged = judges_workload call ends;
+  order_time = bounds_order_time call ends;
+  budget_judged = judges_budget call ends;
+  scales = keeps_declared_scales call ends;
+  scales_judged = judges_scales call ends;
   accepted = certifies_accepted call ends;
   done = done_always call ends;
   no = no_exactly call ends;

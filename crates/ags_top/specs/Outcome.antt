@@ -16,6 +16,8 @@ use Rattle.ags_places.specs.Limit.{source_limit}
 use Rattle.ags_asm.specs.Source.{CardWords, Defines, IsFaulty, placed_words}
 use Rattle.ags_cert.specs.Cert.{Stated, certificate_of}
 use Rattle.ags_certtext.specs.declared.cert_error.CertKind.{CertKind}
+use Rattle.ags_budget.specs.Spent.{KeepsBounds}
+use Rattle.ags_budget.specs.declared.answers.Timed.TheVariants.{Within}
 use Rattle.ags_cert.specs.Text.{IsCertOf, IsFaultyCert}
 use Rattle.ags_domain.specs.Value.{value_meaning}
 use Rattle.ags_domain.specs.declared.values.Value.{Value}
@@ -28,6 +30,12 @@ use Rattle.ags_ports.specs.declared.machines.Machine.{Machine}
 use Rattle.ags_ports.specs.Machine.{IsMachine, standard_machine}
 use Rattle.ags_safe.specs.Accepted.{Accepted}
 use Rattle.ags_safe.specs.Safe.{Safe}
+use Rattle.ags_scale.specs.Tagged.{KeepsScales}
+use Rattle.ags_scale.specs.declared.answers.Scaled.TheVariants.{Agree}
+use Rattle.ags_tags.specs.Tag.{Scaling}
+use Rattle.ags_tags.specs.Text.{IsScalesOf}
+use Rattle.ags_times.specs.Budget.{IsGreatest}
+use Rattle.ags_times.specs.Text.{IsBudgetOf}
 use Rattle.ags_verdict.specs.Verdict.{IsVerdict}
 use Rattle.ags_verdict.specs.declared.verdicts.Refusal.{Refusal}
 use Rattle.ags_verdict.specs.declared.verdicts.Verdict.TheVariants.{Certified, Refused}
@@ -42,8 +50,8 @@ use Rattle.ags_program.specs.declared.status.Status.{Status}
 use Rattle.ags_program.specs.declared.status.Status.TheVariants.{Done, No, BadMachine, BadSource, BadWords, BadCert, BadText}
 use Rattle.ags_program.specs.Files.{Kind, MachineFile, Source, Certificate, limit_of, Refuses, refused_status}
 use Rattle.ags_program.specs.Program.{program, plan_of}
-use Rattle.ags_program.specs.Text.{certified_word, met_line, verdict_line, words_line, workload_line}
-use Rattle.ags_program.specs.Work.{Work, ListingBefore, PlayBehind, CountsInstead, IsTextOf, IsComparisonOf, IsJudgementOf, IsShownBy, met_status, Makes}
+use Rattle.ags_program.specs.Text.{certified_word, met_line, scaled_line, timed_line, verdict_line, words_line, workload_line}
+use Rattle.ags_program.specs.Work.{Work, ListingBefore, PlayBehind, CountsInstead, BudgetBehind, ScalesBehind, IsTextOf, IsComparisonOf, IsJudgementOf, IsShownBy, met_status, Makes}
 use Rattle.ags_listing.specs.Listing.{listing}
 
 -- One call of `ags_main`: what the shelf tells, the arguments, what the sink told before and after it, and the status.
@@ -328,6 +336,117 @@ abbrev pub CertifiesWorkload : Call → Type 0
 CertifiesWorkload call = (size : ℕ) → (1 ≤ size) × (size ≤ 400) → call.result ≡ Done → call.arguments ≡ asked_arguments (command.Workload size)
     → (text : List ℕ) × IsWorkloadCertified size text × (call.new ≡ appended call.old text)
 
+-- The source defines words, the certificate is one for the machine's registers, the text of times gives these bounds, one for each of
+-- its rows, and this is the text and the status of the verdict and of what comes of the bounds.
+pub record IsBudgetedOn (machine : Machine) (source certificate times text : List ℕ) (status : Status) : Type 0 where
+  pub defined : CardWords
+  pub defines : Defines machine.codes source defined
+  pub cert : Stated
+  pub is_cert : IsCertOf machine.ports certificate cert
+  pub bounds : List ℕ
+  pub is_budget : IsBudgetOf (length cert.rows) times bounds
+  pub budgeted : IsJudgementOf (record { machine = machine; assembly = record { bytes = source; defined = defined }; cert = cert }) (BudgetBehind bounds) text status
+
+-- Where the run of `budget` ends with Done or with No, and the shelf and the sink tell, the sink took the verdict of the certificate for
+-- the words that the source defines, and, where it is certified, what comes of the bounds of its rows: the greatest, or the first case
+-- that needs more than its row's.
+abbrev pub JudgesBudget : Call → Type 0
+JudgesBudget call = (source certificate times source_bytes certificate_bytes times_bytes held : List ℕ) (machine_file : Option (List ℕ))
+    → (call.result ≡ Done) ⊎ (call.result ≡ No)
+    → call.arguments ≡ line_arguments (record { command = command.Budget source certificate times; machine = machine_file }) → call.told source ≡ Stored source_bytes
+    → call.told certificate ≡ Stored certificate_bytes → call.told times ≡ Stored times_bytes → call.old ≡ Some held
+    → (machine : Machine) × IsMachineOf call.told machine_file machine
+    × ((text : List ℕ) × IsBudgetedOn machine source_bytes certificate_bytes times_bytes text call.result × (call.new ≡ Some (held ++ text)))
+
+-- The machine's tables are valid. The source defines words, the certificate is one for the machine's registers, and the text of times
+-- gives these bounds, one for each of its rows. The certificate is accepted for the image of exactly these words, so that every run is
+-- safe, over every list of events that it declares; and at each state of each such run the order time since the start, or since the
+-- last pulse that ended a wait, is within the bound of each row that held the state then, and within 20,000 microseconds. The text
+-- says that the certificate is certified, with the numbers of its rows and of its cases, which is its verdict, and behind it which is
+-- the greatest bound.
+pub record IsBoundedOn (machine : Machine) (source certificate times text : List ℕ) : Type 0 where
+  pub valid : IsMachine machine
+  pub defined : CardWords
+  pub defines : Defines machine.codes source defined
+  pub image : List (Option ℕ)
+  pub image_is : IsImageOf (placed_words defined) image
+  pub cert : Stated
+  pub is_cert : IsCertOf machine.ports certificate cert
+  pub bounds : List ℕ
+  pub is_budget : IsBudgetOf (length cert.rows) times bounds
+  pub accepted : Accepted value_meaning machine image (certificate_of cert)
+  pub safe : Safe value_meaning machine image (certificate_of cert)
+  pub kept : KeepsBounds value_meaning machine image (certificate_of cert) bounds
+  pub cases : ℕ
+  pub verdict : IsVerdict value_meaning machine image (certificate_of cert) (Certified (length cert.rows) cases)
+  pub greatest : ℕ
+  pub is_greatest : IsGreatest bounds greatest
+  pub text_is : text ≡ verdict_line (Certified (length cert.rows) cases) ++ timed_line (Within (length cert.rows) cases greatest)
+
+-- The headline of `budget`: where its run is done, and the shelf tells, the order time of each cycle stays within the bounds in every run of
+-- the words that the source defines, and every such run is safe; and where the sink tells, it took that they are certified, and the
+-- greatest bound.
+abbrev pub BoundsOrderTime : Call → Type 0
+BoundsOrderTime call = (source certificate times source_bytes certificate_bytes times_bytes : List ℕ) (machine_file : Option (List ℕ)) → call.result ≡ Done
+    → call.arguments ≡ line_arguments (record { command = command.Budget source certificate times; machine = machine_file }) → call.told source ≡ Stored source_bytes
+    → call.told certificate ≡ Stored certificate_bytes → call.told times ≡ Stored times_bytes
+    → (machine : Machine) × IsMachineOf call.told machine_file machine
+    × ((text : List ℕ) × IsBoundedOn machine source_bytes certificate_bytes times_bytes text × (call.new ≡ appended call.old text))
+
+-- The source defines words, the certificate is one for the machine's registers, the text of scales declares these tags for them and for
+-- each of its rows, and this is the text and the status of the verdict and of what comes of the scales.
+pub record IsScaledOn (machine : Machine) (source certificate scales text : List ℕ) (status : Status) : Type 0 where
+  pub defined : CardWords
+  pub defines : Defines machine.codes source defined
+  pub cert : Stated
+  pub is_cert : IsCertOf machine.ports certificate cert
+  pub declared : Scaling
+  pub is_scales : IsScalesOf machine.ports (length cert.rows) scales declared
+  pub scaled : IsJudgementOf (record { machine = machine; assembly = record { bytes = source; defined = defined }; cert = cert }) (ScalesBehind declared) text status
+
+-- Where the run of `scales` ends with Done or with No, and the shelf and the sink tell, the sink took the verdict of the certificate for
+-- the words that the source defines, and, where it is certified, what comes of the scales: that they agree, that no row holds the start
+-- with raw tags, or the first case that mixes tags or loses them.
+abbrev pub JudgesScales : Call → Type 0
+JudgesScales call = (source certificate scales source_bytes certificate_bytes scales_bytes held : List ℕ) (machine_file : Option (List ℕ))
+    → (call.result ≡ Done) ⊎ (call.result ≡ No)
+    → call.arguments ≡ line_arguments (record { command = command.Scales source certificate scales; machine = machine_file }) → call.told source ≡ Stored source_bytes
+    → call.told certificate ≡ Stored certificate_bytes → call.told scales ≡ Stored scales_bytes → call.old ≡ Some held
+    → (machine : Machine) × IsMachineOf call.told machine_file machine
+    × ((text : List ℕ) × IsScaledOn machine source_bytes certificate_bytes scales_bytes text call.result × (call.new ≡ Some (held ++ text)))
+
+-- The machine's tables are valid. The source defines words, the certificate is one for the machine's registers, and the text of scales
+-- declares these tags. The certificate is accepted for the image of exactly these words, so that every run is safe, over every list of
+-- events that it declares; and no tagged run over such a run faults, so that no sum, store or output ever has two unlike tags meet, and
+-- each sum, shift and product stands for what its scales say. The text says that the certificate is certified, with the numbers of its
+-- rows and of its cases, which is its verdict, and behind it that the scales agree.
+pub record IsTaggedOn (machine : Machine) (source certificate scales text : List ℕ) : Type 0 where
+  pub valid : IsMachine machine
+  pub defined : CardWords
+  pub defines : Defines machine.codes source defined
+  pub image : List (Option ℕ)
+  pub image_is : IsImageOf (placed_words defined) image
+  pub cert : Stated
+  pub is_cert : IsCertOf machine.ports certificate cert
+  pub declared : Scaling
+  pub is_scales : IsScalesOf machine.ports (length cert.rows) scales declared
+  pub accepted : Accepted value_meaning machine image (certificate_of cert)
+  pub safe : Safe value_meaning machine image (certificate_of cert)
+  pub kept : KeepsScales value_meaning machine image (certificate_of cert) declared
+  pub cases : ℕ
+  pub verdict : IsVerdict value_meaning machine image (certificate_of cert) (Certified (length cert.rows) cases)
+  pub text_is : text ≡ verdict_line (Certified (length cert.rows) cases) ++ scaled_line (Agree (length cert.rows) cases)
+
+-- The headline of `scales`: where its run is done, and the shelf tells, no run of the words that the source defines adds, stores or gives
+-- words of unlike scales, and every such run is safe; and where the sink tells, it took that they are certified, and that the scales
+-- agree.
+abbrev pub KeepsDeclaredScales : Call → Type 0
+KeepsDeclaredScales call = (source certificate scales source_bytes certificate_bytes scales_bytes : List ℕ) (machine_file : Option (List ℕ)) → call.result ≡ Done
+    → call.arguments ≡ line_arguments (record { command = command.Scales source certificate scales; machine = machine_file }) → call.told source ≡ Stored source_bytes
+    → call.told certificate ≡ Stored certificate_bytes → call.told scales ≡ Stored scales_bytes
+    → (machine : Machine) × IsMachineOf call.told machine_file machine
+    × ((text : List ℕ) × IsTaggedOn machine source_bytes certificate_bytes scales_bytes text × (call.new ≡ appended call.old text))
+
 -- Where the walk over told files comes to a work that is done with Done, the run ends so, unless it stops: each file on the way
 -- is there, within its limit and without a fault.
 abbrev pub DoneAlways : Call → Type 0
@@ -344,7 +463,8 @@ pub record AnswersNo (call : Call) : Type 0 where
   pub sent : call.new ≡ appended call.old text
 
 -- No comes exactly where the walk comes to a work whose answer is no: a listing has other words than its source, a certificate is
--- refused by its verdict, or a play meets a start or a word that its guard doesn't declare
+-- refused by its verdict, a play meets a start or a word that its guard doesn't declare, a case needs more than its row's bound, or
+-- scales don't agree
 pub record NoExactly (call : Call) : Type 0 where
   pub only : call.result ≡ No → AnswersNo call
   pub always : (work : Work) (text : List ℕ) → EndsAt program Tells call.told (plan_of call.arguments) (WorkAt work) → Makes work text No → EndsWith call.result No
@@ -388,8 +508,9 @@ pub record BadCertExactly (call : Call) : Type 0 where
   pub always : (machine : Machine) (name bytes : List ℕ) (line : ℕ) (kind : CertKind) → IsGiven program Tells call.told (plan_of call.arguments) (Certificate machine) name bytes
       → length bytes ≤ certificate_limit → IsFaultyCert machine.ports bytes line kind → EndsWith call.result BadCert
 
--- BadText comes exactly where the walk comes to a file of a kind that is refused with it, as a listing or a script, and that has a
--- faulty line, whose number and fault are printed
+-- BadText comes exactly where the walk comes to a file of a kind that is refused with it, as a listing, a script or a text of times or
+-- of scales, and
+-- that has a faulty line, whose number and fault are printed
 pub record BadTextExactly (call : Call) : Type 0 where
   pub only : call.result ≡ BadText → (kind : Kind) × (refused_status kind ≡ BadText) × FindsFault kind call
   pub always : (kind : Kind) (name bytes line : List ℕ) → refused_status kind ≡ BadText → IsGiven program Tells call.told (plan_of call.arguments) kind name bytes

@@ -1,9 +1,9 @@
 -- That the program's definition is lawful: its files mean one thing each, and its works make one text each.
-use Rattle.std.specs.Prelude.{◌≡◌, ◌≢◌, ◌⊎◌, ℕ, ◌++◌, List, Option, Some, None, Result, Ok, Err}
+use Rattle.std.specs.Prelude.{◌≡◌, ◌≢◌, ◌⊎◌, ℕ, ◌++◌, List, length, Option, Some, None, Result, Ok, Err}
 use Rattle.std.proofs.Common.{refl, sym, ap, subst, ◌∙◌, inl, inr}
 use Rattle.ags_command.specs.declared.source_texts.SourceText.{SourceText}
 use Rattle.ags_command.specs.declared.source_texts.SourceText.TheVariants as what
-use Rattle.ags_command.specs.Command.{Command, Write, Compare, Certify, Run, Guard, Asked, OnMachine, Workload, asked_of}
+use Rattle.ags_command.specs.Command.{Command, Write, Compare, Certify, Run, Guard, Budget, Scales, Asked, OnMachine, Workload, asked_of}
 use Rattle.ags_plan.specs.declared.causes.Cause.TheVariants as cause
 use Rattle.ags_plan.specs.Plan.{WorkAt}
 use Rattle.ags_plan.specs.Walk.{Told, Agrees, EndsAt, LeadsTo}
@@ -12,9 +12,11 @@ use Rattle.ags_plan.specs.Lawful.{AreReadable, AreDoable, AreApart, IsLawful}
 use Rattle.ags_places.specs.declared.source_error.SourceError.{SourceError}
 use Rattle.ags_places.specs.Deck.{cards}
 use Rattle.ags_places.proofs.RunningLemmas.{some_fits, fits_one}
+use Rattle.ags_budget.proofs.OneLemmas.{some_timed, one_timed}
+use Rattle.ags_budget.specs.declared.answers.Timed.{Timed}
+use Rattle.ags_budget.specs.declared.answers.Timed.TheVariants.{Within, Unsafe, Over}
 use Rattle.ags_cert.specs.Cert.{Stated, certificate_of}
 use Rattle.ags_certread.proofs.TextLaws as cert
-use Rattle.ags_certtext.specs.declared.cert_error.CertKind.{CertKind}
 use Rattle.ags_certtext.specs.declared.cert_error.CertError.TheVariants as certificate
 use Rattle.ags_domain.specs.Value.{value_meaning}
 use Rattle.ags_domain.specs.MeaningLaws.{value_lawful}
@@ -39,7 +41,7 @@ use Rattle.ags_asm.specs.Source.{CardWords, Defines, placed_words}
 use Rattle.ags_asm.proofs.ApartLemmas.{each_place_once}
 use Rattle.ags_asm.proofs.MeaningLemmas as source
 use Rattle.ags_asm.proofs.MemoryLemmas.{words_of_memory}
-use Rattle.ags_image.specs.Image.{IsImageOf}
+use Rattle.ags_image.specs.Image.{IsImage, IsImageOf}
 use Rattle.ags_image.proofs.ImageLaws.{one_image, one_word_a_place, some_image}
 use Rattle.ags_machfile.specs.declared.mach_error.MachError.{MachError}
 use Rattle.ags_machfile.specs.MachineFile.{machine_of}
@@ -49,18 +51,24 @@ use Rattle.ags_ports.specs.declared.machines.Machine.{Machine}
 use Rattle.ags_ports.specs.Machine.{IsMachine, standard_machine}
 use Rattle.ags_ports.proofs.MachineLemmas.{IsMachine-standard}
 use Rattle.ags_script.specs.declared.commands.Command.{Command as ScriptCommand}
-use Rattle.ags_script.specs.declared.script_errors.ScriptKind.{ScriptKind}
 use Rattle.ags_script.specs.declared.script_errors.ScriptError.TheVariants.{At}
 use Rattle.ags_script.proofs.ScriptLemmas as script
 use Rattle.ags_play.specs.Played.{Met, Nothing}
+use Rattle.ags_scale.proofs.OneLemmas.{some_scaled, one_scaled}
+use Rattle.ags_scale.specs.declared.answers.Scaled.{Scaled}
+use Rattle.ags_scale.specs.declared.answers.Scaled.TheVariants as scaled
+use Rattle.ags_tags.specs.declared.scale_errors.ScaleError.TheVariants as scales_error
+use Rattle.ags_tags.proofs.MeaningLemmas as scales
+use Rattle.ags_times.specs.declared.budget_errors.BudgetError.TheVariants as times_error
+use Rattle.ags_times.proofs.MeaningLaws as times
 use Rattle.ags_program.specs.declared.status.Status.{Status}
-use Rattle.ags_program.specs.declared.status.Status.TheVariants.{Done, No, BadWords, LongFile}
-use Rattle.ags_program.specs.Files.{Kind, MachineFile, Source, Listing, Certificate, Script, Assembly, Pair, Value, HoldsSource, Holds, Refuses, refused_status}
+use Rattle.ags_program.specs.declared.status.Status.TheVariants.{Done, No, BadMachine, BadSource, BadCert, BadText, BadWords, LongFile}
+use Rattle.ags_program.specs.Files.{Kind, MachineFile, Source, Listing, Certificate, Script, Times, ScaleTags, Assembly, Pair, Value, HoldsSource, Holds, Refuses, refused_status}
 use Rattle.ags_top.specs.PlayLaws.{some_shown, one_shown, some_played, one_played}
 use Rattle.ags_program.specs.Program.{program, command_plan, plan_on, workload_plan, asked_plan, plan_of}
 use Rattle.ags_program.specs.Status.{cause_of}
-use Rattle.ags_program.specs.Text.{words_line, certificate_fault_line, fault_line, listing_fault_line, machine_fault_line, script_fault_line, compared_line, verdict_line}
-use Rattle.ags_program.specs.Work.{Work, NoForm, WriteText, CompareImages, JudgePair, PlayScript, Sequel, ListingBefore, PlayBehind, CountsInstead, ComesWith, IsTextOf, IsComparisonOf, IsJudgementOf, IsPlayedBy, compared_status, counts_line, met_status, verdict_status, Makes}
+use Rattle.ags_program.specs.Text.{words_line, certificate_fault_line, fault_line, listing_fault_line, machine_fault_line, scales_fault_line, script_fault_line, times_fault_line, compared_line, scaled_line, timed_line, verdict_line}
+use Rattle.ags_program.specs.Work.{Work, NoForm, WriteText, CompareImages, JudgePair, PlayScript, Sequel, ListingBefore, PlayBehind, CountsInstead, BudgetBehind, ScalesBehind, ComesWith, IsTextOf, IsComparisonOf, IsJudgementOf, IsPlayedBy, compared_status, counts_line, met_status, scaled_status, timed_status, verdict_status, Makes}
 
 -- ---- files
 
@@ -91,6 +99,14 @@ some_reading (Script machine) bytes = elim (script.script_or_faulty machine byte
   | inl (commands, is) ↦ inl (commands, is)
   | inr (number, kind, faulty) ↦ inr (script_fault_line (At number kind), record { number = number; kind = kind; faulty = faulty; line_is = refl })
 ]
+some_reading (Times rows) bytes = elim (times.each_text_means rows bytes) [
+  | inl (bounds, is) ↦ inl (bounds, is)
+  | inr (number, kind, faulty) ↦ inr (times_fault_line (times_error.At number kind), record { number = number; kind = kind; faulty = faulty; line_is = refl })
+]
+some_reading (ScaleTags machine rows) bytes = elim (scales.each_text_means machine.ports rows bytes) [
+  | inl (declared, is) ↦ inl (declared, is)
+  | inr (number, kind, faulty) ↦ inr (scales_fault_line (scales_error.At number kind), record { number = number; kind = kind; faulty = faulty; line_is = refl })
+]
 
 -- what was read of a source is one thing
 one_assembly : (order_codes bytes : List ℕ) (one other : Assembly) → HoldsSource order_codes bytes one → HoldsSource order_codes bytes other → one ≡ other
@@ -104,16 +120,12 @@ one_reading (Source machine) bytes one other first second = one_assembly machine
 one_reading Listing bytes one other first second = listed.one_listing bytes one other first second
 one_reading (Certificate machine) bytes one other first second = cert.one_cert_of machine.ports bytes one other first second
 one_reading (Script machine) bytes one other first second = script.one_script machine bytes one other first second
+one_reading (Times rows) bytes one other first second = times.one_budget_of rows bytes one other first second
+one_reading (ScaleTags machine rows) bytes one other first second = scales.one_scales_of machine.ports rows bytes one other first second
 
 -- the lines of two faults that are one
-same_line : (line other : ℕ) (kind another : ScriptKind) → line ≡ other → kind ≡ another → script_fault_line (At line kind) ≡ script_fault_line (At other another)
-same_line line other kind another lines kinds = ap (λ (n : ℕ). script_fault_line (At n kind)) lines ∙ ap (λ (k : ScriptKind). script_fault_line (At other k)) kinds
-
--- the lines of two faults of certificates that are one
-same_certificate_line : (line other : ℕ) (kind another : CertKind) → line ≡ other → kind ≡ another
-    → certificate_fault_line (certificate.At line kind) ≡ certificate_fault_line (certificate.At other another)
-same_certificate_line line other kind another lines kinds =
-    ap (λ (n : ℕ). certificate_fault_line (certificate.At n kind)) lines ∙ ap (λ (k : CertKind). certificate_fault_line (certificate.At other k)) kinds
+same_line : {K : Type 0} (text_of : ℕ → K → List ℕ) (line other : ℕ) (kind another : K) → (line ≡ other) × (kind ≡ another) → text_of line kind ≡ text_of other another
+same_line {K} text_of line other kind another (lines, kinds) = ap (λ (n : ℕ). text_of n kind) lines ∙ ap (λ (k : K). text_of other k) kinds
 
 one_refusal : (kind : Kind) (bytes line other : List ℕ) → Refuses kind bytes line → Refuses kind bytes other → line ≡ other
 one_refusal MachineFile bytes line other first second =
@@ -125,10 +137,16 @@ one_refusal Listing bytes line other first second =
     first.line_is ∙ ap (λ (e : ListError). listing_fault_line e) (listed.one_fault bytes first.error second.error first.faulty second.faulty) ∙ sym second.line_is
 one_refusal (Certificate machine) bytes line other first second =
     let same = cert.one_fault_of machine.ports bytes first.number second.number first.kind second.kind first.faulty second.faulty in
-    first.line_is ∙ same_certificate_line first.number second.number first.kind second.kind same.0 same.1 ∙ sym second.line_is
+    first.line_is ∙ same_line (λ n k. certificate_fault_line (certificate.At n k)) first.number second.number first.kind second.kind same ∙ sym second.line_is
 one_refusal (Script machine) bytes line other first second =
     let same = script.one_fault machine bytes first.number second.number first.kind second.kind first.faulty second.faulty in
-    first.line_is ∙ same_line first.number second.number first.kind second.kind same.0 same.1 ∙ sym second.line_is
+    first.line_is ∙ same_line (λ n k. script_fault_line (At n k)) first.number second.number first.kind second.kind same ∙ sym second.line_is
+one_refusal (Times rows) bytes line other first second =
+    let same = times.one_fault_of rows bytes first.number second.number first.kind second.kind first.faulty second.faulty in
+    first.line_is ∙ same_line (λ n k. times_fault_line (times_error.At n k)) first.number second.number first.kind second.kind same ∙ sym second.line_is
+one_refusal (ScaleTags machine rows) bytes line other first second =
+    let same = scales.one_fault_of machine.ports rows bytes first.number second.number first.kind second.kind first.faulty second.faulty in
+    first.line_is ∙ same_line (λ n k. scales_fault_line (scales_error.At n k)) first.number second.number first.kind second.kind same ∙ sym second.line_is
 
 not_both : (kind : Kind) (bytes line : List ℕ) (value : Value kind) → Holds kind bytes value → Refuses kind bytes line → ⊥
 not_both MachineFile bytes line machine holds refuses = let faulty = refuses.faulty in absurd cc
@@ -136,6 +154,8 @@ not_both (Source machine) bytes line assembly holds refuses = source.not_both ma
 not_both Listing bytes line image reads refuses = listed.not_both bytes image refuses.error reads refuses.faulty
 not_both (Certificate machine) bytes line stated is refuses = cert.never_both machine.ports bytes stated refuses.number refuses.kind is refuses.faulty
 not_both (Script machine) bytes line commands is refuses = script.not_faulty machine bytes commands refuses.number refuses.kind is refuses.faulty
+not_both (Times rows) bytes line bounds is refuses = times.never_both rows bytes bounds refuses.number refuses.kind is refuses.faulty
+not_both (ScaleTags machine rows) bytes line declared is refuses = scales.never_both machine.ports rows bytes declared refuses.number refuses.kind is refuses.faulty
 
 are_readable : AreReadable program
 are_readable = record {
@@ -151,28 +171,37 @@ are_readable = record {
 AreWordsOfSource : CardWords → Type 0
 AreWordsOfSource defined = (order_codes : List ℕ) × AreCodes order_codes × ((bytes : List ℕ) × Defines order_codes bytes defined)
 
+-- what is so of what stands with a verdict: there is a bound for each row
+IsSequelFor : Pair → Sequel → Type 0
+IsSequelFor pair (BudgetBehind bounds) = length bounds ≡ length pair.cert.rows
+IsSequelFor pair _ = Unit {0}
+
 -- what is so of a work in which a walk ends: its machine is one, its words are a source's, and a listing's image is read of its bytes
 IsAskedFor : Work → Type 0
 IsAskedFor NoForm = Unit {0}
 IsAskedFor (WriteText text assembly) = AreWordsOfSource assembly.defined
 IsAskedFor (CompareImages defined listed) = AreWordsOfSource defined × ((bytes : List ℕ) × Reads bytes listed)
-IsAskedFor (JudgePair pair sequel) = IsMachine pair.machine × AreWordsOfSource pair.assembly.defined
+IsAskedFor (JudgePair pair sequel) = IsMachine pair.machine × AreWordsOfSource pair.assembly.defined × IsSequelFor pair sequel
 IsAskedFor (PlayScript machine defined commands) = IsMachine machine × AreWordsOfSource defined
 
 -- of the work that a command leads to, and it isn't the one that says that the arguments are no form
 asked_on_way : (told : Told) (machine : Machine) (command : Command) (work : Work) → IsMachine machine
     → LeadsTo program Agrees told (command_plan machine command) work → IsAskedFor work × (work ≢ NoForm)
-unfolding IsAskedFor AreWordsOfSource
+unfolding IsAskedFor AreWordsOfSource IsSequelFor
 asked_on_way told machine (Write text name) work is (assembly, (bytes, agrees, holds), same) =
     (subst IsAskedFor same (machine.codes, is.codes, (bytes, holds.holds.defines)), λ none. absurd cc)
 asked_on_way told machine (Compare name listing) work is (assembly, (bytes, agrees, holds), (listed, (there, seen, has), same)) =
     (subst IsAskedFor same ((machine.codes, is.codes, (bytes, holds.holds.defines)), (there, has.holds)), λ none. absurd cc)
 asked_on_way told machine (Certify name certificate) work is (assembly, (bytes, agrees, holds), (stated, seen, same)) =
-    (subst IsAskedFor same (is, (machine.codes, is.codes, (bytes, holds.holds.defines))), λ none. absurd cc)
+    (subst IsAskedFor same (is, (machine.codes, is.codes, (bytes, holds.holds.defines)), tt), λ none. absurd cc)
 asked_on_way told machine (Run name script) work is (assembly, (bytes, agrees, holds), (commands, seen, same)) =
     (subst IsAskedFor same (is, (machine.codes, is.codes, (bytes, holds.holds.defines))), λ none. absurd cc)
 asked_on_way told machine (Guard name script certificate) work is (assembly, (bytes, agrees, holds), (stated, seen, (commands, found, same))) =
-    (subst IsAskedFor same (is, (machine.codes, is.codes, (bytes, holds.holds.defines))), λ none. absurd cc)
+    (subst IsAskedFor same (is, (machine.codes, is.codes, (bytes, holds.holds.defines)), tt), λ none. absurd cc)
+asked_on_way told machine (Budget name certificate timing) work is (assembly, (bytes, agrees, holds), (stated, seen, (bounds, (there, found, has), same))) =
+    (subst IsAskedFor same (is, (machine.codes, is.codes, (bytes, holds.holds.defines)), has.holds.are_bounds.count), λ none. absurd cc)
+asked_on_way told machine (Scales name certificate tagging) work is (assembly, (bytes, agrees, holds), (stated, seen, (declared, (there, found, has), same))) =
+    (subst IsAskedFor same (is, (machine.codes, is.codes, (bytes, holds.holds.defines)), tt), λ none. absurd cc)
 
 -- the same, of the work that a command line leads to
 asked_by_line : (told : Told) (machine : Option (List ℕ)) (command : Command) (work : Work)
@@ -183,9 +212,9 @@ asked_by_line told (Some name) command work (machine, (bytes, agrees, holds), le
 
 -- and of the work that a workload leads to
 asked_by_workload : (told : Told) (size : ℕ) (work : Work) → LeadsTo program Agrees told (workload_plan size) work → IsAskedFor work × (work ≢ NoForm)
-unfolding IsAskedFor AreWordsOfSource
+unfolding IsAskedFor AreWordsOfSource IsSequelFor
 asked_by_workload told size work (assembly, holds, (stated, has, same)) =
-    (subst IsAskedFor same (IsMachine-standard, (standard_machine.codes, IsMachine-standard.codes, (source_text size, holds.holds.defines))), λ none. absurd cc)
+    (subst IsAskedFor same (IsMachine-standard, (standard_machine.codes, IsMachine-standard.codes, (source_text size, holds.holds.defines)), tt), λ none. absurd cc)
 
 asked_by_form : (told : Told) (asked : Asked) (work : Work) → LeadsTo program Agrees told (asked_plan (Some asked)) work → IsAskedFor work × (work ≢ NoForm)
 asked_by_form told (OnMachine line) work leads = asked_by_line told line.machine line.command work leads
@@ -231,12 +260,19 @@ one_comparison_of defined listed text other status ended first second =
     (first.text_is ∙ ap compared_line one ∙ sym second.text_is, first.status_is ∙ ap compared_status one ∙ sym second.status_is)
 
 -- what comes with a verdict, whatever stands with it
-some_coming : (sequel : Sequel) (pair : Pair) (image : List (Option ℕ)) (verdict : Verdict Words) → IsMachine pair.machine
+some_coming : (sequel : Sequel) (pair : Pair) (image : List (Option ℕ)) (verdict : Verdict Words) → IsMachine pair.machine → IsImage image → IsSequelFor pair sequel
     → (text : List ℕ) × (status : Status) × ComesWith sequel pair image verdict text status
-some_coming ListingBefore pair image verdict is =
+unfolding IsSequelFor
+some_coming ListingBefore pair image verdict is image_is so =
     (listing pair.assembly.bytes pair.assembly.defined ++ verdict_line verdict, verdict_status verdict, (refl, refl))
-some_coming (PlayBehind commands) pair image verdict is = some_played pair.machine image pair.cert commands is verdict
-some_coming (CountsInstead size) pair image verdict is = (counts_line size pair.assembly.defined verdict, verdict_status verdict, (refl, refl))
+some_coming (PlayBehind commands) pair image verdict is image_is so = some_played pair.machine image pair.cert commands is verdict
+some_coming (CountsInstead size) pair image verdict is image_is so = (counts_line size pair.assembly.defined verdict, verdict_status verdict, (refl, refl))
+some_coming (BudgetBehind bounds) pair image verdict is image_is so =
+    let (timed, is_timed) = some_timed pair.machine image (certificate_of pair.cert) bounds is image_is so in
+    (verdict_line verdict ++ timed_line timed, timed_status timed, record { timed = timed; is_timed = is_timed; text_is = refl; status_is = refl })
+some_coming (ScalesBehind declared) pair image verdict is image_is so =
+    let (answer, is_scaled) = some_scaled pair.machine image (certificate_of pair.cert) declared is image_is in
+    (verdict_line verdict ++ scaled_line answer, scaled_status answer, record { answer = answer; is_scaled = is_scaled; text_is = refl; status_is = refl })
 
 -- and that is one text and one status
 one_coming : (sequel : Sequel) (pair : Pair) (image : List (Option ℕ)) (verdict : Verdict Words) (text other : List ℕ) (status ended : Status) → IsMachine pair.machine
@@ -245,14 +281,20 @@ one_coming ListingBefore pair image verdict text other status ended is first sec
 one_coming (PlayBehind commands) pair image verdict text other status ended is first second =
     one_played pair.machine image pair.cert commands is verdict text other status ended first second
 one_coming (CountsInstead size) pair image verdict text other status ended is first second = (first.0 ∙ sym second.0, first.1 ∙ sym second.1)
+one_coming (BudgetBehind bounds) pair image verdict text other status ended is first second =
+    let same = one_timed pair.machine image (certificate_of pair.cert) bounds is first.timed second.timed first.is_timed second.is_timed in
+    (first.text_is ∙ ap (λ (t : Timed). verdict_line verdict ++ timed_line t) same ∙ sym second.text_is, first.status_is ∙ ap timed_status same ∙ sym second.status_is)
+one_coming (ScalesBehind declared) pair image verdict text other status ended is first second =
+    let same = one_scaled pair.machine image (certificate_of pair.cert) declared is first.answer second.answer first.is_scaled second.is_scaled in
+    (first.text_is ∙ ap (λ (a : Scaled). verdict_line verdict ++ scaled_line a) same ∙ sym second.text_is, first.status_is ∙ ap scaled_status same ∙ sym second.status_is)
 
 -- a source and a certificate are judged
-some_judgement : (pair : Pair) (sequel : Sequel) → IsMachine pair.machine → AreWordsOfSource pair.assembly.defined
+some_judgement : (pair : Pair) (sequel : Sequel) → IsMachine pair.machine → AreWordsOfSource pair.assembly.defined → IsSequelFor pair sequel
     → (text : List ℕ) × (status : Status) × IsJudgementOf pair sequel text status
-some_judgement pair sequel is are =
+some_judgement pair sequel is are so =
     let (image, image_is) = some_image_of pair.assembly.defined are in
     let (verdict, is_verdict) = some_verdict pair.machine image (certificate_of pair.cert) is image_is.is_image in
-    let (text, status, comes) = some_coming sequel pair image verdict is in
+    let (text, status, comes) = some_coming sequel pair image verdict is image_is.is_image so in
     (text, status, record { image = image; image_is = image_is; verdict = verdict; is_verdict = is_verdict; comes = comes })
 
 -- in one way
@@ -277,7 +319,7 @@ some_making (CompareImages defined listed) (are, (bytes, reads)) =
     let (image, image_is) = some_image_of defined are in
     let (compared, is) = some_comparison image listed in
     (compared_line compared, compared_status compared, record { image = image; image_is = image_is; compared = compared; comparison = is; text_is = refl; status_is = refl })
-some_making (JudgePair pair sequel) (is, are) = some_judgement pair sequel is are
+some_making (JudgePair pair sequel) (is, are, so) = some_judgement pair sequel is are so
 some_making (PlayScript machine defined commands) (is, are) =
     let (image, image_is) = some_image_of defined are in
     let (text, shown) = some_shown machine defined commands image is image_is in
@@ -322,6 +364,17 @@ unfolding IsWorkStatus
 met_work Nothing = tt
 met_work _ = tt
 
+timed_work : (timed : Timed) → IsWorkStatus (timed_status timed)
+unfolding IsWorkStatus
+timed_work (Within rows cases greatest) = tt
+timed_work (Unsafe told) = tt
+timed_work (Over row word x v next needs bound) = tt
+
+scaled_work : (answer : Scaled) → IsWorkStatus (scaled_status answer)
+unfolding IsWorkStatus
+scaled_work (scaled.Agree rows cases) = tt
+scaled_work _ = tt
+
 guarded_work : (machine : Machine) (image : List (Option ℕ)) (stated : Stated) (commands : List ScriptCommand) (verdict : Verdict Words) (text : List ℕ) (status : Status)
     → IsPlayedBy machine image stated commands verdict text status → IsWorkStatus status
 unfolding IsWorkStatus
@@ -333,6 +386,8 @@ coming_work : (sequel : Sequel) (pair : Pair) (image : List (Option ℕ)) (verdi
 coming_work ListingBefore pair image verdict text status comes = subst IsWorkStatus (sym comes.1) (judged_work verdict)
 coming_work (PlayBehind commands) pair image verdict text status comes = guarded_work pair.machine image pair.cert commands verdict text status comes
 coming_work (CountsInstead size) pair image verdict text status comes = subst IsWorkStatus (sym comes.1) (judged_work verdict)
+coming_work (BudgetBehind bounds) pair image verdict text status comes = subst IsWorkStatus (sym comes.status_is) (timed_work comes.timed)
+coming_work (ScalesBehind declared) pair image verdict text status comes = subst IsWorkStatus (sym comes.status_is) (scaled_work comes.answer)
 
 made_status : (work : Work) (text : List ℕ) (status : Status) → Makes work text status → IsWorkStatus status
 unfolding IsWorkStatus
@@ -353,27 +408,46 @@ not_long_work : IsWorkStatus LongFile → ⊥
 unfolding IsWorkStatus
 not_long_work is = is
 
-pub not_refused_work : (kind : Kind) → IsWorkStatus (refused_status kind) → ⊥
-unfolding IsWorkStatus
-not_refused_work MachineFile is = is
-not_refused_work (Source machine) is = is
-not_refused_work Listing is = is
-not_refused_work (Certificate machine) is = is
-not_refused_work (Script machine) is = is
+-- the statuses of files that are refused
+IsRefusedStatus : Status → Type 0
+IsRefusedStatus BadMachine = Unit {0}
+IsRefusedStatus BadSource = Unit {0}
+IsRefusedStatus BadCert = Unit {0}
+IsRefusedStatus BadText = Unit {0}
+IsRefusedStatus _ = ⊥
 
-refused_of_content : (kind : Kind) → cause_of (refused_status kind) ≡ cause.Content
-refused_of_content MachineFile = refl
-refused_of_content (Source machine) = refl
-refused_of_content Listing = refl
-refused_of_content (Certificate machine) = refl
-refused_of_content (Script machine) = refl
+kind_refused : (kind : Kind) → IsRefusedStatus (refused_status kind)
+unfolding IsRefusedStatus
+kind_refused MachineFile = tt
+kind_refused (Source machine) = tt
+kind_refused Listing = tt
+kind_refused (Certificate machine) = tt
+kind_refused (Script machine) = tt
+kind_refused (Times rows) = tt
+kind_refused (ScaleTags machine rows) = tt
+
+refused_no_work : (status : Status) → IsRefusedStatus status → IsWorkStatus status → ⊥
+unfolding IsRefusedStatus IsWorkStatus
+refused_no_work BadMachine refused is = is
+refused_no_work BadSource refused is = is
+refused_no_work BadCert refused is = is
+refused_no_work BadText refused is = is
+refused_no_work _ refused is = refused
+
+pub not_refused_work : (kind : Kind) → IsWorkStatus (refused_status kind) → ⊥
+not_refused_work kind is = refused_no_work (refused_status kind) (kind_refused kind) is
+
+status_of_content : (status : Status) → IsRefusedStatus status → cause_of status ≡ cause.Content
+unfolding IsRefusedStatus
+status_of_content BadMachine refused = refl
+status_of_content BadSource refused = refl
+status_of_content BadCert refused = refl
+status_of_content BadText refused = refl
+status_of_content _ refused = absurd refused
 
 refused_not_long : (kind : Kind) → refused_status kind ≢ LongFile
-refused_not_long MachineFile = λ is. absurd cc
-refused_not_long (Source machine) = λ is. absurd cc
-refused_not_long Listing = λ is. absurd cc
-refused_not_long (Certificate machine) = λ is. absurd cc
-refused_not_long (Script machine) = λ is. absurd cc
+unfolding IsRefusedStatus
+refused_not_long kind = λ is. subst IsRefusedStatus is (kind_refused kind)
 
 are_apart : AreApart program
 are_apart = record {
@@ -382,7 +456,7 @@ are_apart = record {
   read_fault = refl;
   write_fault = refl;
   memory = refl;
-  refused = refused_of_content;
+  refused = λ kind. status_of_content (refused_status kind) (kind_refused kind);
   refused_not_long = refused_not_long;
   made = λ work text status made. work_status_of_content status (made_status work text status made);
   made_not_long = λ work text made. not_long_work (made_status work text LongFile made);

@@ -8,8 +8,10 @@ ghost use Rattle.ags_program.specs.Program.{program};
 ghost use Rattle.ags_program.specs.Views.{IsReadSource, IsSequelReady, pair_of, sequel_of};
 ghost use Rattle.ags_program.specs.Work as work;
 
+use crate::budget_command::judge_budget;
 use crate::certify_command::write_judged;
 use crate::guard_command::guard_script;
+use crate::scales_command::judge_scales;
 use crate::verdicts::verdict_of;
 use crate::workload_command::write_counts;
 use ags_outside::{SendError, Sink};
@@ -24,7 +26,7 @@ pub(crate) fn judge_pair<K: Sink>(
     out: &mut K,
 ) -> Result<Status, SendError>
     requires source { IsReadSource pair.now.source }
-    requires sequel { IsSequelReady pair.now.machine sequel.now }
+    requires sequel { IsSequelReady pair.now sequel.now }
     ensures says { Says program (WorkAt (work.JudgePair (pair_of pair.now) (sequel_of sequel.now))) (K.told out.old) (K.told out.new) result }
     ensures faults { HasCause (K.faults out.old) (K.faults out.new) (is_write_fault result) }
 {
@@ -33,5 +35,7 @@ pub(crate) fn judge_pair<K: Sink>(
         Sequel::ListingBefore => write_judged(alloc, pair, &verdict, out),
         Sequel::PlayBehind(script) => guard_script(alloc, pair, &verdict, script, out),
         Sequel::CountsInstead(size) => write_counts(alloc, pair, &verdict, *size, out),
+        Sequel::BudgetBehind(budget) => judge_budget(alloc, pair, &verdict, budget, out),
+        Sequel::ScalesBehind(scales) => judge_scales(alloc, pair, &verdict, scales, out),
     }
 }
