@@ -7,6 +7,8 @@ mod call_tests;
 #[cfg(test)]
 mod common;
 #[cfg(test)]
+mod feed_tests;
+#[cfg(test)]
 mod memory_tests;
 #[cfg(test)]
 mod put_tests;

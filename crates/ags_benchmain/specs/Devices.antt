@@ -1,5 +1,5 @@
 -- The devices as they are before a run.
-use Rattle.std.specs.Prelude.{[], ◌∷◌, Some, None}
+use Rattle.std.specs.Prelude.{List, [], ◌∷◌, Some, None}
 use Rattle.ags_device.specs.Plan.{readings}
 use Rattle.ags_device.specs.Record.{DeviceRecord}
 
@@ -14,3 +14,7 @@ pad_record = record { feeds = Some 1152; hears = Some 3200; plan = 16 ∷ 20 ∷
 -- it hears the register at 6001 octal
 abbrev pub recorder_record : DeviceRecord
 recorder_record = record { feeds = None; hears = Some 3073; plan = []; kept = [] }
+
+-- the three, in the order of their numbers
+abbrev pub three_devices : List DeviceRecord
+three_devices = sensor_record ∷ pad_record ∷ recorder_record ∷ []

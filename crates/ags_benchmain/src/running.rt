@@ -1,8 +1,11 @@
 //! A run of the bench over any shelf and any sink: what a real process does, but for making the real ones.
 
-ghost use Rattle.std.specs.Prelude.{◌≡◌, ◌≢◌, IfOk, IfErr, drop};
+ghost use Rattle.std.specs.Prelude.{◌≡◌, ◌≢◌, IfOk, IfErr, OnErr, Ok, drop, map};
 ghost use Rattle.std.specs.IoError.{error_kind};
+ghost use Rattle.std.specs.String.{string_bytes};
 ghost use Rattle.std.specs.Vec.Iter.{into_iter_items};
+ghost use Rattle.ags_benchmain.specs.Devices.{three_devices};
+ghost use Rattle.ags_benchmain.specs.Ran.{EndsThree, RanThree, RunsThree};
 
 use crate::devices::{pad, recorder, sensor};
 use ags_bench::{Status, bench_main};
@@ -38,35 +41,95 @@ fn status_of_error(error: &io::Error) -> Status
     }
 }
 
-/// Runs the bench with its three devices. An error is want of memory for the devices.
+/// Runs the bench with the devices, which are the three.
+fn run_with<S: Shelf, K: HeldSink>(
+    alloc: Global,
+    words: &[String],
+    shelf: &mut S,
+    out: &mut K,
+    devices: &mut Vec<Box<dyn Device>>,
+) -> Status
+    requires { map record_of devices.old.items ≡ three_devices }
+    ensures { RunsThree (S.told shelf.old) (map string_bytes words.now) (K.told out.old) (K.told out.new) result
+        (record {
+          faults = S.faults shelf.old;
+          faults_now = S.faults shelf.new;
+          absences = S.absences shelf.old;
+          absences_now = S.absences shelf.new;
+          sink_faults = K.faults out.old;
+          sink_faults_now = K.faults out.new;
+        }) }
+{
+    bench_main(alloc, words, shelf, out, devices)
+}
+
+/// Makes the three devices and runs the bench with them. An error is want of memory for the devices: then nothing is read and nothing
+/// is sent.
 fn run_with_devices<S: Shelf, K: HeldSink>(
     alloc: Global,
     words: &[String],
     shelf: &mut S,
     out: &mut K,
-) -> Result<Status, AllocError> {
+) -> Result<Status, AllocError>
+    ensures ran { IfOk result (λ status. RunsThree (S.told shelf.old) (map string_bytes words.now) (K.told out.old) (K.told out.new) status
+        (record {
+          faults = S.faults shelf.old;
+          faults_now = S.faults shelf.new;
+          absences = S.absences shelf.old;
+          absences_now = S.absences shelf.new;
+          sink_faults = K.faults out.old;
+          sink_faults_now = K.faults out.new;
+        })) }
+    ensures unbegun { OnErr result ((out.new ≡ out.old) × (shelf.new ≡ shelf.old)) }
+{
     let mut devices: Vec<Box<dyn Device>> = Vec::new(alloc);
-    let Some(sensor) = sensor() else {
-        return Ok(Status::NoMemory);
-    };
-    let Some(pad) = pad(alloc)? else {
-        return Ok(Status::NoMemory);
-    };
-    devices.push(Box::new(alloc, sensor)?)?;
+    let pad = pad(alloc)?;
+    devices.push(Box::new(alloc, sensor())?)?;
     devices.push(Box::new(alloc, pad)?)?;
     devices.push(Box::new(alloc, recorder(alloc))?)?;
-    Ok(bench_main(alloc, words, shelf, out, &mut devices))
+    Ok(run_with(alloc, words, shelf, out, &mut devices))
 }
 
 /// Runs the bench over the words after the program's name; there is no other status where memory is wanting for the words or
 /// the devices.
-fn answer<S: Shelf, K: HeldSink>(alloc: Global, all: Args, shelf: &mut S, out: &mut K) -> Status {
+fn answer<S: Shelf, K: HeldSink>(alloc: Global, all: Args, shelf: &mut S, out: &mut K) -> Status
+    ensures { RanThree (S.told shelf.old) (map string_bytes (drop 1 (into_iter_items all))) (K.told out.old) (K.told out.new) result
+        (record {
+          faults = S.faults shelf.old;
+          faults_now = S.faults shelf.new;
+          absences = S.absences shelf.old;
+          absences_now = S.absences shelf.new;
+          sink_faults = K.faults out.old;
+          sink_faults_now = K.faults out.new;
+        }) }
+{
     let Ok(words) = words_of(alloc, all) else {
         return Status::NoMemory;
     };
     match run_with_devices(alloc, &words, shelf, out) {
         Ok(status) => status,
         Err(_) => Status::NoMemory,
+    }
+}
+
+/// The same, and then the sink is finished: what it holds at the end is written, or the status is `WriteFault`.
+fn run_over<S: Shelf, K: HeldSink>(alloc: Global, all: Args, shelf: &mut S, out: &mut K) -> Status
+    ensures { EndsThree (S.told shelf.old) (map string_bytes (drop 1 (into_iter_items all))) (K.told out.old) (K.told out.new) result
+        (record {
+          faults = S.faults shelf.old;
+          faults_now = S.faults shelf.new;
+          absences = S.absences shelf.old;
+          absences_now = S.absences shelf.new;
+          sink_faults = K.faults out.old;
+          sink_faults_now = K.faults out.new;
+        })
+        (K.is_written out.new) }
+{
+    let status = answer(alloc, all, shelf, out);
+    if out.finish() {
+        status
+    } else {
+        Status::WriteFault
     }
 }
 
@@ -79,20 +142,26 @@ pub(crate) fn run<S: Shelf, K: HeldSink>(
     shelf: &mut S,
     out: &mut io::Result<K>,
 ) -> Status
+    ensures ran { IfOk words (λ all. IfOk out.old (λ before. (after : _) × (out.new ≡ Ok after)
+        × EndsThree (S.told shelf.old) (map string_bytes (drop 1 (into_iter_items all))) (K.told before) (K.told after) result
+        (record {
+          faults = S.faults shelf.old;
+          faults_now = S.faults shelf.new;
+          absences = S.absences shelf.old;
+          absences_now = S.absences shelf.new;
+          sink_faults = K.faults before;
+          sink_faults_now = K.faults after;
+        })
+        (K.is_written after))) }
+    ensures no_sink { IfOk words (λ all. IfErr out.old (λ error. result ≡ Status.NoMemory)) }
+    ensures unmade { IfOk words (λ all. IfErr out.old (λ error. (out.new ≡ out.old) × (shelf.new ≡ shelf.old))) }
     ensures memory { IfErr words (λ error. error_kind error ≡ ErrorKind.OutOfMemory → result ≡ Status.NoMemory) }
     ensures no_text { IfErr words (λ error. error_kind error ≢ ErrorKind.OutOfMemory → result ≡ Status.BadWords) }
     ensures unbegun { IfErr words (λ error. (out.new ≡ out.old) × (shelf.new ≡ shelf.old)) }
 {
     match words {
         Ok(all) => match out {
-            Ok(sink) => {
-                let status = answer(alloc, all, shelf, sink);
-                if sink.finish() {
-                    status
-                } else {
-                    Status::WriteFault
-                }
-            }
+            Ok(sink) => run_over(alloc, all, shelf, sink),
             Err(_) => Status::NoMemory,
         },
         Err(error) => status_of_error(&error),
