@@ -1,0 +1,12 @@
+mod OrderLemmas
+mod PlacesLemmas
+mod NotingLemmas
+mod RowLemmas
+mod EditLemmas
+mod KeepingLemmas
+mod CountLemmas
+mod StepLemmas
+mod StartLemmas
+mod BookLemmas
+mod BoundLemmas
+mod LawLemmas

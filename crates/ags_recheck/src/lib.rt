@@ -1,0 +1,16 @@
+//! The book of a program and its certificate while they are edited (docs/EDITS.md): after each edit it tells the verdict
+//! that a check from nothing would tell, and judges again those rows alone that the edit can concern. It keeps of each
+//! row what comes of it and the locations of its posts, in room that it takes when it is made. It stands on `ags_check`
+//! for what is checked, on `ags_certtype` for edits of a certificate, and on `ags_verdict` for which rows a row is judged
+//! by.
+#![tactic(auto)]
+
+mod books;
+mod items;
+mod joining;
+pub mod laws;
+mod noting;
+mod places;
+mod rejudging;
+
+pub use books::Book;
