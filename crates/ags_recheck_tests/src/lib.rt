@@ -6,3 +6,5 @@
 mod book_tests;
 #[cfg(test)]
 mod common;
+#[cfg(test)]
+mod large_tests;
