@@ -9,8 +9,9 @@ pub mod CodeLemmas
 pub mod VerdictLemmas
 pub mod AnsweredLemmas
 pub mod FirstFaultLemmas
+-- Inclusion of one value in another is decided.
+pub mod ToldLemmas
 -- What stands below
 mod RangeLemmas
 mod OperationLemmas
-mod ToldLemmas
 mod UnfailingLemmas

@@ -41,7 +41,7 @@ use Rattle.ags_budget.specs.declared.answers.LateCase.{LateCase}
 use Rattle.ags_budget.specs.declared.answers.Timed.{Timed}
 use Rattle.ags_budget.specs.declared.answers.Timed.TheVariants.{Within, Unsafe, Over}
 use Rattle.ags_budget.proofs.LeastLemmas.{is_at_most, is_covered_by, some_least, one_least, some_greatest, one_greatest}
-use Rattle.ags_budget.proofs.OrderedLemmas.{some_in_order, with_number, one_walk}
+use Rattle.ags_walk.proofs.OrderedLemmas.{some_in_order, with_number, one_walk}
 use Rattle.ags_budget.proofs.TimingLemmas.{of_true, of_false}
 
 some_one : {A : Type 0} (left right : A) → ◌≡◌ {A = Option A} (Some left) (Some right) → left ≡ right

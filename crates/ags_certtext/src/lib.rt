@@ -28,4 +28,6 @@ pub use laws::{
 pub use lines::{CertLines, read_first_line};
 pub use numbers::{read_address, read_word};
 pub use operands::read_row;
+pub use signed::read_signed;
 pub use statements::{Entry, RowLine, Statement, Table};
+pub use values::read_value;

@@ -20,8 +20,8 @@ fn behind_minus(text: &[u8]) -> Option<&[u8]>
     }
 }
 
-/// The number that a minus or nothing, and one to six decimal digits, write.
-pub(crate) fn read_signed(text: &[u8]) -> Option<i32>
+/// The number that a minus or nothing, and one to six decimal digits, write (docs/CERTIFICATE.md, Values).
+pub fn read_signed(text: &[u8]) -> Option<i32>
     ensures found { IfSome result (λ number. IsSigned text.now number) }
     ensures only { (number : ℤ) → IsSigned text.now number → result ≡ Some number }
 {

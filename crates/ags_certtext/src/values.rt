@@ -62,9 +62,9 @@ fn read_form(form: Form, text: &[u8]) -> Option<(Option<Value>, &[u8])>
     }
 }
 
-/// The value that the fields at the front of a text state, and what stands behind them. There is no value in it where it is
-/// a range whose least is above its greatest.
-pub(crate) fn read_value(text: &[u8]) -> Option<(Option<Value>, &[u8])>
+/// The value that the fields at the front of a text state, and what stands behind them (docs/CERTIFICATE.md, Values). There is no value
+/// in it where it is a range whose least is above its greatest; and nothing is told where a further word stands behind the words of a set.
+pub fn read_value(text: &[u8]) -> Option<(Option<Value>, &[u8])>
     ensures found { IfSome result (λ front. BeginsWithValue text.now front.0 front.1.now) }
     ensures only { (value : Option Value) (rest : List ℕ) → BeginsWithValue text.now value rest → (BeginsWithWord rest → ⊥)
         → IsSomeAnd result (λ front. (front.0 ≡ value) × (front.1.now ≡ rest)) }

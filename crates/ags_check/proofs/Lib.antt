@@ -1,3 +1,7 @@
+-- What comes of the cases of an accepted certificate.
+pub mod AcceptedRowsLemmas
+-- The rows that are found.
+pub mod FoundLemmas
 mod CoverageLemmas
 mod CountedLemmas
 mod FindingLemmas

@@ -25,7 +25,7 @@ use Rattle.ags_scale.specs.declared.answers.TagFault.{TagFault}
 use Rattle.ags_scale.specs.declared.answers.Scaled.{Scaled}
 use Rattle.ags_scale.specs.declared.answers.Scaled.TheVariants.{Agree, Unsafe, StartMixed, Mixed, NotHeld}
 use Rattle.ags_scale.proofs.OneLemmas.{one_rows}
-use Rattle.ags_scale.proofs.OrderedLemmas.{each_at, each_counted, counted_in_order, counted_at}
+use Rattle.ags_walk.proofs.OrderedLemmas.{each_at, each_counted, counted_in_order, counted_at}
 
 module _ {D : Type 0} (meaning : Meaning D) (machine : Machine) (image : List (Option ℕ)) (cert : Certificate D) (scales : Scaling) where
   abbrev Tagged : ℕ → Row D → RowCase → Result ℕ TagFault → Type 0

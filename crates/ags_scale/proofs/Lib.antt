@@ -1,11 +1,7 @@
 -- The answer that tells what fails first.
 pub mod JudgingLemmas
--- The rows that are found.
-pub mod FoundLemmas
 -- What comes of a case that is accepted.
 pub mod TaggingLemmas
--- What comes of the rows of an accepted certificate.
-pub mod RowLemmas
 -- What orders do to the tags of a run and of a row that holds them.
 pub mod ChangeLemmas
 -- What the tags tell of words.
@@ -19,7 +15,6 @@ pub mod StartLemmas
 -- Tagged runs.
 pub mod TaggedLemmas
 -- Scales have an answer, and one alone.
-pub mod OrderedLemmas
 pub mod OneLemmas
 -- Scales that are accepted.
 pub mod AcceptedLemmas

@@ -53,7 +53,7 @@ use Rattle.ags_scale.specs.declared.answers.TagFault.TheVariants.{Mixes, Loses}
 use Rattle.ags_scale.specs.declared.answers.Scaled.{Scaled}
 use Rattle.ags_scale.specs.declared.answers.Scaled.TheVariants.{Agree, Unsafe, StartMixed, Mixed, NotHeld}
 use Rattle.ags_scale.proofs.JudgingLemmas.{told_scaled}
-use Rattle.ags_scale.proofs.OrderedLemmas.{some_in_order, with_number, one_walk}
+use Rattle.ags_walk.proofs.OrderedLemmas.{some_in_order, with_number, one_walk}
 
 some_one : {A : Type 0} (left right : A) → ◌≡◌ {A = Option A} (Some left) (Some right) → left ≡ right
 some_one left right same = cc

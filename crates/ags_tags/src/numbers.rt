@@ -1,46 +1,17 @@
 //! Scales, and the tags of rows, as fields of a line.
 
-ghost use Rattle.std.specs.Prelude.{◌≡◌, ◌∷◌, ℕ, ℤ, List, IfSome, IfNone, Some};
-ghost use Rattle.ags_certtext.specs.Spelling.{IsSigned};
+ghost use Rattle.std.specs.Prelude.{◌≡◌, ℤ, IfSome, Some};
 ghost use Rattle.ags_tags.specs.declared.tags.RowTag.{RowTag};
 ghost use Rattle.ags_tags.specs.Spelling.{IsScale, IsRowTag, is_scale};
 
 use crate::tags::{RowTag, Tag};
-use ags_frame::read_size;
+use ags_certtext::read_signed;
 
 /// The least scale.
 const LEAST_SCALE: i32 = -128;
 
 /// The greatest scale.
 const GREATEST_SCALE: i32 = 127;
-
-/// What stands behind a minus, where a text begins with one.
-fn behind_minus(text: &[u8]) -> Option<&[u8]>
-    ensures found { IfSome result (λ digits. text.now ≡ 45 ∷ digits.now) }
-    ensures none { IfNone result ((digits : List ℕ) → text.now ≡ 45 ∷ digits → ⊥) }
-{
-    match text {
-        [b'-', digits @ ..] => Some(digits),
-        _ => None,
-    }
-}
-
-/// The number that a minus or nothing, and one to six decimal digits, write.
-fn read_signed(text: &[u8]) -> Option<i32>
-    ensures found { IfSome result (λ number. IsSigned text.now number) }
-    ensures only { (number : ℤ) → IsSigned text.now number → result ≡ Some number }
-{
-    match behind_minus(text) {
-        Some(digits) => match read_size(digits) {
-            Some(size) => Some(-(size as i32)),
-            None => None,
-        },
-        None => match read_size(text) {
-            Some(size) => Some(size as i32),
-            None => None,
-        },
-    }
-}
 
 /// Whether a number is a scale.
 fn is_scale(number: i32) -> bool

@@ -3,7 +3,7 @@ use Rattle.ags_domain.specs.Value.{value_meaning}
 use Rattle.ags_certtype.specs.Cert.{certificate_of}
 use Rattle.ags_check.specs.Finding.{IsCover}
 use Rattle.ags_times.specs.Budget.{bound_of}
-use Rattle.ags_budget.proofs.FoundLemmas.{found_exactly}
+use Rattle.ags_check.proofs.FoundLemmas.{found_exactly}
 use Rattle.ags_budget.proofs.covering.is_in_time.Goals as goal
 
 pub returns : goal.returns

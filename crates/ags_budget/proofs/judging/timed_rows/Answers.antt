@@ -4,11 +4,16 @@ use Rattle.ags_domain.specs.declared.values.Value.{Value}
 use Rattle.ags_row.specs.Limit.{Limiting}
 use Rattle.ags_row.specs.declared.rows.Row.{Row}
 use Rattle.ags_walk.specs.Counting.{HaveCases}
-use Rattle.ags_budget.proofs.RowLemmas.{handed_rows_timed}
+use Rattle.ags_verdict.specs.RowCase.{case_in}
+use Rattle.ags_certtype.specs.Cert.{certificate_of}
+use Rattle.ags_check.proofs.AcceptedRowsLemmas.{handed_rows_judged}
+use Rattle.ags_budget.specs.Timing.{IsCaseTimed}
 use Rattle.ags_budget.proofs.judging.timed_rows.Goals as goal
 
 pub returns-clause-timed : goal.returns-clause-timed
-returns-clause-timed g c = handed_rows_timed c.args.machine.now c.args.image.now c.args.cert.now c.args.budget.now c.limits.result.now c.rows.result.now c.walk_rows.result
+returns-clause-timed g c = handed_rows_judged c.args.machine.now c.args.image.now c.args.cert.now
+    (λ number row case o. IsCaseTimed value_meaning (certificate_of c.args.cert.now) c.args.budget.now number
+    (case_in c.args.machine.now c.args.image.now c.args.cert.now.limits row case) o) c.limits.result.now c.rows.result.now c.walk_rows.result
     c.limits.ensures.limits c.rows.ensures.rows c.requires c.walk_rows.ensures.judged
 
 pub returns-clause-steps : goal.returns-clause-steps

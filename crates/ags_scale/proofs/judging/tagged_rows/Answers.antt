@@ -4,11 +4,16 @@ use Rattle.ags_domain.specs.declared.values.Value.{Value}
 use Rattle.ags_row.specs.Limit.{Limiting}
 use Rattle.ags_row.specs.declared.rows.Row.{Row}
 use Rattle.ags_walk.specs.Counting.{HaveCases}
-use Rattle.ags_scale.proofs.RowLemmas.{handed_rows_tagged}
+use Rattle.ags_verdict.specs.RowCase.{case_in}
+use Rattle.ags_certtype.specs.Cert.{certificate_of}
+use Rattle.ags_check.proofs.AcceptedRowsLemmas.{handed_rows_judged}
+use Rattle.ags_scale.specs.Tagging.{IsCaseTagged}
 use Rattle.ags_scale.proofs.judging.tagged_rows.Goals as goal
 
 pub returns-clause-tagged : goal.returns-clause-tagged
-returns-clause-tagged g c = handed_rows_tagged c.args.machine.now c.args.image.now c.args.cert.now c.args.scales.now c.limits.result.now c.rows.result.now c.walk_rows.result
+returns-clause-tagged g c = handed_rows_judged c.args.machine.now c.args.image.now c.args.cert.now
+    (λ number row case o. IsCaseTagged value_meaning (certificate_of c.args.cert.now) c.args.scales.now number
+    (case_in c.args.machine.now c.args.image.now c.args.cert.now.limits row case) o) c.limits.result.now c.rows.result.now c.walk_rows.result
     c.limits.ensures.limits c.rows.ensures.rows c.requires c.walk_rows.ensures.judged
 
 pub returns-clause-steps : goal.returns-clause-steps

@@ -4,7 +4,7 @@ use Rattle.ags_certtype.specs.Cert.{certificate_of}
 use Rattle.ags_check.specs.Finding.{IsStartRow}
 use Rattle.ags_tags.specs.Tag.{tags_of_row}
 use Rattle.ags_scale.specs.RowChange.{HoldsRaw}
-use Rattle.ags_scale.proofs.FoundLemmas.{found_exactly}
+use Rattle.ags_check.proofs.FoundLemmas.{found_exactly}
 use Rattle.ags_scale.proofs.taking.is_start_tagged.Goals as goal
 
 pub returns : goal.returns

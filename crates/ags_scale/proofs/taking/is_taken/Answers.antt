@@ -4,7 +4,7 @@ use Rattle.ags_certtype.specs.Cert.{certificate_of}
 use Rattle.ags_check.specs.Finding.{IsCover}
 use Rattle.ags_tags.specs.Tag.{tags_of_row}
 use Rattle.ags_scale.specs.RowChange.{TakesTags}
-use Rattle.ags_scale.proofs.FoundLemmas.{found_exactly}
+use Rattle.ags_check.proofs.FoundLemmas.{found_exactly}
 use Rattle.ags_scale.proofs.taking.is_taken.Goals as goal
 
 pub returns : goal.returns

@@ -1,4 +1,4 @@
--- What comes of each accepted case for its tags comes of the rows of an accepted certificate.
+-- What comes of each accepted case comes of the rows of an accepted certificate.
 use Rattle.std.proofs.Common.{◌≡◌, ℕ, ◌+◌, subst, List, [], ◌∷◌, inl, inr}
 use Rattle.std.specs.Prelude.{Option, Some, None, Result, Ok, Err}
 use Rattle.std.specs.List.{AllByRecursion}
@@ -13,17 +13,12 @@ use Rattle.ags_posts.specs.Case.{IsCode}
 use Rattle.ags_posts.proofs.CodeLemmas.{code_one}
 use Rattle.ags_safe.specs.Certificate.{Certificate}
 use Rattle.ags_safe.specs.Accepted.{IsCaseAccepted, IsRowAccepted, Accepted}
-use Rattle.ags_certtype.specs.Cert.{Stated, certificate_of}
 use Rattle.ags_verdict.specs.InOrder.{InOrder}
 use Rattle.ags_verdict.specs.RowCase.{RowCase, cases_in, case_in}
 use Rattle.ags_verdict.proofs.CaseLemmas.{cases_each}
 use Rattle.ags_walk.specs.Walk.{IsWalkedWith, IsWalkedAt, AreWalked}
 use Rattle.ags_walk.specs.declared.walks.AtRow.{AtRow}
-use Rattle.ags_tags.specs.Tag.{Scaling}
-use Rattle.ags_scale.specs.Tagging.{IsCaseTagged}
-use Rattle.ags_scale.specs.Asking.{IsAsked}
-use Rattle.ags_scale.specs.Scaled.{AreRowsTagged}
-use Rattle.ags_scale.specs.declared.answers.TagFault.{TagFault}
+use Rattle.ags_certtype.specs.Cert.{Stated, certificate_of}
 
 -- where a fact holds of each thing, what comes of each by one judgement comes of it by another
 each_moved_where : {X F : Type 0} (P : X → Type 0) (one other : ℕ → X → Result ℕ F → Type 0)
@@ -37,47 +32,45 @@ each_moved_where P one other moved place (x ∷ xs) (Err fault) each (inl fails)
 each_moved_where P one other moved place (x ∷ xs) (Err fault) each (inr later) =
     inr (later.0, moved place x (Ok later.0) each.0 later.1, each_moved_where P one other moved (place + 1) xs (Err fault) each.1 later.2)
 
-module _ (machine : Machine) (image : List (Option ℕ)) (stated : Stated) (scales : Scaling) where
+module _ (machine : Machine) (image : List (Option ℕ)) (stated : Stated) {F : Type 0} (judges : ℕ → Row Value → RowCase → Result ℕ F → Type 0) where
   abbrev cert : Certificate Value
   cert = certificate_of stated
 
   abbrev CaseAccepted : Row Value → RowCase → Type 0
   CaseAccepted row c = IsCaseAccepted value_meaning cert (case_in machine image cert.limits row c)
 
-  abbrev Asked : ℕ → Row Value → RowCase → Result ℕ TagFault → Type 0
-  Asked number row c o = IsAsked machine image stated scales number row c o
+  -- what comes of a case where it is accepted
+  abbrev Asked : ℕ → Row Value → RowCase → Result ℕ F → Type 0
+  Asked number row c o = CaseAccepted row c → judges number row c o
 
-  abbrev Tagged : ℕ → Row Value → RowCase → Result ℕ TagFault → Type 0
-  Tagged number row c o = IsCaseTagged value_meaning cert scales number (case_in machine image cert.limits row c) o
-
-  with_tagged : (number : ℕ) (row : Row Value) (code : Option WordSet) (outcome : Result ℕ TagFault) → IsRowAccepted value_meaning machine image cert row
+  with_judged : (number : ℕ) (row : Row Value) (code : Option WordSet) (outcome : Result ℕ F) → IsRowAccepted value_meaning machine image cert row
       → IsCode value_meaning image cert.limits row code → IsWalkedWith value_meaning image cert.limits (Ok 0) Asked number row code outcome
-      → IsWalkedWith value_meaning image cert.limits (Ok 0) Tagged number row code outcome
-  with_tagged number row None outcome accepted is_code is = is
-  with_tagged number row (Some code) outcome accepted is_code is =
+      → IsWalkedWith value_meaning image cert.limits (Ok 0) judges number row code outcome
+  with_judged number row None outcome accepted is_code is = is
+  with_judged number row (Some code) outcome accepted is_code is =
       let same : ◌≡◌ {A = Option WordSet} (Some accepted.code) (Some code) =
       code_one value_meaning image cert.limits row (Some accepted.code) (Some code) accepted.is_code is_code in
       let code_same : accepted.code ≡ code = cc in
-      each_moved_where (CaseAccepted row) (λ place c o. Asked number row c o) (λ place c o. Tagged number row c o)
+      each_moved_where (CaseAccepted row) (λ place c o. Asked number row c o) (λ place c o. judges number row c o)
       (λ place c o yes asked. asked yes) 0 (cases_in row code.list) outcome
       (subst (λ (set : WordSet). AllByRecursion (CaseAccepted row) (cases_in row set.list)) code_same
       (cases_each row (CaseAccepted row) accepted.code.list accepted.cases)) is
 
-  row_tagged : (number : ℕ) (row : Row Value) (outcome : Result ℕ (AtRow TagFault)) → IsRowAccepted value_meaning machine image cert row
-      → IsWalkedAt value_meaning image cert.limits (Ok 0) Asked number row outcome → IsWalkedAt value_meaning image cert.limits (Ok 0) Tagged number row outcome
-  row_tagged number row (Ok count) accepted is = (is.0, is.1, with_tagged number row is.0 (Ok count) accepted is.1 is.2)
-  row_tagged number row (Err told) accepted is = ((is.0.0, is.0.1, with_tagged number row is.0.0 (Err told.fault) accepted is.0.1 is.0.2), is.1)
+  row_judged : (number : ℕ) (row : Row Value) (outcome : Result ℕ (AtRow F)) → IsRowAccepted value_meaning machine image cert row
+      → IsWalkedAt value_meaning image cert.limits (Ok 0) Asked number row outcome → IsWalkedAt value_meaning image cert.limits (Ok 0) judges number row outcome
+  row_judged number row (Ok count) accepted is = (is.0, is.1, with_judged number row is.0 (Ok count) accepted is.1 is.2)
+  row_judged number row (Err told) accepted is = ((is.0.0, is.0.1, with_judged number row is.0.0 (Err told.fault) accepted is.0.1 is.0.2), is.1)
 
-  rows_tagged : (outcome : Result ℕ (AtRow TagFault)) → Accepted value_meaning machine image cert
-      → AreWalked value_meaning image cert.limits (Ok 0) Asked cert.rows outcome → AreRowsTagged value_meaning machine image cert scales outcome
-  rows_tagged outcome accepted is = each_moved_where (IsRowAccepted value_meaning machine image cert)
-      (λ n r o. IsWalkedAt value_meaning image cert.limits (Ok 0) Asked n r o) (λ n r o. IsWalkedAt value_meaning image cert.limits (Ok 0) Tagged n r o)
-      row_tagged 1 cert.rows outcome (recursion_from_All (IsRowAccepted value_meaning machine image cert) cert.rows accepted.rows) is
+  rows_judged : (outcome : Result ℕ (AtRow F)) → Accepted value_meaning machine image cert
+      → AreWalked value_meaning image cert.limits (Ok 0) Asked cert.rows outcome → AreWalked value_meaning image cert.limits (Ok 0) judges cert.rows outcome
+  rows_judged outcome accepted is = each_moved_where (IsRowAccepted value_meaning machine image cert)
+      (λ n r o. IsWalkedAt value_meaning image cert.limits (Ok 0) Asked n r o) (λ n r o. IsWalkedAt value_meaning image cert.limits (Ok 0) judges n r o)
+      row_judged 1 cert.rows outcome (recursion_from_All (IsRowAccepted value_meaning machine image cert) cert.rows accepted.rows) is
 
   -- what comes of the rows, as they are handed over
-  pub handed_rows_tagged : (limits : Limiting Value) (rows : List (Row Value)) (outcome : Result ℕ (AtRow TagFault)) → limits ≡ stated.limits → rows ≡ stated.rows
+  pub handed_rows_judged : (limits : Limiting Value) (rows : List (Row Value)) (outcome : Result ℕ (AtRow F)) → limits ≡ stated.limits → rows ≡ stated.rows
       → Accepted value_meaning machine image cert
-      → AreWalked value_meaning image limits (Ok 0) Asked rows outcome → AreRowsTagged value_meaning machine image cert scales outcome
-  handed_rows_tagged limits rows outcome same_limits same_rows accepted is = rows_tagged outcome accepted
+      → AreWalked value_meaning image limits (Ok 0) Asked rows outcome → AreWalked value_meaning image cert.limits (Ok 0) judges cert.rows outcome
+  handed_rows_judged limits rows outcome same_limits same_rows accepted is = rows_judged outcome accepted
       (subst (λ (l : Limiting Value). AreWalked value_meaning image l (Ok 0) Asked cert.rows outcome) same_limits
       (subst (λ (rs : List (Row Value)). AreWalked value_meaning image limits (Ok 0) Asked rs outcome) same_rows is))
