@@ -5,7 +5,7 @@ use Rattle.std.specs.Prelude.{◌==◌, Option, Some, None, IfSome, if◌then◌
 use Rattle.std.specs.List.{remove}
 use Rattle.std.proofs.lemmas.Bool.{eq-eqb, eqb-true, cases_lt}
 use Rattle.std.proofs.lemmas.Bool.Decides.{nat_tests}
-use Rattle.std.proofs.lemmas.List.{length-set, get_or_default}
+use Rattle.std.proofs.lemmas.List.{length-set, get_or_default, get_or-set_same, get_or-set_other, ext_get_or}
 use Rattle.std.proofs.lemmas.List.Elements.{All-set}
 use Rattle.std.proofs.lemmas.List.Sums.{sum_by-cons, sum_by-set, sum_by-remove}
 use Rattle.ags_domain.specs.Domain.{IsWithin}
@@ -17,7 +17,7 @@ use Rattle.ags_row.specs.declared.ats.At.{At}
 use Rattle.ags_row.specs.declared.rows.Row.{Row}
 use Rattle.ags_row.proofs.CellLemmas.{cells_above}
 use Rattle.ags_certtype.specs.Cert.{Stated, IsCert, rows_at}
-use Rattle.ags_certtype.specs.Edit.{AreCellsWithin, IsLeastOutside, IsUseWithin, others_at}
+use Rattle.ags_certtype.specs.Edit.{AreCellsWithin, IsLeastOutside, IsUseWithin, others_at, with_limit}
 use Rattle.ags_certtype.specs.Index.{numbers_from, numbers_at, locations_of}
 
 -- ---- the first cell outside its limit
@@ -145,6 +145,28 @@ locations_kept (row ∷ rows) (suc i) new d inside same = ap (λ (ns : List ℕ)
 
 -- ---- a limit is replaced
 
+-- the cells with one of them set are the list with the entry set
+module _ (old new : Limiting Value) (address : ℕ) (value : Value) (whole : AreWholeLimits value_meaning old) (whole_new : AreWholeLimits value_meaning new)
+    (inside : address < 2048) (sets : SetsCell old new address value) where
+  entry_is : (i : ℕ) (here : Bool) → (i == address) ≡ here → get_or new.cells i new.every ≡ get_or (set old.cells address value) i new.every
+  unfolding cell_limit
+  entry_is i true is =
+      let same = eqb-true i address is in
+      ap (λ (n : ℕ). get_or new.cells n new.every) same ∙ (sets.cells.set ∙ sym (ap (λ (n : ℕ). get_or (set old.cells address value) n new.every) same
+      ∙ get_or-set_same old.cells address value new.every (omega (arith, inside, whole.tables.cells))))
+  entry_is i false is =
+      let other : i ≢ address = grind (arith, nat_tests) in
+      sets.cells.others i other ∙ (ap (λ (every : Value). get_or old.cells i every) (sym (ap (λ (limits : Limiting Value). limits.every) sets.rest))
+      ∙ sym (get_or-set_other old.cells address i value new.every other))
+
+  cells_set : new.cells ≡ set old.cells address value
+  cells_set = ext_get_or new.every new.cells (set old.cells address value)
+      (whole_new.tables.cells ∙ sym (length-set old.cells address value ∙ whole.tables.cells))
+      (λ i below. entry_is i (i == address) refl)
+
+  pub limits_set : new ≡ record old { cells = set old.cells address value }
+  limits_set = sets.rest ∙ ap (λ (cells : List Value). record old { cells = cells }) cells_set
+
 -- what was within the old limits, and of the cell within the new one, is within the new limits
 within_still : (old new : Limiting Value) (address : ℕ) (value : Value) → SetsCell old new address value → (held : Value) (at : ℕ) (here : Bool) → (at == address) ≡ here
     → (at ≡ address → IsWithin value_meaning held value) → IsWithin value_meaning held (cell_limit old at) → IsWithin value_meaning held (cell_limit new at)
@@ -186,3 +208,9 @@ pub limit_put_in : (stated given : Stated) (limits : Limiting Value) (address : 
     → SetsCell stated.limits limits address value → IsUseWithin given address value → IsCert (record stated { limits = limits })
 limit_put_in stated given limits address value same is whole sets used =
     limit_put stated limits address value is whole sets (subst (λ (g : Stated). IsUseWithin g address value) (sym same) used)
+
+pub limit_put_as : (stated given : Stated) (limits : Limiting Value) (address : ℕ) (value : Value) → stated ≡ given → IsCert stated → AreWholeLimits value_meaning limits
+    → address < 2048 → SetsCell stated.limits limits address value → record stated { limits = limits } ≡ with_limit given address value
+limit_put_as stated given limits address value same is whole inside sets =
+    ap (λ (l : Limiting Value). record stated { limits = l }) (limits_set stated.limits limits address value is.limits whole inside sets)
+    ∙ ap (λ (s : Stated). with_limit s address value) same

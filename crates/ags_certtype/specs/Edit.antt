@@ -4,7 +4,7 @@ use Rattle.std.specs.List.{remove}
 use Rattle.ags_domain.specs.Domain.{IsWithin}
 use Rattle.ags_domain.specs.Value.{value_meaning}
 use Rattle.ags_domain.specs.declared.values.Value.{Value}
-use Rattle.ags_row.specs.Limit.{Limiting, SetsCell, cell_limit}
+use Rattle.ags_row.specs.Limit.{Limiting, cell_limit}
 use Rattle.ags_row.specs.declared.ats.At.{At}
 use Rattle.ags_row.specs.declared.rows.Row.{Row}
 use Rattle.ags_certtype.specs.Cert.{Stated, rows_at}
@@ -58,12 +58,12 @@ pub record IsUseWithin (stated : Stated) (address : ℕ) (value : Value) : Type 
   pub rows : All (λ row. All (λ at. at.address ≡ address → IsWithin value_meaning at.value value) row.at) stated.rows
 
 -- the certificate with the limit of an erasable cell replaced
-abbrev pub HasLimit : (old : Stated) (address : ℕ) → Value → (new : Stated) → Type 0
-HasLimit old address value new = SetsCell old.limits new.limits address value × (new ≡ record old { limits = new.limits })
+abbrev pub with_limit : Stated → (address : ℕ) → Value → Stated
+with_limit stated address value = record stated { limits = record stated.limits { cells = set stated.limits.cells address value } }
 
 -- What comes of a limit's replacement: it is made, and nothing else of the certificate changes; or something that is stated of the cell
 -- isn't within the new limit, and nothing changes.
 abbrev pub ReplacesLimit : (old : Stated) (cell : At Value) → Result Unit EditError → (new : Stated) → Type 0
-ReplacesLimit old cell (Ok done) new = IsUseWithin old cell.address cell.value × HasLimit old cell.address cell.value new
+ReplacesLimit old cell (Ok done) new = IsUseWithin old cell.address cell.value × (new ≡ with_limit old cell.address cell.value)
 ReplacesLimit old cell (Err BelowUse) new = (¬ IsUseWithin old cell.address cell.value) × (new ≡ old)
 ReplacesLimit old cell (Err other) new = ⊥

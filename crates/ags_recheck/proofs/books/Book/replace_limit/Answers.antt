@@ -6,7 +6,7 @@ use Rattle.ags_recheck.proofs.books.Book.replace_limit.Goals as goal
 pub invariant_of-self-2 : goal.invariant_of-self-2
 invariant_of-self-2 g c =
     let len : length c.self.inside.items.items ≡ c.self.inside.items.len = search rules in
-    let rows : length c.replace_limit.new.self.rows ≡ length c.self.inside.cert.rows = ap (λ (s : Stated). length s.rows) c.in_ok-replace_limit.ensures.1.1 in
+    let rows : length c.replace_limit.new.self.rows ≡ length c.self.inside.cert.rows = ap (λ (s : Stated). length s.rows) c.in_ok-replace_limit.ensures.1 in
     book_made c.self.inside.machine c.self.inside.image c.replace_limit.new.self c.judge_all.new.items _ c.self.inside.items.len c.judge_all.ensures.whole
     (c.judge_all.ensures.whole ∙ rows ∙ sym c.self.invariant.whole ∙ len) c.judge_all.ensures.kept
 
