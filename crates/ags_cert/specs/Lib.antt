@@ -1,4 +1,5 @@
 -- what the public contracts cite
+pub mod ValueAt
 pub use Rattle.ags_certtype.specs.Cert
 pub use Rattle.ags_certtype.specs.Limit
 pub use Rattle.ags_certtype.specs.Index

@@ -1,5 +1,6 @@
-//! Tests of certificates: of those in hand, of their texts read, whole and in pieces, and written, over what their crates make public. They
-//! stand in a crate of their own, so that the proofs of those crates aren't done a second time for them.
+//! Tests of certificates: of those in hand, of their texts read, whole and in pieces, and written, and of the values at places of
+//! lines, over what their crates make public. They stand in a crate of their own, so that the proofs of those crates aren't done a
+//! second time for them.
 #![tactic(auto)]
 
 #[cfg(test)]
@@ -16,3 +17,5 @@ mod common;
 mod location_tests;
 #[cfg(test)]
 mod piece_tests;
+#[cfg(test)]
+mod value_tests;
