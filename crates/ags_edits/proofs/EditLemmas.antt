@@ -24,7 +24,7 @@ use Rattle.ags_certread.specs.Gathering.{has_cell, with_entry}
 use Rattle.ags_certread.proofs.CellLemmas.{AreCells-none, AreCells-more, ascend_more, count_more}
 use Rattle.ags_certread.proofs.TableLemmas.{reverse-more, value_reversed}
 use Rattle.ags_edits.specs.Gathering.{AreMade, Gathered, IsBareRow, IsGrown, IsLast, IsLimitMade, IsNoRow, IsRowMade, IsSameBeside, IsWithCell, IsWithLink, IsWordMade, at_fault, gathered_of, without_end}
-use Rattle.ags_edits.specs.Text.{AreEditsOf, Begins, IsEditOf, IsLawful, faults, is_edit, is_end, is_full, is_open, line_fault, row_entries, row_links}
+use Rattle.ags_edits.specs.Text.{AreEditsOf, Begins, IsEditOf, IsLawful, IsWordOfMemory, faults, is_edit, is_end, is_full, is_open, line_fault, row_entries, row_links}
 use Rattle.ags_edits.specs.declared.edits.Edit.{Edit}
 use Rattle.ags_edits.specs.declared.edits.Edit.TheVariants as edit
 use Rattle.ags_edits.specs.declared.edits_errors.EditsKind.{EditsKind}
@@ -93,7 +93,7 @@ bare_grown line row is = record {
 }
 
 module _ (g h : Gatherer) (version : ℕ) (none : g.ended ≡ false) (same : h.ended ≡ g.ended) where
-  pub word_taken : (its : WordEdit) → its.location < 4096 → nat_le 10000 (length g.edits.items) ≡ false → h.edits.items ≡ g.edits.items ++ edit.Word its.location its.word ∷ []
+  pub word_taken : (its : WordEdit) → IsWordOfMemory its.location its.word → nat_le 10000 (length g.edits.items) ≡ false → h.edits.items ≡ g.edits.items ++ edit.Word its.location its.word ∷ []
       → TakesStatement gathered_of faults version g (Word its) h
   word_taken its below room is = λ before so.
       let un = unended before g.ended so.ended_is none in

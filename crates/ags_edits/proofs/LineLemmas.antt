@@ -28,7 +28,7 @@ use Rattle.ags_edits.specs.declared.statements.RowEdit.{RowEdit}
 use Rattle.ags_edits.specs.declared.statements.WordEdit.{WordEdit}
 use Rattle.ags_edits.specs.Operand.{AreOperands, IsRowEdit, IsShared, IsWordEdit, keyword_name, line_of}
 use Rattle.ags_edits.specs.Spelling.{States}
-use Rattle.ags_edits.specs.Text.{edits_name}
+use Rattle.ags_edits.specs.Text.{IsWordOfMemory, edits_name}
 
 -- what is so of what is found
 pub also : {A : Type 0} {P Q : A → Type 0} (found : Option A) → ((x : A) → P x → Q x) → IfSome found P → IfSome found Q
@@ -344,8 +344,14 @@ small_address text number is =
     let same : 8 ^ length text ≡ 4096 = ap (λ n. 8 ^ n) is.length in
     omega (arith, below, same)
 
-pub word_below : (line : List ℕ) (its : WordEdit) → States line (Word its) → its.location < 4096
-word_below line its is = small_address is.place its.location is.location_is
+small_word : (text : List ℕ) (number : ℕ) → Writes 8 6 text number → number < 2 ^ 18
+small_word text number is =
+    let below : number < 8 ^ length text = rw is.value at (digits_value-lt 8 text is.digits) in
+    let same : 8 ^ length text ≡ 262144 = ap (λ n. 8 ^ n) is.length in
+    omega (arith, below, same)
+
+pub word_below : (line : List ℕ) (its : WordEdit) → States line (Word its) → IsWordOfMemory its.location its.word
+word_below line its is = (small_address is.place its.location is.location_is, small_word is.digits its.word is.word_is)
 
 pub row_is : (line : List ℕ) (its : RowEdit) → States line (Row its) → IsRowLine its.new
 row_is line its is = record {

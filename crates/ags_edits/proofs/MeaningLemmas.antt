@@ -1,12 +1,16 @@
 -- Each text of edits means something, and one thing. Behind the law stand
 --     one_list, some_edits
 use Rattle.std.proofs.Common.{◌≡◌, ℕ, ◌<◌, ◌≤◌, ◌⊎◌, Bool, true, false, not, ◌||◌, refl, sym, ap, ◌∙◌, subst, List, [], ◌∷◌, ◌++◌, length, reverse, Option, Some, None, inl, inr, arith}
-use Rattle.std.specs.Prelude.{nat_le, nat_lt, is_some}
+use Rattle.std.specs.Prelude.{All, nat_le, nat_lt, is_some}
 use Rattle.std.proofs.lemmas.Bool.Decides.{nat_tests}
 use Rattle.std.proofs.lemmas.List.{reverse-reverse}
 use Rattle.ags_frame.specs.Fault.{has_ended}
+use Rattle.ags_frame.specs.Reading.{Reading, IsFirstReading, IsReading}
+use Rattle.ags_frame.proofs.ReadingLaws.{some_first_reading, one_first_reading, some_reading, one_reading}
 use Rattle.ags_statements.specs.Text.{IsTextOf}
 use Rattle.ags_statements.proofs.KeptLemmas.{no_fault, text_kept}
+use Rattle.ags_statements.proofs.MeaningLemmas as statements
+use Rattle.ags_statements.proofs.ReadLemmas.{EachIsRead}
 use Rattle.ags_domain.specs.declared.values.Value.{Value}
 use Rattle.ags_row.specs.Cell.{cells_ascend}
 use Rattle.ags_row.specs.Link.{is_link}
@@ -22,7 +26,7 @@ use Rattle.ags_certread.specs.Gathering.{with_entry}
 use Rattle.ags_certread.proofs.UniqueLemmas.{rows_one}
 use Rattle.ags_edits.specs.Gathering.{AreMade, Gathered, IsBareRow, IsSameBeside, IsWithCell, IsWithLink, at_fault}
 use Rattle.ags_edits.specs.Spelling.{States}
-use Rattle.ags_edits.specs.Text.{AreEditsOf, IsEditOf, IsEditsOf, IsFaultyEdits, edits_name, faults, is_end, is_open, line_fault, row_entries, row_links}
+use Rattle.ags_edits.specs.Text.{AreEditsOf, IsEditOf, IsEditsOf, IsFaultyEdits, IsLawful, IsWordOfMemory, edits_name, faults, is_end, is_open, line_fault, row_entries, row_links}
 use Rattle.ags_edits.specs.declared.edits.Edit.{Edit}
 use Rattle.ags_edits.specs.declared.edits.Edit.TheVariants as edit
 use Rattle.ags_edits.specs.declared.edits_errors.EditsKind.{EditsKind}
@@ -31,8 +35,8 @@ use Rattle.ags_edits.specs.declared.statements.EditLine.{EditLine}
 use Rattle.ags_edits.specs.declared.statements.EditLine.TheVariants.{Word, Cell, Row, At, Linked, End}
 use Rattle.ags_edits.specs.declared.statements.RowEdit.{RowEdit}
 use Rattle.ags_edits.specs.declared.statements.WordEdit.{WordEdit}
-use Rattle.ags_edits.proofs.EditLemmas.{all_gathered, ascending_with_cell, bare_grown, few_with_cell, last_first, linked_is, more, open_are, open_row, with_cell_grown, with_link_grown}
-use Rattle.ags_edits.proofs.LineLemmas.{row_is, word_below}
+use Rattle.ags_edits.proofs.EditLemmas.{all_gathered, gathered_lawful, ascending_with_cell, bare_grown, few_with_cell, last_first, linked_is, more, open_are, open_row, with_cell_grown, with_link_grown}
+use Rattle.ags_edits.proofs.LineLemmas.{idle_states_nothing, name_field, one_statement, row_is, some_statement, word_below}
 
 -- ---- the lines state one list of edits
 
@@ -193,7 +197,7 @@ module _ (before : List EditLine) (so : AreGathered before) (un : has_ended is_e
   are : AreMade [] [] before (reverse so.edits)
   are = open_are so.edits so.ended before so.gathered (so.gathered.ended_is ∙ un)
 
-  word_kept : (its : WordEdit) → its.location < 4096 → AreGathered (Word its ∷ before)
+  word_kept : (its : WordEdit) → IsWordOfMemory its.location its.word → AreGathered (Word its ∷ before)
   word_kept its below = record {
     edits = so.edits ++ edit.Word its.location its.word ∷ [];
     ended = false;
@@ -317,3 +321,42 @@ pub some_edits : (text : List ℕ)
 some_edits text (inl fine) =
     let found = edits_of text fine.0 fine.1 in inl (found.0, record { lines = fine.0; is_text = fine.1; are_edits = found.1 })
 some_edits text (inr faulty) = inr faulty
+
+-- ---- a text means something, and one thing
+
+each_line : EachIsRead States
+each_line line = some_reading States some_statement line
+
+one_line : (line : List ℕ) (reading other : Reading EditLine) → IsReading States line reading → IsReading States line other → reading ≡ other
+one_line line reading other is also = one_reading States line (one_statement line) (idle_states_nothing line) reading other is also
+
+some_opening : (line : List ℕ) → (reading : Reading EditLine) × IsFirstReading edits_name 1 line reading
+some_opening line = some_first_reading edits_name 1 line name_field
+
+one_opening : (line : List ℕ) (reading other : Reading EditLine) → IsFirstReading edits_name 1 line reading → IsFirstReading edits_name 1 line other → reading ≡ other
+one_opening line reading other is also = one_first_reading edits_name 1 line reading other name_field is also
+
+module _ (text : List ℕ) where
+  pub each_text_means : ((edits : List Edit) × IsEditsOf text edits) ⊎ ((line : ℕ) × (kind : EditsKind) × IsFaultyEdits text line kind)
+  each_text_means = some_edits text (statements.some_meaning edits_name 1 States some_opening one_opening each_line one_line faults text)
+
+  pub one_edits_of : (one other : List Edit) → IsEditsOf text one → IsEditsOf text other → one ≡ other
+  one_edits_of one other is also =
+      let lines = statements.one_text edits_name 1 States some_opening one_opening each_line one_line faults text is.lines also.lines is.is_text also.is_text in
+      one_list is.lines one other is.are_edits (subst (λ (l : List EditLine). AreEditsOf l other) (sym lines) also.are_edits)
+
+  pub one_fault_of : (line other_line : ℕ) (kind other_kind : EditsKind) → IsFaultyEdits text line kind → IsFaultyEdits text other_line other_kind
+      → (line ≡ other_line) × (kind ≡ other_kind)
+  one_fault_of line other_line kind other_kind is also =
+      statements.one_fault edits_name 1 States some_opening one_opening each_line one_line faults text line other_line kind other_kind is also
+
+  pub never_both : (edits : List Edit) (line : ℕ) (kind : EditsKind) → IsEditsOf text edits → IsFaultyEdits text line kind → ⊥
+  never_both edits line kind is faulty =
+      statements.not_both edits_name 1 States some_opening one_opening each_line one_line faults text is.lines line kind is.is_text faulty
+
+  -- the edits are of the memory
+  pub lawful_edits : (edits : List Edit) → IsEditsOf text edits → All IsLawful edits
+  lawful_edits edits is =
+      let all = text_kept edits_name 1 States faults AreGathered line_kept nothing text is.lines is.is_text in
+      subst (λ (l : List Edit). All IsLawful l) (one_list is.lines all.edits edits (all_gathered all.edits all.ended is.lines all.gathered) is.are_edits)
+      (gathered_lawful all.edits all.ended (reverse is.lines) all.gathered)

@@ -11,7 +11,7 @@ use Rattle.ags_certtext.specs.Fault.{is_empty}
 use Rattle.ags_certtext.specs.Text.{IsLinkOf}
 use Rattle.ags_certread.specs.Before.{AreCells}
 use Rattle.ags_certread.specs.Gathering.{has_cell, with_entry}
-use Rattle.ags_edits.specs.Text.{Begins, is_end}
+use Rattle.ags_edits.specs.Text.{Begins, IsWordOfMemory, is_end}
 use Rattle.ags_edits.specs.declared.edits.Edit.{Edit}
 use Rattle.ags_edits.specs.declared.edits.Edit.TheVariants as edit
 use Rattle.ags_edits.specs.declared.edits_errors.EditsKind.{EditsKind}
@@ -79,7 +79,7 @@ IsRowMade its cells links made = (new : RowOf Value) × IsGrown its.new cells li
 
 -- the edit of a word, and that of a cell's limit
 abbrev pub IsWordMade : WordEdit → Edit → Type 0
-IsWordMade its made = (made ≡ edit.Word its.location its.word) × (its.location < 4096)
+IsWordMade its made = (made ≡ edit.Word its.location its.word) × IsWordOfMemory its.location its.word
 
 abbrev pub IsLimitMade : Entry → Edit → Type 0
 IsLimitMade its made = (value : Value) × (its.value ≡ Some value) × (made ≡ edit.Limit (record { address = its.address; value = value })) × (its.address < 2048)

@@ -1,5 +1,5 @@
 -- What a text of edits says: the edits that it states, or its first fault. Where lines stand before another they are told nearest first.
-use Rattle.std.specs.Prelude.{◌≡◌, ℕ, ◌<◌, ◌||◌, not, nat_le, nat_lt, filter, Bool, true, false, List, [], ◌∷◌, length, Option, Some, None, codes}
+use Rattle.std.specs.Prelude.{◌≡◌, ℕ, ◌<◌, ◌^◌, ◌||◌, not, nat_le, nat_lt, filter, Bool, true, false, List, [], ◌∷◌, length, Option, Some, None, codes}
 use Rattle.ags_frame.specs.Fault.{Faults, has_ended}
 use Rattle.ags_statements.specs.Fault.{fault_if}
 use Rattle.ags_statements.specs.Text.{IsTextOf, IsFaultyText}
@@ -140,8 +140,12 @@ abbrev pub error_of : TextError EditsKind → EditsError
 error_of (text.At line fault) = error.At line fault
 error_of text.NoMemory = error.NoMemory
 
--- an edit of a word is one of the 4096 locations, and one of a limit is that of an erasable cell
+-- the word is one of 18 bits, and stands at one of the 4096 locations
+abbrev pub IsWordOfMemory : (location word : ℕ) → Type 0
+IsWordOfMemory location word = (location < 4096) × (word < 2 ^ 18)
+
+-- an edit of a word is one of the memory's, and one of a limit is that of an erasable cell
 abbrev pub IsLawful : Edit → Type 0
-IsLawful (edit.Word location word) = location < 4096
+IsLawful (edit.Word location word) = IsWordOfMemory location word
 IsLawful (edit.Limit cell) = cell.address < 2048
 IsLawful (edit.Row number new) = Unit {0}

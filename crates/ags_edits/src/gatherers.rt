@@ -30,7 +30,7 @@ impl Gatherer {
     ghost use Rattle.ags_statements.specs.Taking.{TakesStatement, TellsUntaken};
     ghost use Rattle.ags_statements.specs.declared.gathers.Untaken.TheVariants.{NoMemory};
     ghost use Rattle.ags_edits.specs.Gathering.{IsLast, gathered_of};
-    ghost use Rattle.ags_edits.specs.Text.{faults};
+    ghost use Rattle.ags_edits.specs.Text.{IsWordOfMemory, faults};
     ghost use Rattle.ags_edits.specs.declared.statements.EditLine.TheVariants as line;
 
     /// Nothing is gathered.
@@ -66,7 +66,7 @@ impl Gatherer {
     /// Takes the edit of a word, where END doesn't stand before it.
     fn take_word(&mut self, its: WordEdit) -> Result<(), Untaken<EditsKind>>
         requires unended { self.old.ended ≡ false }
-        requires location { its.location < 4096 }
+        requires word { IsWordOfMemory its.location its.word }
         ensures taken { (version : ℕ) → IfOk result (λ _. TakesStatement gathered_of faults version self.old (line.Word its) self.new) }
         ensures untaken { (version : ℕ) → IfErr result (TellsUntaken gathered_of faults version self.old (line.Word its)) }
     {

@@ -38,7 +38,7 @@ pub fn read(alloc: Global, bytes: &[u8]) -> Result<Vec<Edit>, EditsError>
     // The text is one of edits without a fault, and it states these; or its first fault is this one.
     ensures read { IfOk result (λ edits. IsEditsOf bytes.now edits.items) }
     ensures refused { IfErr result (IsRefused bytes.now) }
-    // A word's location is one of the 4096, and a limit is one of an erasable cell.
+    // A word is one of 18 bits at one of the 4096 locations, and a limit is one of an erasable cell.
     ensures lawful { IfOk result (λ edits. All IsLawful edits.items) }
 {
     match read_text(bytes, b"AGSEDIT", LATEST_VERSION, Gatherer::new(alloc)) {

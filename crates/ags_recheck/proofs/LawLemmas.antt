@@ -1,5 +1,6 @@
 -- What edits leave. Behind the law are
---     machine_stays, refused_stays, one_verdict
+--     machine_stays, refused_stays
+-- and `one_stays` serves what is told of edits.
 use Rattle.std.proofs.Common.{◌≡◌, ap, ◌∙◌, List, [], ◌∷◌}
 use Rattle.std.specs.Prelude.{Result, Ok, Err}
 use Rattle.ags_certtype.specs.declared.edit_errors.EditError.{EditError}
@@ -9,7 +10,7 @@ use Rattle.ags_edits.specs.declared.edits.Edit.{Edit}
 use Rattle.ags_edits.specs.declared.edits.Edit.TheVariants as edit
 use Rattle.ags_recheck.specs.Edited.{IsEdited, AreEdited, ChangesCert}
 
-one_stays : (old new : Judging) (e : Edit) (outcome : Result Unit EditError) → IsEdited old e outcome new → new.machine ≡ old.machine
+pub one_stays : (old new : Judging) (e : Edit) (outcome : Result Unit EditError) → IsEdited old e outcome new → new.machine ≡ old.machine
 one_stays old new (edit.Word location word) (Ok done) is = ap (λ (j : Judging). j.machine) is
 one_stays old new (edit.Word location word) (Err told) is = absurd is
 one_stays old new (edit.Limit cell) outcome is = ap (λ (j : Judging). j.machine) is.1

@@ -10,3 +10,6 @@ mod StartLemmas
 mod BookLemmas
 mod BoundLemmas
 mod LawLemmas
+-- What is told of edits.
+pub mod TellingLemmas
+pub mod StandingLemmas

@@ -1,6 +1,8 @@
 -- what the public contracts cite
 pub mod Edited
 pub mod Bound
+pub mod Told
+pub mod ToldText
 -- what serves inside
 pub mod Places
 pub mod Joined

@@ -2,7 +2,7 @@
 //! that a check from nothing would tell, and judges again those rows alone that the edit can concern. It keeps of each
 //! row what comes of it and the locations of its posts, in room that it takes when it is made. It stands on `ags_check`
 //! for what is checked, on `ags_certtype` for edits of a certificate, and on `ags_verdict` for which rows a row is judged
-//! by.
+//! by. `read`, which reads a text of edits, stands in `ags_edits` and is handed on here.
 #![tactic(auto)]
 
 mod books;
@@ -12,5 +12,8 @@ pub mod laws;
 mod noting;
 mod places;
 mod rejudging;
+mod telling;
 
+pub use ags_edits::{EDITS_LIMIT, Edit, EditsError, EditsKind, MOST_EDITS, read};
 pub use books::Book;
+pub use telling::Told;

@@ -8,3 +8,5 @@ mod book_tests;
 mod common;
 #[cfg(test)]
 mod large_tests;
+#[cfg(test)]
+mod random_tests;

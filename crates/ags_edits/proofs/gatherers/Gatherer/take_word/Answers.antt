@@ -8,6 +8,6 @@ returns-then-is_full-clause-untaken c = λ version.
 
 pub returns-clause-taken : goal.returns-clause-taken
 returns-clause-taken c = λ version. ok_also c.add.result
-    (λ x is. word_taken c.args.self.now c.add.new.self version c.requires.unended c.add.ensures.ended c.args.its c.requires.location
+    (λ x is. word_taken c.args.self.now c.add.new.self version c.requires.unended c.add.ensures.ended c.args.its c.requires.word
     (sym c.is_full.ensures ∙ c.if-is_full.false) is)
     c.add.ensures.added

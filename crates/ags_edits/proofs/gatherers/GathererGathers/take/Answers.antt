@@ -1,8 +1,8 @@
 use Rattle.ags_edits.proofs.LineLemmas.{row_is, word_below}
 use Rattle.ags_edits.proofs.gatherers.GathererGathers.take.Goals as goal
 
-pub take_word-requires-clause-location : goal.take_word-requires-clause-location
-take_word-requires-clause-location c = word_below c.requires.0 c.in-Word.its (rw c.in-Word.is at c.requires.1)
+pub take_word-requires-clause-word : goal.take_word-requires-clause-word
+take_word-requires-clause-word c = word_below c.requires.0 c.in-Word.its (rw c.in-Word.is at c.requires.1)
 
 pub take_row-requires-clause-row : goal.take_row-requires-clause-row
 take_row-requires-clause-row c = row_is c.requires.0 c.in-Row.its (rw c.in-Row.is at c.requires.1)
