@@ -185,6 +185,27 @@ prints 9 scales examples/limiter.lem examples/limiter.cert examples/deck.times <
 SCALES LINE 1 ERROR 1 BadLine
 END
 
+# --- edits
+
+prints 1 edits examples/return.lem examples/return.cert examples/return.edits <<'END'
+CERTIFIED ROWS 5 CASES 5
+EDIT 1 REFUSED 3 CodeUnknown ROW 5
+EDIT 2 CERTIFIED ROWS 5 CASES 5
+EDIT 3 NOTMADE 3 BelowUse
+EDIT 4 NOTMADE 1 NoRow
+END
+
+sed '/^CELL/,/^ROW 6/d' examples/return.edits >"$room/two.edits"
+prints 0 edits examples/return.lem examples/return.cert "$room/two.edits" <<'END'
+CERTIFIED ROWS 5 CASES 5
+EDIT 1 REFUSED 3 CodeUnknown ROW 5
+EDIT 2 CERTIFIED ROWS 5 CASES 5
+END
+
+prints 9 edits examples/return.lem examples/return.cert examples/deck.times <<'END'
+EDITS LINE 1 ERROR 1 BadLine
+END
+
 # --- listings, tapes and symbols
 
 "$ags" assemble examples/first.lem >"$room/first.lst"
@@ -247,7 +268,7 @@ END
 # --- what standard error says
 
 says 3 assemble <<'END'
-ags: the forms of arguments are: assemble S [M], compare S L [M], tape S [M], xref S [M], certify S C [M], run S P [M], guard S P C [M], budget S C T [M], scales S C K [M], workload N
+ags: the forms of arguments are: assemble S [M], compare S L [M], tape S [M], xref S [M], certify S C [M], run S P [M], guard S P C [M], budget S C T [M], scales S C K [M], edits S C E [M], workload N
 END
 
 says 5 assemble examples <<'END'

@@ -15,7 +15,7 @@ use Rattle.std.proofs.lemmas.Str.Parse.{IsNumeralModel}
 use Rattle.ags_text.specs.Numeral.{IsNumber, number_of}
 use Rattle.ags_text.proofs.NumberLaws.{number_told, number_written}
 use Rattle.ags_command.specs.declared.source_texts.SourceText.TheVariants.{Listing, Tape, CrossReference}
-use Rattle.ags_command.specs.Command.{Command, Write, Compare, Certify, Run, Guard, Budget, Scales, CommandLine, arguments_of, machine_argument, line_arguments, line_of, Asked, OnMachine, Workload, IsAsked, workload_verb, asked_arguments, size_within, size_of, workload_of, asked_of}
+use Rattle.ags_command.specs.Command.{Command, Write, Compare, Certify, Run, Guard, Budget, Scales, Edits, CommandLine, arguments_of, machine_argument, line_arguments, line_of, Asked, OnMachine, Workload, IsAsked, workload_verb, asked_arguments, size_within, size_of, workload_of, asked_of}
 use Rattle.ags_command.proofs.CommandLemmas.{line_of-line_arguments, line_arguments-line_of}
 
 -- ---- sizes
@@ -84,6 +84,7 @@ of_line line = of_command line.command line.machine
     of_command (Guard source script certificate) machine = refl
     of_command (Budget source certificate times) machine = refl
     of_command (Scales source certificate scales) machine = refl
+    of_command (Edits source certificate edits) machine = refl
 
 pub asked_of-asked_arguments : (asked : Asked) → IsAsked asked → asked_of (asked_arguments asked) ≡ Some asked
 asked_of-asked_arguments (OnMachine line) is = of_line line ∙ ap (option_map OnMachine) (line_of-line_arguments line)

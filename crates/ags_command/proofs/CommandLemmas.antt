@@ -7,7 +7,7 @@ use Rattle.std.specs.Str.{bytes_eq}
 use Rattle.std.proofs.lemmas.Slice.Eq.{bytes_eq-Decides}
 use Rattle.ags_command.specs.declared.source_texts.SourceText.{SourceText}
 use Rattle.ags_command.specs.declared.source_texts.SourceText.TheVariants.{Listing, Tape, CrossReference}
-use Rattle.ags_command.specs.Command.{Command, Write, Compare, Certify, Run, Guard, Budget, Scales, CommandLine, verb_of, arguments_of, machine_argument, line_arguments, line_with, one_name, two_names, three_names, Form, form_of, forms, line_named, line_of}
+use Rattle.ags_command.specs.Command.{Command, Write, Compare, Certify, Run, Guard, Budget, Scales, Edits, CommandLine, verb_of, arguments_of, machine_argument, line_arguments, line_with, one_name, two_names, three_names, Form, form_of, forms, line_named, line_of}
 
 -- what stands behind a command's names is read back
 line_with-machine_argument : (command : Command) (machine : Option (List ℕ)) → line_with command (machine_argument machine) ≡ Some (record { command = command; machine = machine })
@@ -27,6 +27,7 @@ line_of-line_arguments line = of_command line.command line.machine
     of_command (Guard source script certificate) machine = line_with-machine_argument (Guard source script certificate) machine
     of_command (Budget source certificate times) machine = line_with-machine_argument (Budget source certificate times) machine
     of_command (Scales source certificate scales) machine = line_with-machine_argument (Scales source certificate scales) machine
+    of_command (Edits source certificate edits) machine = line_with-machine_argument (Edits source certificate edits) machine
 
 -- and nothing else asks for it
 of_line_with : (command : Command) (behind : List (List ℕ)) (line : CommandLine) → line_with command behind ≡ Some line → arguments_of command ++ behind ≡ line_arguments line
@@ -82,7 +83,7 @@ are_forms = (
         of_text CrossReference,
         (
           of_two_names (codes "certify") Certify (λ name other. refl),
-          (of_two_names (codes "run") Run (λ name other. refl), (of_three_names (codes "guard") Guard (λ name other third. refl), (of_three_names (codes "budget") Budget (λ name other third. refl), (of_three_names (codes "scales") Scales (λ name other third. refl), tt)))),
+          (of_two_names (codes "run") Run (λ name other. refl), (of_three_names (codes "guard") Guard (λ name other third. refl), (of_three_names (codes "budget") Budget (λ name other third. refl), (of_three_names (codes "scales") Scales (λ name other third. refl), (of_three_names (codes "edits") Edits (λ name other third. refl), tt))))),
         ),
       ),
     ),

@@ -24,6 +24,8 @@ pub data Command : Type 0 where
   Budget : (source certificate times : List ℕ) → Command
   -- whether the scales of the text of scales of that name agree, where the certificate is accepted for the words of that source
   Scales : (source certificate scales : List ℕ) → Command
+  -- what comes of the edits of the text of edits of that name, made of the certificate and the words of that source
+  Edits : (source certificate edits : List ℕ) → Command
 
 -- What a command line asks for: a command, and the name of the file of the machine that it is for, or nothing, where it is for
 -- the standard machine.
@@ -46,6 +48,7 @@ arguments_of (Run source script) = codes "run" ∷ source ∷ script ∷ []
 arguments_of (Guard source script certificate) = codes "guard" ∷ source ∷ script ∷ certificate ∷ []
 arguments_of (Budget source certificate times) = codes "budget" ∷ source ∷ certificate ∷ times ∷ []
 arguments_of (Scales source certificate scales) = codes "scales" ∷ source ∷ certificate ∷ scales ∷ []
+arguments_of (Edits source certificate edits) = codes "edits" ∷ source ∷ certificate ∷ edits ∷ []
 
 -- the argument that names a machine file, where one is named
 abbrev pub machine_argument : Option (List ℕ) → List (List ℕ)
@@ -98,6 +101,7 @@ forms =
     ∷ record { verb = codes "guard"; line_of = three_names Guard }
     ∷ record { verb = codes "budget"; line_of = three_names Budget }
     ∷ record { verb = codes "scales"; line_of = three_names Scales }
+    ∷ record { verb = codes "edits"; line_of = three_names Edits }
     ∷ []
 
 -- what a verb and the names behind it ask for, by the form of that verb

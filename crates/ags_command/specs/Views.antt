@@ -16,6 +16,7 @@ command_view (named.Run source script) = asked.Run source.now script.now
 command_view (named.Guard source script certificate) = asked.Guard source.now script.now certificate.now
 command_view (named.Budget source certificate times) = asked.Budget source.now certificate.now times.now
 command_view (named.Scales source certificate scales) = asked.Scales source.now certificate.now scales.now
+command_view (named.Edits source certificate edits) = asked.Edits source.now certificate.now edits.now
 
 -- and a command line
 abbrev pub line_view : CommandLine → asked.CommandLine

@@ -66,6 +66,15 @@ pub enum Command<'a> {
         /// The name of the text of scales.
         scales: &'a str,
     },
+    /// What comes of edits of a certificate and of the words of a source.
+    Edits {
+        /// The name of the source.
+        source: &'a str,
+        /// The name of the certificate.
+        certificate: &'a str,
+        /// The name of the text of edits.
+        edits: &'a str,
+    },
 }
 
 /// What a command line asks for.
@@ -209,6 +218,23 @@ fn read_scales(names: &[String]) -> Option<CommandLine<'_>>
     }
 }
 
+/// What `edits` and these names ask for.
+fn read_edits(names: &[String]) -> Option<CommandLine<'_>>
+    ensures { option_map line_view result ≡ asked.three_names asked.Edits (map string_bytes names.now) }
+{
+    match names {
+        [source, certificate, edits, behind @ ..] => line_with(
+            Command::Edits {
+                source: source.as_str(),
+                certificate: certificate.as_str(),
+                edits: edits.as_str(),
+            },
+            behind,
+        ),
+        _ => None,
+    }
+}
+
 /// What a verb and the names behind it ask for.
 pub(crate) fn read_names<'a>(verb: &str, names: &'a [String]) -> Option<CommandLine<'a>>
     ensures { option_map line_view result ≡ asked.line_named asked.forms verb.now (map string_bytes names.entry.now) }
@@ -223,6 +249,7 @@ pub(crate) fn read_names<'a>(verb: &str, names: &'a [String]) -> Option<CommandL
         "guard" => read_guard(names),
         "budget" => read_budget(names),
         "scales" => read_scales(names),
+        "edits" => read_edits(names),
         _ => None,
     }
 }

@@ -18,6 +18,17 @@ const SUM_CERTIFICATE: &str =
 const SUM_SCALES: &str =
     "AGSSCALE 1\nCELL 0020 6\nCELL 4005 6\nIN 2001 3\nROW 2 3 ANY\nROW 3 6 ANY\nROW 4 6 ANY\nEND\n";
 
+/// A subroutine that keeps its return word in a cell and goes back through it.
+const RETURN: &str = " ORG /4000\n TSQ /4002\n TRA /4000\n STQ /17\n TRA /17\n";
+
+/// Its certificate.
+const RETURN_CERTIFICATE: &str =
+    "AGSCERT 1\nROW 4000 A ANY Q ANY X 0 V 0\nROW 4001 A ANY Q ANY X 0 V 0\nROW 4002 A ANY Q WORDS 404001 X 0 V 0\nROW 4003 A ANY Q ANY X 0 V 0\nAT 0017 WORDS 404001\nROW 0017 A ANY Q ANY X 0 V 0\nAT 0017 WORDS 404001\nEND\n";
+
+/// Edits of its last row.
+const RETURN_EDITS: &str =
+    "AGSEDIT 1\nROW 5 0017 A ANY Q ANY X 0 V 0\nROW 5 0017 A ANY Q ANY X 0 V 0\nAT 0017 WORDS 404001\nEND\n";
+
 /// The arguments of a command line.
 pub(crate) fn arguments_of(rt: &impl Abort, alloc: Global, line: &str) -> Vec<String> {
     let mut arguments = Vec::new(alloc);
@@ -49,7 +60,8 @@ fn add_file(rt: &impl Abort, shelf: &mut MemoryShelf, absent: &str, name: &str, 
 }
 
 /// A source S with its listing L; the deck D with its certificate C, its script P, and the certificate K with the bounds T of its rows;
-/// and the sum A with its certificate B and its scales E. One of them may be absent.
+/// the sum A with its certificate B and its scales E; and the subroutine R with its certificate Q and the edits U. One of them may be
+/// absent.
 pub(crate) fn files_without(rt: &impl Abort, alloc: Global, absent: &str) -> MemoryShelf {
     let mut shelf = MemoryShelf::new(alloc);
     add_file(
@@ -68,6 +80,9 @@ pub(crate) fn files_without(rt: &impl Abort, alloc: Global, absent: &str) -> Mem
     add_file(rt, &mut shelf, absent, "A", SUM);
     add_file(rt, &mut shelf, absent, "B", SUM_CERTIFICATE);
     add_file(rt, &mut shelf, absent, "E", SUM_SCALES);
+    add_file(rt, &mut shelf, absent, "R", RETURN);
+    add_file(rt, &mut shelf, absent, "Q", RETURN_CERTIFICATE);
+    add_file(rt, &mut shelf, absent, "U", RETURN_EDITS);
     shelf
 }
 

@@ -160,6 +160,14 @@ fn scales_of_a_sum_are_cut_off_at_each_call(rt: HostRuntime) {
     fail_each_call(&rt, "scales A B E", 6, text);
 }
 
+// The verdict and the line of each edit are sent one by one.
+#[test]
+fn edits_of_a_subroutine_are_cut_off_at_each_call(rt: HostRuntime) {
+    let text =
+        "CERTIFIED ROWS 5 CASES 5\nEDIT 1 REFUSED 3 CodeUnknown ROW 5\nEDIT 2 CERTIFIED ROWS 5 CASES 5\n";
+    fail_each_call(&rt, "edits R Q U", 6, text);
+}
+
 // Two faults at once: behind a pull that failed no put is made, so the first put is still to come, and fails.
 #[test]
 fn the_second_of_two_faults_is_not_reached(rt: HostRuntime) {
@@ -177,7 +185,7 @@ fn the_second_of_two_faults_is_not_reached(rt: HostRuntime) {
 }
 
 /// A command line, the file that is absent, and what is printed.
-const ABSENT: [(&str, &str, &str); 12] = [
+const ABSENT: [(&str, &str, &str); 13] = [
     ("assemble S", "S", "ABSENT S\n"),
     ("compare S L", "S", "ABSENT S\n"),
     ("compare S L", "L", "ABSENT L\n"),
@@ -190,6 +198,7 @@ const ABSENT: [(&str, &str, &str); 12] = [
     ("guard D P C", "C", "ABSENT C\n"),
     ("budget D K T", "T", "ABSENT T\n"),
     ("scales A B E", "E", "ABSENT E\n"),
+    ("edits R Q U", "U", "ABSENT U\n"),
 ];
 
 #[test]

@@ -127,6 +127,23 @@ fn texts_of_scales_have_a_limit(rt: HostRuntime) {
     expect_over(&rt, &mut shelf, "scales S C G", Status::LongFile, text);
 }
 
+// A text of edits of empty lines, as long as it may be, and one byte longer.
+#[test]
+fn texts_of_edits_have_a_limit(rt: HostRuntime) {
+    let alloc = rt.alloc();
+    let mut file = many(&rt, alloc, b'\n', 4_194_304);
+    let mut shelf = MemoryShelf::new(alloc);
+    assert!(&rt; shelf.add("S", WAITING.as_bytes()).is_ok());
+    assert!(&rt; shelf.add("C", WAITING_CERTIFICATE.as_bytes()).is_ok());
+    assert!(&rt; shelf.add("F", file.as_slice()).is_ok());
+    assert!(&rt; file.push(b'\n').is_ok());
+    assert!(&rt; shelf.add("G", file.as_slice()).is_ok());
+    let text = "EDITS LINE 1 ERROR 1 BadLine\n";
+    expect_over(&rt, &mut shelf, "edits S C F", Status::BadText, text);
+    let text = "LONG G 4194304\n";
+    expect_over(&rt, &mut shelf, "edits S C G", Status::LongFile, text);
+}
+
 /// Adds a line to a text.
 fn add_line(rt: &impl Abort, text: &mut Vec<u8>, line: &str) {
     assert!(rt; text.extend_from_slice(line.as_bytes()).is_ok());
@@ -223,6 +240,99 @@ fn each_row_and_each_cell_may_be_named(rt: HostRuntime) {
     expect_over(&rt, &mut shelf, "budget S C T", Status::No, text);
     let text = "CERTIFIED ROWS 20000 CASES 20000\nSCALES AGREE\n";
     expect_over(&rt, &mut shelf, "scales S C K", Status::Done, text);
+}
+
+/// A text of so many edits that put an order into the place where it stands.
+fn same_words(rt: &impl Abort, alloc: Global, count: u32) -> Vec<u8> {
+    let mut text = Vec::new(alloc);
+    add_line(rt, &mut text, "AGSEDIT 1");
+    for _ in 0..count {
+        add_line(rt, &mut text, "WORD 4000 704000");
+    }
+    add_line(rt, &mut text, "END");
+    text
+}
+
+// There are 10,000 edits at most. The further one is told where it stands, in the line behind theirs.
+#[test]
+fn texts_of_edits_have_ten_thousand_at_most(rt: HostRuntime) {
+    let alloc = rt.alloc();
+    let mut wanted = String::new(alloc);
+    add(&rt, &mut wanted, "CERTIFIED ROWS 1 CASES 1\n");
+    for place in 0..10_000u32 {
+        let number = place + 1;
+        let line = format!(in alloc; "EDIT {number} CERTIFIED ROWS 1 CASES 1\n");
+        add(&rt, &mut wanted, &line.expect(&rt, "memory for a line"));
+    }
+    let mut shelf = MemoryShelf::new(alloc);
+    assert!(&rt; shelf.add("S", WAITING.as_bytes()).is_ok());
+    assert!(&rt; shelf.add("C", WAITING_CERTIFICATE.as_bytes()).is_ok());
+    let most = same_words(&rt, alloc, 10_000);
+    assert!(&rt; shelf.add("E", most.as_slice()).is_ok());
+    let more = same_words(&rt, alloc, 10_001);
+    assert!(&rt; shelf.add("F", more.as_slice()).is_ok());
+    expect_over(
+        &rt,
+        &mut shelf,
+        "edits S C E",
+        Status::Done,
+        wanted.as_str(),
+    );
+    let text = "EDITS LINE 10002 ERROR 6 TooManyEdits\n";
+    expect_over(&rt, &mut shelf, "edits S C F", Status::BadText, text);
+}
+
+/// A certificate of the loops, with ten rows at each of them in which everything may stand.
+fn wide_certificate(rt: &impl Abort, alloc: Global) -> Vec<u8> {
+    let mut text = Vec::new(alloc);
+    add_line(rt, &mut text, "AGSCERT 1");
+    for place in 0..2000u16 {
+        for _ in 0..10 {
+            add_addressed(
+                rt,
+                &mut text,
+                "ROW ",
+                2048 + place,
+                " A ANY Q ANY X 01234567 V 01",
+            );
+        }
+    }
+    add_line(rt, &mut text, "END");
+    text
+}
+
+// Each of the first 10,000 of 20,000 rows is replaced by one with a lesser range. A check from nothing after each would take hours.
+#[test]
+fn ten_thousand_rows_are_edited(rt: HostRuntime) {
+    let alloc = rt.alloc();
+    let mut edits = Vec::new(alloc);
+    add_line(&rt, &mut edits, "AGSEDIT 1");
+    let mut wanted = String::new(alloc);
+    add(&rt, &mut wanted, "CERTIFIED ROWS 20000 CASES 320000\n");
+    for place in 0..10_000u32 {
+        let number = place + 1;
+        let row = format!(in alloc; "ROW {number} ").expect(&rt, "memory for a line");
+        let end = format!(in alloc; " A RANGE 0 {number} Q ANY X 01234567 V 01").expect(
+            &rt,
+            "memory for a line",
+        );
+        add_addressed(&rt, &mut edits, &row, 2048 + (place / 10) as u16, &end);
+        let line = format!(in alloc; "EDIT {number} CERTIFIED ROWS 20000 CASES 320000\n");
+        add(&rt, &mut wanted, &line.expect(&rt, "memory for a line"));
+    }
+    add_line(&rt, &mut edits, "END");
+    let mut shelf = MemoryShelf::new(alloc);
+    assert!(&rt; shelf.add("S", loops(&rt, alloc).as_slice()).is_ok());
+    let certificate = wide_certificate(&rt, alloc);
+    assert!(&rt; shelf.add("C", certificate.as_slice()).is_ok());
+    assert!(&rt; shelf.add("E", edits.as_slice()).is_ok());
+    expect_over(
+        &rt,
+        &mut shelf,
+        "edits S C E",
+        Status::Done,
+        wanted.as_str(),
+    );
 }
 
 // A certificate of empty lines behind its first, as long as it may be and one byte longer. Its END is missing.

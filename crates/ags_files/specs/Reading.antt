@@ -1,5 +1,6 @@
 -- What a reader makes of bytes, and what a loader answers by it.
-use Rattle.std.specs.Prelude.{◌≡◌, ℕ, ◌<◌, ◌≤◌, List, length, Option, Some, None, Result, Ok, Err}
+use Rattle.std.specs.Prelude.{All, ◌≡◌, ℕ, ◌<◌, ◌≤◌, List, length, Option, Some, None, Result, Ok, Err}
+use Rattle.std.specs.Global.{Vec}
 use Rattle.ags_asm.specs.Source.{IsFaulty}
 use Rattle.ags_cert.specs.Cert.{Stated}
 use Rattle.ags_cert.specs.Length.{certificate_limit}
@@ -25,6 +26,11 @@ use Rattle.ags_script.specs.declared.script_errors.ScriptError.{ScriptError}
 use Rattle.ags_script.specs.declared.script_errors.ScriptError.TheVariants as script
 use Rattle.ags_script.specs.Limit.{script_limit}
 use Rattle.ags_script.specs.Script.{IsScript, IsFaultyScript}
+use Rattle.ags_edits.specs.declared.edits.Edit.{Edit}
+use Rattle.ags_edits.specs.declared.edits_errors.EditsError.{EditsError}
+use Rattle.ags_edits.specs.declared.edits_errors.EditsError.TheVariants as edits
+use Rattle.ags_edits.specs.Limit.{edits_limit}
+use Rattle.ags_edits.specs.Text.{IsEditsOf, IsFaultyEdits, IsLawful}
 use Rattle.ags_times.specs.declared.budget_errors.BudgetError.{BudgetError}
 use Rattle.ags_times.specs.declared.budget_errors.BudgetError.TheVariants as times
 use Rattle.ags_times.specs.Limit.{times_limit}
@@ -126,3 +132,15 @@ RefusesScales machine rows bytes scales.NoMemory = ⊥
 -- a text of scales, for a machine and so many rows
 abbrev pub scales_reading : (machine : Machine) → (rows : ℕ) → Reading Scaling ScaleError
 scales_reading machine rows = record { limit = scales_limit; Holds = IsScalesOf machine.ports rows; Refuses = RefusesScales machine rows }
+
+-- the first fault of a text of edits, and the edits of one without a fault, which are all of the memory
+abbrev pub RefusesEdits : (bytes : List ℕ) → EditsError → Type 0
+RefusesEdits bytes (edits.At line kind) = IsFaultyEdits bytes line kind
+RefusesEdits bytes edits.NoMemory = ⊥
+
+abbrev pub HoldsEdits : (bytes : List ℕ) → Vec Edit → Type 0
+HoldsEdits bytes made = IsEditsOf bytes made.items × All IsLawful made.items
+
+-- a text of edits
+abbrev pub edits_reading : Reading (Vec Edit) EditsError
+edits_reading = record { limit = edits_limit; Holds = HoldsEdits; Refuses = RefusesEdits }

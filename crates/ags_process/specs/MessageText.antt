@@ -10,7 +10,7 @@ unread_text None = codes "a file can't be read"
 
 -- the message of a status, and nothing for one that has a line of its own on standard output
 abbrev pub message_text : Status → (unread : Option (List ℕ)) → List ℕ
-message_text BadWords unread = codes "the forms of arguments are: assemble S [M], compare S L [M], tape S [M], xref S [M], certify S C [M], run S P [M], guard S P C [M], budget S C T [M], scales S C K [M], workload N"
+message_text BadWords unread = codes "the forms of arguments are: assemble S [M], compare S L [M], tape S [M], xref S [M], certify S C [M], run S P [M], guard S P C [M], budget S C T [M], scales S C K [M], edits S C E [M], workload N"
 message_text ReadFault unread = unread_text unread
 message_text WriteFault unread = codes "the output can't be written"
 message_text NoMemory unread = codes "memory ran out"

@@ -27,7 +27,7 @@ impl fmt::Display for Message<'_> {
     fn fmt<W: fmt::Write>(&self, f: &mut fmt::Formatter<W>) -> fmt::Result {
         match self.status {
             Status::BadWords => f.write_str(
-                "the forms of arguments are: assemble S [M], compare S L [M], tape S [M], xref S [M], certify S C [M], run S P [M], guard S P C [M], budget S C T [M], scales S C K [M], workload N",
+                "the forms of arguments are: assemble S [M], compare S L [M], tape S [M], xref S [M], certify S C [M], run S P [M], guard S P C [M], budget S C T [M], scales S C K [M], edits S C E [M], workload N",
             ),
             Status::ReadFault => match self.unread {
                 Some(name) => write!(f, "{name} can't be read"),

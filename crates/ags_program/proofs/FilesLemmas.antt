@@ -1,10 +1,11 @@
 -- What the loaders of files answer.
 use Rattle.std.proofs.Common.{◌≡◌, ℕ, Bool, false, List, length, Option, Result, Ok, Err, refl, subst, ◌∙◌, arith}
-use Rattle.std.specs.Prelude.{IfOk}
+use Rattle.std.specs.Prelude.{All, IfOk}
+use Rattle.std.specs.Global.{Vec}
 use Rattle.ags_certtext.specs.declared.cert_error.CertError.{CertError}
 use Rattle.ags_certtext.specs.declared.cert_error.CertError.TheVariants as certificate
 use Rattle.ags_files.specs.declared.sources.SourceFile.{SourceFile}
-use Rattle.ags_files.specs.Reading.{ReadsAs, ReadsBytes, ReadsFile, RefusesCertificate, RefusesScript, RefusesTimes, RefusesScales, machine_reading, source_reading, listing_reading, certificate_reading, script_reading, times_reading, scales_reading, with_refusal}
+use Rattle.ags_files.specs.Reading.{ReadsAs, ReadsBytes, ReadsFile, RefusesCertificate, RefusesScript, RefusesTimes, RefusesScales, RefusesEdits, machine_reading, source_reading, listing_reading, certificate_reading, script_reading, times_reading, scales_reading, edits_reading, with_refusal}
 use Rattle.ags_cert.specs.Cert.{Stated}
 use Rattle.ags_load.specs.Workload.{source_text, cert_text}
 use Rattle.ags_outside.specs.Count.{HasCause, rose_since}
@@ -23,15 +24,19 @@ use Rattle.ags_script.specs.declared.script_errors.ScriptError.{ScriptError}
 use Rattle.ags_script.specs.declared.script_errors.ScriptError.TheVariants as script
 use Rattle.ags_script.specs.Script.{IsReadFor}
 use Rattle.ags_program.specs.declared.refusal.Refusal.TheVariants as refusal
+use Rattle.ags_edits.specs.Text.{IsLawful}
+use Rattle.ags_edits.specs.declared.edits.Edit.{Edit}
+use Rattle.ags_edits.specs.declared.edits_errors.EditsError.{EditsError}
+use Rattle.ags_edits.specs.declared.edits_errors.EditsError.TheVariants as edits
 use Rattle.ags_tags.specs.Tag.{Scaling}
 use Rattle.ags_tags.specs.declared.scale_errors.ScaleError.{ScaleError}
 use Rattle.ags_tags.specs.declared.scale_errors.ScaleError.TheVariants as scales
 use Rattle.ags_times.specs.declared.budget_errors.BudgetError.{BudgetError}
 use Rattle.ags_times.specs.declared.budget_errors.BudgetError.TheVariants as times
-use Rattle.ags_program.specs.Files.{Kind, MachineFile, Source, Listing, Certificate, Script, Times, ScaleTags, Assembly, Pair, Value, RefusesCertificate as RefusesCert, RefusesScript as RefusesCommands, RefusesTimes as RefusesBounds, RefusesScales as RefusesTags}
+use Rattle.ags_program.specs.Files.{Kind, MachineFile, Source, Listing, Certificate, Script, Times, ScaleTags, EditList, Assembly, Pair, Value, RefusesCertificate as RefusesCert, RefusesScript as RefusesCommands, RefusesTimes as RefusesBounds, RefusesScales as RefusesTags, RefusesEdits as RefusesChanges}
 use Rattle.ags_program.specs.Loaded.{LoadsPair}
 use Rattle.ags_program.specs.Program.{program, pair_plan, workload_certificate, workload_plan, workload_source}
-use Rattle.ags_program.specs.Text.{certificate_fault_line, scales_fault_line, script_fault_line, times_fault_line}
+use Rattle.ags_program.specs.Text.{certificate_fault_line, edits_fault_line, scales_fault_line, script_fault_line, times_fault_line}
 use Rattle.ags_program.specs.Views.{IsReadSource, assembly_of, line_of, status_of}
 use Rattle.ags_program.specs.Work.{Work, JudgePair, Sequel, CountsInstead}
 
@@ -188,6 +193,22 @@ scales_ready machine rows told name (Err (Absent absent)) reads = tt
 scales_ready machine rows told name (Err (TooLong long most)) reads = tt
 scales_ready machine rows told name (Err ReadFault) reads = tt
 scales_ready machine rows told name (Err NoMemory) reads = tt
+
+pub edits_as : ReadsAs edits_reading program EditList (λ edits. edits.items) refusal.Edits line_of status_of
+edits_as = record { limit = refl; holds = λ bytes edits is. is.0; refuses = refuses; status = λ error. refl }
+  where
+    refuses : (bytes : List ℕ) (error : EditsError) → RefusesEdits bytes error → RefusesChanges bytes (edits_fault_line error)
+    refuses bytes (edits.At number kind) faulty = record { number = number; kind = kind; faulty = faulty; line_is = refl }
+    refuses bytes edits.NoMemory faulty = absurd faulty
+
+pub edits_ready : (told : ToldFile) (name : List ℕ) (result : Result (Vec Edit) (Unloaded EditsError)) → ReadsFile edits_reading told name result
+    → IfOk (with_refusal refusal.Edits result) (λ edits. All IsLawful edits.items)
+edits_ready told name (Ok edits) (bytes, agrees, short, is) = is.1
+edits_ready told name (Err (Refused error)) reads = tt
+edits_ready told name (Err (Absent absent)) reads = tt
+edits_ready told name (Err (TooLong long most)) reads = tt
+edits_ready told name (Err ReadFault) reads = tt
+edits_ready told name (Err NoMemory) reads = tt
 
 -- ---- a source and a certificate, and then a file that is read for them
 

@@ -20,6 +20,11 @@ use Rattle.ags_script.specs.declared.commands.Command.{Command}
 use Rattle.ags_script.specs.declared.script_errors.ScriptKind.{ScriptKind}
 use Rattle.ags_script.specs.declared.script_errors.ScriptError.TheVariants.{At}
 use Rattle.ags_script.specs.Script.{IsScript, IsFaultyScript}
+use Rattle.ags_edits.specs.declared.edits.Edit.{Edit}
+use Rattle.ags_edits.specs.declared.edits_errors.EditsKind.{EditsKind}
+use Rattle.ags_edits.specs.declared.edits_errors.EditsError.TheVariants as edits
+use Rattle.ags_edits.specs.Limit.{edits_limit}
+use Rattle.ags_edits.specs.Text.{IsEditsOf, IsFaultyEdits}
 use Rattle.ags_tags.specs.declared.scale_errors.ScaleKind.{ScaleKind}
 use Rattle.ags_tags.specs.declared.scale_errors.ScaleError.TheVariants as scales
 use Rattle.ags_tags.specs.Limit.{scales_limit}
@@ -31,10 +36,10 @@ use Rattle.ags_times.specs.Limit.{times_limit}
 use Rattle.ags_times.specs.Text.{IsBudgetOf, IsFaultyBudget}
 use Rattle.ags_program.specs.declared.status.Status.{Status}
 use Rattle.ags_program.specs.declared.status.Status.TheVariants.{BadMachine, BadSource, BadCert, BadText}
-use Rattle.ags_program.specs.Text.{certificate_fault_line, fault_line, listing_fault_line, machine_fault_line, scales_fault_line, script_fault_line, times_fault_line}
+use Rattle.ags_program.specs.Text.{certificate_fault_line, edits_fault_line, fault_line, listing_fault_line, machine_fault_line, scales_fault_line, script_fault_line, times_fault_line}
 
--- a machine file; a source, a certificate or a script for a machine; a listing; a text of times for so many rows; or a text of scales
--- for a machine and so many rows
+-- a machine file; a source, a certificate or a script for a machine; a listing; a text of times for so many rows; a text of scales
+-- for a machine and so many rows; or a text of edits
 pub data Kind : Type 0 where
   MachineFile : Kind
   Source : (machine : Machine) → Kind
@@ -43,6 +48,7 @@ pub data Kind : Type 0 where
   Script : (machine : Machine) → Kind
   Times : (rows : ℕ) → Kind
   ScaleTags : (machine : Machine) → (rows : ℕ) → Kind
+  EditList : Kind
 
 -- a source that was read: its bytes, and the places and the words of its cards
 pub record Assembly : Type 0 where
@@ -64,6 +70,7 @@ Value (Certificate machine) = Stated
 Value (Script machine) = List Command
 Value (Times rows) = List ℕ
 Value (ScaleTags machine rows) = Scaling
+Value EditList = List Edit
 
 -- how many bytes a file of a kind has at most
 abbrev pub limit_of : Kind → ℕ
@@ -74,6 +81,7 @@ limit_of (Certificate machine) = certificate_limit
 limit_of (Script machine) = script_limit
 limit_of (Times rows) = times_limit
 limit_of (ScaleTags machine rows) = scales_limit
+limit_of EditList = edits_limit
 
 -- the bytes are a source without a fault, and this is what was read of it by the table of codes
 pub record HoldsSource (order_codes bytes : List ℕ) (assembly : Assembly) : Type 0 where
@@ -89,6 +97,7 @@ Holds (Certificate machine) bytes cert = IsCertOf machine.ports bytes cert
 Holds (Script machine) bytes commands = IsScript machine bytes commands
 Holds (Times rows) bytes bounds = IsBudgetOf rows bytes bounds
 Holds (ScaleTags machine rows) bytes scales = IsScalesOf machine.ports rows bytes scales
+Holds EditList bytes made = IsEditsOf bytes made
 
 -- the bytes are no machine file, and this is the line of the first test that they fail
 pub record RefusesMachine (bytes line : List ℕ) : Type 0 where
@@ -136,6 +145,13 @@ pub record RefusesScales (machine : Machine) (rows : ℕ) (bytes line : List ℕ
   pub faulty : IsFaultyScales machine.ports rows bytes number kind
   pub line_is : line ≡ scales_fault_line (scales.At number kind)
 
+-- the bytes are a text of edits with a fault, and this is the line of its first one
+pub record RefusesEdits (bytes line : List ℕ) : Type 0 where
+  pub number : ℕ
+  pub kind : EditsKind
+  pub faulty : IsFaultyEdits bytes number kind
+  pub line_is : line ≡ edits_fault_line (edits.At number kind)
+
 -- the bytes are refused with this line
 abbrev pub Refuses : (kind : Kind) → (bytes line : List ℕ) → Type 0
 Refuses MachineFile bytes line = RefusesMachine bytes line
@@ -145,6 +161,7 @@ Refuses (Certificate machine) bytes line = RefusesCertificate machine bytes line
 Refuses (Script machine) bytes line = RefusesScript machine bytes line
 Refuses (Times rows) bytes line = RefusesTimes rows bytes line
 Refuses (ScaleTags machine rows) bytes line = RefusesScales machine rows bytes line
+Refuses EditList bytes line = RefusesEdits bytes line
 
 -- the status of a refused file
 abbrev pub refused_status : Kind → Status
@@ -155,3 +172,4 @@ refused_status (Certificate machine) = BadCert
 refused_status (Script machine) = BadText
 refused_status (Times rows) = BadText
 refused_status (ScaleTags machine rows) = BadText
+refused_status EditList = BadText

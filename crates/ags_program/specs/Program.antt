@@ -1,14 +1,14 @@
 -- The program: its definition, and the plan of each command.
 use Rattle.std.specs.Prelude.{ℕ, List, length, Option, Some, None, codes}
-use Rattle.ags_command.specs.Command.{Command, Write, Compare, Certify, Run, Guard, Budget, Scales, Asked, OnMachine, Workload, asked_of}
+use Rattle.ags_command.specs.Command.{Command, Write, Compare, Certify, Run, Guard, Budget, Scales, Edits, Asked, OnMachine, Workload, asked_of}
 use Rattle.ags_load.specs.Workload.{source_text, cert_text}
 use Rattle.ags_plan.specs.Plan.{Definition, Plan, Do, Read, Take}
 use Rattle.ags_ports.specs.declared.machines.Machine.{Machine}
 use Rattle.ags_ports.specs.Machine.{standard_machine}
 use Rattle.ags_program.specs.declared.status.Status.{Status}
-use Rattle.ags_program.specs.Files.{Kind, MachineFile, Source, Listing, Certificate, Script, Times, ScaleTags, Pair, Value, limit_of, Holds, Refuses, refused_status}
+use Rattle.ags_program.specs.Files.{Kind, MachineFile, Source, Listing, Certificate, Script, Times, ScaleTags, EditList, Pair, Value, limit_of, Holds, Refuses, refused_status}
 use Rattle.ags_program.specs.Status.{cause_of, stop_status}
-use Rattle.ags_program.specs.Work.{Work, NoForm, WriteText, CompareImages, JudgePair, PlayScript, ListingBefore, PlayBehind, CountsInstead, BudgetBehind, ScalesBehind, Makes}
+use Rattle.ags_program.specs.Work.{Work, NoForm, WriteText, CompareImages, JudgePair, PlayScript, ListingBefore, PlayBehind, CountsInstead, BudgetBehind, ScalesBehind, EditsBehind, Makes}
 
 -- the program's kinds of files, its works and its statuses
 abbrev pub program : Definition Status
@@ -45,6 +45,8 @@ command_plan machine (Budget source certificate times) =
 command_plan machine (Scales source certificate scales) =
     pair_plan machine source certificate
     (λ pair. Read (ScaleTags pair.machine (length pair.cert.rows)) scales (λ declared. Do (JudgePair pair (ScalesBehind declared))))
+command_plan machine (Edits source certificate edits) =
+    pair_plan machine source certificate (λ pair. Read EditList edits (λ made. Do (JudgePair pair (EditsBehind made))))
 
 -- what is read and done on the machine of a file of that name, or on the standard one, where none is named
 abbrev pub plan_on : Option (List ℕ) → (Machine → Plan program) → Plan program

@@ -1,5 +1,5 @@
 -- The lines that the program prints of its own.
-use Rattle.std.specs.Prelude.{ℕ, List, [], ◌++◌, Option, Some, None, codes}
+use Rattle.std.specs.Prelude.{ℕ, ◌+◌, List, [], ◌∷◌, ◌++◌, Option, Some, None, codes}
 use Rattle.std.specs.Fmt.{decimal}
 use Rattle.ags_text.specs.Numeral.{octal4_text, octal6_text}
 use Rattle.ags_certtext.specs.declared.cert_error.CertError.{CertError}
@@ -18,6 +18,10 @@ use Rattle.ags_budget.specs.declared.answers.Timed.TheVariants.{Unsafe}
 use Rattle.ags_scale.specs.ScaledText.{scaled_text}
 use Rattle.ags_scale.specs.declared.answers.Scaled.{Scaled}
 use Rattle.ags_scale.specs.declared.answers.Scaled.TheVariants as scaled
+use Rattle.ags_edits.specs.declared.edits_errors.EditsError.{EditsError}
+use Rattle.ags_edits.specs.FaultText as edits
+use Rattle.ags_recheck.specs.ToldText.{told_text}
+use Rattle.ags_recheck.specs.declared.telling.Told.{Told}
 use Rattle.ags_tags.specs.declared.scale_errors.ScaleError.{ScaleError}
 use Rattle.ags_tags.specs.FaultText as scales
 use Rattle.ags_times.specs.declared.budget_errors.BudgetError.{BudgetError}
@@ -62,6 +66,10 @@ times_fault_line error = times.error_text error ++ codes "\n"
 abbrev pub scales_fault_line : ScaleError → List ℕ
 scales_fault_line error = scales.error_text error ++ codes "\n"
 
+-- the text of edits has that fault
+abbrev pub edits_fault_line : EditsError → List ℕ
+edits_fault_line error = edits.error_text error ++ codes "\n"
+
 -- a word where there is one
 abbrev pub word_column : Option ℕ → List ℕ
 word_column None = codes "------"
@@ -101,3 +109,12 @@ timed_line timed = timed_text timed ++ codes "\n"
 abbrev pub scaled_line : Scaled → List ℕ
 scaled_line (scaled.Unsafe told) = []
 scaled_line answer = scaled_text answer ++ codes "\n"
+
+-- what comes of an edit, which is the one of a number, from 1
+abbrev pub edit_line : (number : ℕ) → Told → List ℕ
+edit_line number told = codes "EDIT " ++ decimal number ++ codes " " ++ told_text told ++ codes "\n"
+
+-- what comes of edits, a line for each, where the first is the one of a number
+abbrev pub edit_lines : (number : ℕ) → List Told → List ℕ
+edit_lines number [] = []
+edit_lines number (told ∷ more) = edit_line number told ++ edit_lines (number + 1) more

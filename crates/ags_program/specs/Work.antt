@@ -1,5 +1,5 @@
 -- The works of the commands, and what each makes of what the files hold.
-use Rattle.std.specs.Prelude.{◌≡◌, ℕ, List, ◌++◌, length, Option, Some, None}
+use Rattle.std.specs.Prelude.{◌≡◌, ℕ, List, [], ◌∷◌, ◌++◌, length, Option, Some, None}
 use Rattle.ags_asm.specs.Source.{CardWords, placed_words}
 use Rattle.ags_cert.specs.Cert.{Stated, certificate_of}
 use Rattle.ags_command.specs.declared.source_texts.SourceText.{SourceText}
@@ -26,6 +26,11 @@ use Rattle.ags_budget.specs.declared.answers.Timed.TheVariants.{Within}
 use Rattle.ags_scale.specs.Scaled.{IsScaled}
 use Rattle.ags_scale.specs.declared.answers.Scaled.{Scaled}
 use Rattle.ags_scale.specs.declared.answers.Scaled.TheVariants.{Agree}
+use Rattle.ags_check.specs.Judging.{Judging}
+use Rattle.ags_edits.specs.declared.edits.Edit.{Edit}
+use Rattle.ags_recheck.specs.Told.{AreTold}
+use Rattle.ags_recheck.specs.declared.telling.Told.{Told}
+use Rattle.ags_recheck.specs.declared.telling.Told.TheVariants.{Made, NotMade}
 use Rattle.ags_tags.specs.Tag.{Scaling}
 use Rattle.ags_image.specs.Tape.{tape_text}
 use Rattle.ags_xref.specs.Xref.{xref_text}
@@ -35,17 +40,18 @@ use Rattle.ags_play.specs.Played.{Met, Nothing, IsPlayOf}
 use Rattle.ags_program.specs.declared.status.Status.{Status}
 use Rattle.ags_program.specs.declared.status.Status.TheVariants.{Done, No, BadWords}
 use Rattle.ags_program.specs.Files.{Assembly, Pair}
-use Rattle.ags_program.specs.Text.{compared_line, met_line, scaled_line, timed_line, verdict_line, words_line, workload_line}
+use Rattle.ags_program.specs.Text.{compared_line, edit_lines, met_line, scaled_line, timed_line, verdict_line, words_line, workload_line}
 
 -- What stands with the verdict of a certificate for a source's words: the listing of the source before it; or behind it, where it
--- certifies, the play of a script with the certificate as its guard, or what comes of the bounds of its rows, or of scales; or nothing,
--- and where it certifies the counts of the workload of a size stand in its place.
+-- certifies, the play of a script with the certificate as its guard, or what comes of the bounds of its rows, or of scales; or behind
+-- it, whatever it is, what comes of edits; or nothing, and where it certifies the counts of the workload of a size stand in its place.
 pub data Sequel : Type 0 where
   ListingBefore : Sequel
   PlayBehind : (commands : List Command) → Sequel
   CountsInstead : (size : ℕ) → Sequel
   BudgetBehind : (bounds : List ℕ) → Sequel
   ScalesBehind : (scales : Scaling) → Sequel
+  EditsBehind : (edits : List Edit) → Sequel
 
 -- what is done once the files are loaded
 pub data Work : Type 0 where
@@ -143,6 +149,21 @@ pub record IsScalesJudged (machine : Machine) (image : List (Option ℕ)) (cert 
   pub text_is : text ≡ verdict_line verdict ++ scaled_line answer
   pub status_is : status ≡ scaled_status answer
 
+-- The status of edits, by that of the verdict before them: where each is made that of the last verdict, and No where one isn't.
+abbrev pub edits_status : Status → List Told → Status
+edits_status status [] = status
+edits_status status (Made verdict ∷ more) = edits_status (verdict_status verdict) more
+edits_status status (NotMade error ∷ more) = No
+
+-- The text is the line of the verdict, and behind it a line for each of these edits, made one behind the other of the image and the
+-- certificate, also where that is refused; and this is the status of all.
+pub record AreEditsTold (machine : Machine) (image : List (Option ℕ)) (cert : Stated) (edits : List Edit) (verdict : Verdict Value) (text : List ℕ) (status : Status) : Type 0 where
+  pub told : List Told
+  pub after : Judging
+  pub are_told : AreTold (record { machine = machine; image = image; cert = cert }) edits told after
+  pub text_is : text ≡ verdict_line verdict ++ edit_lines 1 told
+  pub status_is : status ≡ edits_status (verdict_status verdict) told
+
 -- what is said of a workload's certificate: where it is certified, the counts of cards, words, rows and cases; where it is refused, the
 -- line of its verdict
 abbrev pub counts_line : (size : ℕ) → CardWords → Verdict Value → List ℕ
@@ -157,6 +178,7 @@ ComesWith (PlayBehind commands) pair image verdict text status = IsPlayedBy pair
 ComesWith (CountsInstead size) pair image verdict text status = (text ≡ counts_line size pair.assembly.defined verdict) × (status ≡ verdict_status verdict)
 ComesWith (BudgetBehind bounds) pair image verdict text status = IsBudgetJudged pair.machine image pair.cert bounds verdict text status
 ComesWith (ScalesBehind scales) pair image verdict text status = IsScalesJudged pair.machine image pair.cert scales verdict text status
+ComesWith (EditsBehind edits) pair image verdict text status = AreEditsTold pair.machine image pair.cert edits verdict text status
 
 -- The text and the status are those of the verdict of the pair's certificate for the image of the words of its source, and of what
 -- stands with it.

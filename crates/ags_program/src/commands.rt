@@ -11,7 +11,7 @@ ghost use Rattle.ags_program.specs.Program.{program, command_plan};
 ghost use Rattle.ags_program.specs.Views.{IsReadSource, IsReady, line_of, pair_of, status_of, work_of};
 
 use crate::files::{
-    load_certificate, load_listing, load_scales, load_script, load_source, load_times,
+    load_certificate, load_edits, load_listing, load_scales, load_script, load_source, load_times,
 };
 use crate::refusal::Refusal;
 use crate::works::{ReadPair, Sequel, Work};
@@ -206,6 +206,29 @@ fn load_scaled<'a, S: Shelf>(
     })
 }
 
+/// Loads the source, the certificate and the text of edits of these names, in this order, for a machine.
+fn load_edited<'a, S: Shelf>(
+    alloc: Global,
+    machine: Machine,
+    source: &'a str,
+    certificate: &'a str,
+    edits: &'a str,
+    shelf: &mut S,
+) -> Result<Work, Unloaded<'a, Refusal>>
+    ensures loads { Loads program (S.told shelf.old) (command_plan machine (command.Edits source.entry.now certificate.entry.now edits.entry.now))
+        (result_map_both work_of (end_of program line_of status_of) result) }
+    ensures ready { IfOk result IsReady }
+    ensures faults { HasCause (S.faults shelf.old) (S.faults shelf.new) (is_read_fault result) }
+    ensures absences { HasCause (S.absences shelf.old) (S.absences shelf.new) (is_absence result) }
+{
+    let pair = load_pair(alloc, machine, source, certificate, shelf)?;
+    let made = load_edits(alloc, edits, shelf)?;
+    Ok(Work::JudgePair {
+        pair,
+        sequel: Sequel::EditsBehind(made),
+    })
+}
+
 /// Loads the files of a command, for a machine.
 pub(crate) fn load_command<'a, S: Shelf>(
     alloc: Global,
@@ -244,5 +267,10 @@ pub(crate) fn load_command<'a, S: Shelf>(
             certificate,
             scales,
         } => load_scaled(alloc, machine, source, certificate, scales, shelf),
+        Command::Edits {
+            source,
+            certificate,
+            edits,
+        } => load_edited(alloc, machine, source, certificate, edits, shelf),
     }
 }

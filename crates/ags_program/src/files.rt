@@ -1,7 +1,8 @@
 //! The files that commands read, each a kind of the program's: loaded as any program's, with the program's own refusals.
 
-ghost use Rattle.std.specs.Prelude.{◌≡◌, ◌≤◌, IfOk, length};
+ghost use Rattle.std.specs.Prelude.{◌≡◌, ◌≤◌, All, IfOk, length};
 ghost use Rattle.std.specs.Result.{result_map_both};
+ghost use Rattle.ags_edits.specs.Text.{IsLawful};
 ghost use Rattle.ags_outside.specs.Count.{HasCause};
 ghost use Rattle.ags_plan.specs.Loading.{LoadsFile, end_of, is_absence, is_read_fault};
 ghost use Rattle.ags_script.specs.Script.{IsReadFor};
@@ -11,6 +12,7 @@ ghost use Rattle.ags_program.specs.Views.{IsReadSource, assembly_of, line_of, st
 
 use crate::refusal::Refusal;
 use ags_cert::Cert;
+use ags_edits::Edit;
 use ags_files::{SourceFile, refused_by};
 use ags_image::Image;
 use ags_outside::Shelf;
@@ -129,4 +131,19 @@ pub(crate) fn load_scales<'a, S: Shelf>(
     ensures absences { HasCause (S.absences shelf.old) (S.absences shelf.new) (is_absence result) }
 {
     refused_by(ags_files::load_scales(alloc, machine, rows, name, shelf))
+}
+
+/// Loads the text of edits of a name.
+pub(crate) fn load_edits<'a, S: Shelf>(
+    alloc: Global,
+    name: &'a str,
+    shelf: &mut S,
+) -> Result<Vec<Edit>, Unloaded<'a, Refusal>>
+    ensures same { S.told shelf.new ≡ S.told shelf.old }
+    ensures loads { LoadsFile program (S.told shelf.old) file.EditList name.entry.now (result_map_both (λ edits. edits.items) (end_of program line_of status_of) result) }
+    ensures ready { IfOk result (λ edits. All IsLawful edits.items) }
+    ensures faults { HasCause (S.faults shelf.old) (S.faults shelf.new) (is_read_fault result) }
+    ensures absences { HasCause (S.absences shelf.old) (S.absences shelf.new) (is_absence result) }
+{
+    refused_by(ags_files::load_edits(alloc, name, shelf))
 }

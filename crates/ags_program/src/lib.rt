@@ -3,7 +3,7 @@
 //! what the plan in `specs/` says, and ties each fault to the shelf. It stands on `ags_command` for the forms of
 //! arguments, on `ags_plan` for the walk along files, on `ags_files` for loading each, and on `ags_load` for the texts of
 //! a workload; what the works make is defined by the words of `ags_compare`, `ags_image`, `ags_xref`, `ags_verdict`,
-//! `ags_play`, `ags_budget` and `ags_scale`.
+//! `ags_play`, `ags_budget`, `ags_scale` and `ags_recheck`.
 #![tactic(auto)]
 
 mod commands;

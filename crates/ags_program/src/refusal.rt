@@ -7,6 +7,7 @@ ghost use Rattle.ags_program.specs.Views.{line_of, status_of};
 use crate::status::Status;
 use ags_asm::SourceError;
 use ags_cert::CertError;
+use ags_edits::EditsError;
 use ags_files::RefusesBy;
 use ags_listing::ListError;
 use ags_machfile::MachError;
@@ -32,6 +33,8 @@ pub enum Refusal {
     Times(BudgetError),
     /// A text of scales has this fault.
     Scales(ScaleError),
+    /// A text of edits has this fault.
+    Edits(EditsError),
 }
 
 impl Refusal {
@@ -47,6 +50,7 @@ impl Refusal {
             Refusal::Script(_) => Status::BadText,
             Refusal::Times(_) => Status::BadText,
             Refusal::Scales(_) => Status::BadText,
+            Refusal::Edits(_) => Status::BadText,
         }
     }
 
@@ -62,6 +66,7 @@ impl Refusal {
             Refusal::Script(error) => format!(in alloc; "{error}\n"),
             Refusal::Times(error) => format!(in alloc; "{error}\n"),
             Refusal::Scales(error) => format!(in alloc; "{error}\n"),
+            Refusal::Edits(error) => format!(in alloc; "{error}\n"),
         }
     }
 }
@@ -133,5 +138,15 @@ impl RefusesBy<ScaleError> for Refusal {
 
     fn refusal_of(fault: ScaleError) -> Refusal {
         Refusal::Scales(fault)
+    }
+}
+
+impl RefusesBy<EditsError> for Refusal {
+    ghost use Rattle.ags_program.specs.declared.refusal.Refusal.TheVariants as refusal;
+
+    ghost refusal_of = { refusal.Edits };
+
+    fn refusal_of(fault: EditsError) -> Refusal {
+        Refusal::Edits(fault)
     }
 }

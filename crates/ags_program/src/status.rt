@@ -9,7 +9,7 @@ pub enum Status {
     /// The work is done.
     Done,
     /// The answer is no: the words of a source and of a listing differ, a certificate is refused by its verdict, a play meets a start
-    /// or a word that its guard doesn't declare, a case needs more than the bound of its row on order time, or scales don't agree.
+    /// or a word that its guard doesn't declare, a case needs more than the bound of its row on order time, scales don't agree, or an edit isn't made or the last verdict refuses.
     No,
     /// The source has a fault.
     BadSource,
@@ -25,7 +25,7 @@ pub enum Status {
     BadMachine,
     /// The certificate has a fault.
     BadCert,
-    /// The listing, the script, the text of times or the text of scales has a fault.
+    /// The listing, the script, or the text of times, of scales or of edits has a fault.
     BadText,
     /// A file is longer than its limit.
     LongFile,

@@ -4,6 +4,7 @@ use ags_asm::Assembled;
 use ags_budget::Budget;
 use ags_cert::Cert;
 use ags_command::SourceText;
+use ags_edits::Edit;
 use ags_files::SourceFile;
 use ags_image::Image;
 use ags_ports::Machine;
@@ -34,6 +35,8 @@ pub enum Sequel {
     BudgetBehind(Budget),
     /// Behind it, where it certifies, stands what comes of scales.
     ScalesBehind(Scales),
+    /// Behind it, whatever it is, stands what comes of edits.
+    EditsBehind(Vec<Edit>),
 }
 
 /// What is loaded for a command line.

@@ -80,7 +80,7 @@ fn long_file(rt: &impl Abort, alloc: Global) -> Vec<u8> {
 }
 
 /// Arguments that ask for no command.
-const BAD_WORDS: [&str; 28] = [
+const BAD_WORDS: [&str; 30] = [
     "",
     "assemble",
     "workload",
@@ -105,6 +105,8 @@ const BAD_WORDS: [&str; 28] = [
     "budget S C T M N",
     "scales S C",
     "scales S C K M N",
+    "edits S C",
+    "edits S C E M N",
     "RUN S P",
     "run assemble",
     "ASSEMBLE S",

@@ -11,6 +11,8 @@ mod certify_tests;
 #[cfg(test)]
 mod command_lines;
 #[cfg(test)]
+mod edits_tests;
+#[cfg(test)]
 mod fault_tests;
 #[cfg(test)]
 mod key_tests;

@@ -19,15 +19,16 @@ use Rattle.ags_listing.specs.declared.list_error.ListError.TheVariants as listin
 use Rattle.ags_machfile.specs.declared.mach_error.MachError.{MachError}
 use Rattle.ags_machfile.specs.declared.mach_error.MachError.TheVariants.{NotToml, MissingKey, BadValue, SameCode, SamePort, NoMemory}
 use Rattle.ags_script.specs.declared.script_errors.ScriptError.TheVariants.{At}
+use Rattle.ags_edits.specs.declared.edits_errors.EditsError.TheVariants as edits
 use Rattle.ags_tags.specs.declared.scale_errors.ScaleError.TheVariants as scales
 use Rattle.ags_times.specs.declared.budget_errors.BudgetError.TheVariants as times
 use Rattle.ags_verdict.specs.declared.verdicts.Verdict.TheVariants.{Certified, Refused}
 use Rattle.ags_ports.specs.declared.machines.Machine.{Machine}
 use Rattle.ags_program.specs.declared.status.Status.{Status}
-use Rattle.ags_program.specs.Files.{Kind, MachineFile, Source, Listing, Certificate, Script, Times, ScaleTags, Refuses}
+use Rattle.ags_program.specs.Files.{Kind, MachineFile, Source, Listing, Certificate, Script, Times, ScaleTags, EditList, Refuses}
 use Rattle.ags_top.specs.Outcome.{Call, IsDeclaredOn, IsAcceptedPlayOn, SafeWhereCertifiedIsWritten}
 use Rattle.ags_program.specs.Program.{program, plan_of}
-use Rattle.ags_program.specs.Text.{certificate_fault_line, certified_word, fault_line, listing_fault_line, machine_fault_line, scales_fault_line, script_fault_line, times_fault_line, verdict_line}
+use Rattle.ags_program.specs.Text.{certificate_fault_line, certified_word, edits_fault_line, fault_line, listing_fault_line, machine_fault_line, scales_fault_line, script_fault_line, times_fault_line, verdict_line}
 use Rattle.ags_program.specs.Work.{Work, Makes}
 use Rattle.ags_top.proofs.DeclaredLemmas.{guarded_told, declared_of}
 use Rattle.ags_top.proofs.MainLemmas.{way_asked}
@@ -70,6 +71,8 @@ refused_line_is_other (Times rows) bytes line refuses (behind, is) =
     absurd (omega (arith, letter_of 0 (times_fault_line (times.At refuses.number refuses.kind)) behind (sym refuses.line_is ∙ is)))
 refused_line_is_other (ScaleTags machine rows) bytes line refuses (behind, is) =
     absurd (omega (arith, letter_of 0 (scales_fault_line (scales.At refuses.number refuses.kind)) behind (sym refuses.line_is ∙ is)))
+refused_line_is_other EditList bytes line refuses (behind, is) =
+    absurd (omega (arith, letter_of 0 (edits_fault_line (edits.At refuses.number refuses.kind)) behind (sym refuses.line_is ∙ is)))
 
 -- the answer that begins so comes of a work
 certified_work : (told : Told) (plan : Plan program) (status : Status) (end : End program) (text : List ℕ) → EndsAt program Agrees told plan end

@@ -3,6 +3,7 @@ pub mod CertifiedLineLemmas
 pub mod CertifyLemmas
 pub mod CompareLemmas
 pub mod DeclaredLemmas
+pub mod EditedLemmas
 pub mod GuardLemmas
 pub mod JudgeLemmas
 pub mod ListedLemmas

@@ -1,7 +1,7 @@
 -- What `ags_main` says, from its content: command by command and status by status.
-use Rattle.std.proofs.Common.{◌≡◌, ℕ, ◌≤◌, List, ◌++◌, length, ◌⊎◌, Option, Some, None, Ok, refl, sym, ap, subst, ◌∙◌, inl, inr}
+use Rattle.std.proofs.Common.{◌≡◌, ℕ, ◌≤◌, List, [], ◌∷◌, ◌++◌, length, ◌⊎◌, Option, Some, None, Ok, refl, sym, ap, subst, ◌∙◌, inl, inr}
 use Rattle.ags_command.specs.declared.source_texts.SourceText.{SourceText}
-use Rattle.ags_command.specs.Command.{Command, Write, Compare, Certify, Run, Guard, Budget, Scales, CommandLine, line_arguments, Asked, OnMachine, Workload, IsAsked, asked_arguments, asked_of, AreNoForm}
+use Rattle.ags_command.specs.Command.{Command, Write, Compare, Certify, Run, Guard, Budget, Scales, Edits, CommandLine, line_arguments, Asked, OnMachine, Workload, IsAsked, asked_arguments, asked_of, AreNoForm}
 use Rattle.ags_command.proofs.AskedLemmas.{asked_of-asked_arguments, asked_arguments-asked_of}
 use Rattle.ags_load.specs.Workload.{cert_text}
 use Rattle.ags_outside.specs.ToldFile.{Stored}
@@ -48,15 +48,18 @@ use Rattle.ags_scale.specs.declared.answers.Scaled.{Scaled}
 use Rattle.ags_scale.specs.declared.answers.Scaled.TheVariants as scaled
 use Rattle.ags_top.proofs.BudgetLemmas.{budget_told, kept_where_done}
 use Rattle.ags_top.proofs.ScaledLemmas.{scales_told, tagged_where_done}
+use Rattle.ags_recheck.specs.declared.telling.Told.{Told as ToldOf}
+use Rattle.ags_recheck.specs.declared.telling.Told.TheVariants.{Made, NotMade}
+use Rattle.ags_top.proofs.EditedLemmas.{edits_told, safe_where_done}
 use Rattle.ags_top.proofs.DeclaredLemmas.{guarded_told, declared_of}
 use Rattle.ags_program.specs.declared.status.Status.{Status}
 use Rattle.ags_program.specs.declared.status.Status.TheVariants.{Done, No, BadMachine, BadSource, BadWords, BadCert, BadText}
-use Rattle.ags_program.specs.Files.{Kind, MachineFile, Source, Listing, Certificate, Script, Times, ScaleTags, limit_of, Refuses, refused_status}
-use Rattle.ags_top.specs.Outcome.{Call, EndsWith, IsMachineOf, WritesWhatIsDefined, IsComparedOn, ComparesWhatIsDefined, IsJudgedOn, JudgesWhatIsDefined, IsCertifiedOn, CertifiesWhatIsSafe, TellsMachine, TellsAccepted, CertifiesAccepted, IsWorkloadJudged, IsWorkloadCertified, JudgesWorkload, CertifiesWorkload, BadCertExactly, IsOneImage, EqualsWhatIsDefined, IsShownOn, PlaysWhatIsDefined, IsGuardedOn, GuardsWhatIsDefined, IsDeclaredOn, PlaysWhatIsDeclared, IsBudgetedOn, JudgesBudget, BoundsOrderTime, IsScaledOn, JudgesScales, KeepsDeclaredScales, DoneAlways, NoExactly, BadWordsExactly, FindsFault, BadMachineExactly, BadSourceExactly, BadTextExactly}
+use Rattle.ags_program.specs.Files.{Kind, MachineFile, Source, Listing, Certificate, Script, Times, ScaleTags, EditList, limit_of, Refuses, refused_status}
+use Rattle.ags_top.specs.Outcome.{Call, EndsWith, IsMachineOf, WritesWhatIsDefined, IsComparedOn, ComparesWhatIsDefined, IsJudgedOn, JudgesWhatIsDefined, IsCertifiedOn, CertifiesWhatIsSafe, TellsMachine, TellsAccepted, CertifiesAccepted, IsWorkloadJudged, IsWorkloadCertified, JudgesWorkload, CertifiesWorkload, BadCertExactly, IsOneImage, EqualsWhatIsDefined, IsShownOn, PlaysWhatIsDefined, IsGuardedOn, GuardsWhatIsDefined, IsDeclaredOn, PlaysWhatIsDeclared, IsBudgetedOn, JudgesBudget, BoundsOrderTime, IsScaledOn, JudgesScales, KeepsDeclaredScales, AreEditsMadeOn, EditsToWhatIsSafe, JudgesEdits, DoneAlways, NoExactly, BadWordsExactly, FindsFault, BadMachineExactly, BadSourceExactly, BadTextExactly}
 use Rattle.ags_program.specs.Program.{program, command_plan, plan_on, workload_plan, asked_plan, plan_of}
 use Rattle.ags_top.specs.ProgramLaws.{IsWorkStatus, comes_to_no_form, lawful_program, not_refused_work}
 use Rattle.ags_program.specs.Text.{words_line, certificate_fault_line, fault_line, machine_fault_line, verdict_line, workload_line}
-use Rattle.ags_program.specs.Work.{Work, NoForm, WriteText, CompareImages, JudgePair, PlayScript, Sequel, ListingBefore, PlayBehind, CountsInstead, BudgetBehind, ScalesBehind, ComesWith as VerdictComesWith, IsTextOf, IsJudgementOf, IsPlayedBy, compared_status, counts_line, met_status, scaled_status, timed_status, verdict_status, Makes}
+use Rattle.ags_program.specs.Work.{Work, NoForm, WriteText, CompareImages, JudgePair, PlayScript, Sequel, ListingBefore, PlayBehind, CountsInstead, BudgetBehind, ScalesBehind, EditsBehind, ComesWith as VerdictComesWith, IsTextOf, IsJudgementOf, IsPlayedBy, compared_status, counts_line, edits_status, met_status, scaled_status, timed_status, verdict_status, Makes}
 
 -- ---- a run that ends with the status of a work came to a work
 
@@ -283,12 +286,18 @@ no_form_work (JudgePair pair sequel) text makes = absurd (never sequel makes.ver
     never_scaled (scaled.Agree rows cases) is = absurd cc
     never_scaled _ is = absurd cc
 
+    never_told : (status : Status) (told : List ToldOf) → (BadWords ≡ status → ⊥) → BadWords ≡ edits_status status told → ⊥
+    never_told status [] not is = not is
+    never_told status (Made verdict ∷ more) not is = never_told (verdict_status verdict) more (never_verdict verdict) is
+    never_told status (NotMade error ∷ more) not is = absurd cc
+
     never : (other : Sequel) (verdict : Verdict Value) → VerdictComesWith other pair makes.image verdict text BadWords → ⊥
     never ListingBefore verdict comes = never_verdict verdict comes.1
     never (PlayBehind commands) verdict comes = never_play commands verdict comes
     never (CountsInstead size) verdict comes = never_verdict verdict comes.1
     never (BudgetBehind bounds) verdict comes = never_timed comes.timed comes.status_is
     never (ScalesBehind declared) verdict comes = never_scaled comes.answer comes.status_is
+    never (EditsBehind made) verdict comes = never_told (verdict_status verdict) comes.told (never_verdict verdict) comes.status_is
 
 module _ (call : Call) (ends : Ends program (IsAnswer program call.told (plan_of call.arguments)) call.old call.new call.result) where
   -- what a run with that status answered
@@ -468,6 +477,20 @@ module _ (call : Call) (ends : Ends program (IsAnswer program call.told (plan_of
       let judged = scales_told call.told machine source certificate scales source_bytes certificate_bytes scales_bytes text Done work known too also way makes in
       (machine, machine_is, (text, tagged_where_done machine source_bytes certificate_bytes scales_bytes text valid judged, sent))
 
+  pub judges_edits : JudgesEdits call
+  judges_edits source certificate edits source_bytes certificate_bytes edits_bytes held machine_file is asked known too also holds =
+      let (machine, machine_is, (text, judged, sent)) =
+      work_of_either machine_file (Edits source certificate edits) (λ machine text status. AreEditsMadeOn machine source_bytes certificate_bytes edits_bytes text status) is asked
+      (λ machine text status work valid way makes. edits_told call.told machine source certificate edits source_bytes certificate_bytes edits_bytes text status work known too also way makes) in
+      (machine, machine_is, (text, judged, took held text holds sent))
+
+  pub edits_to_what_is_safe : EditsToWhatIsSafe call
+  unfolding IsWorkStatus
+  edits_to_what_is_safe source certificate edits source_bytes certificate_bytes edits_bytes machine_file is asked known too also =
+      let (machine, machine_is, valid, (text, work, way, makes, sent)) = work_with Done machine_file (Edits source certificate edits) tt is asked in
+      let judged = edits_told call.told machine source certificate edits source_bytes certificate_bytes edits_bytes text Done work known too also way makes in
+      (machine, machine_is, (text, safe_where_done machine source_bytes certificate_bytes edits_bytes text valid judged, sent))
+
   -- what is exact of a status is so of the run's end
   exactly_with : (text : List ℕ) (status : Status) → EndsExactly program call.old call.new call.result text status → EndsWith call.result status
   exactly_with text status (inl so) = inl so.0
@@ -557,6 +580,7 @@ module _ (call : Call) (ends : Ends program (IsAnswer program call.told (plan_of
   found_one (Script machine) found = tt
   found_one (Times rows) found = tt
   found_one (ScaleTags machine rows) found = tt
+  found_one EditList found = tt
 
   -- the kind of a file that was refused with that status, where there is one kind of it
   of_kind : (status : Status) → (kind : Kind) × (refused_status kind ≡ status) × FindsFault kind call → FindsOne status

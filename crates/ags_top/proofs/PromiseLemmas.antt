@@ -10,7 +10,7 @@ use Rattle.ags_top.specs.Outcome.{Call}
 use Rattle.ags_top.specs.ProgramLaws.{lawful_program}
 use Rattle.ags_top.specs.Promises.{Counts, Promises}
 use Rattle.ags_top.proofs.CertifiedLineLemmas.{safe_where_certified_is_written}
-use Rattle.ags_top.proofs.MainLemmas.{judges_scales, keeps_declared_scales, writes_what_is_defined, compares_what_is_defined, equals_what_is_defined, judges_what_is_defined, certifies_what_is_safe, certifies_accepted, certifies_workload, judges_workload, bad_cert_exactly, plays_what_is_defined, guards_what_is_defined, plays_what_is_declared, done_always, no_exactly, bad_words_exactly, bad_machine_exactly, bad_source_exactly, bad_text_exactly, bounds_order_time, judges_budget}
+use Rattle.ags_top.proofs.MainLemmas.{edits_to_what_is_safe, judges_edits, judges_scales, keeps_declared_scales, writes_what_is_defined, compares_what_is_defined, equals_what_is_defined, judges_what_is_defined, certifies_what_is_safe, certifies_accepted, certifies_workload, judges_workload, bad_cert_exactly, plays_what_is_defined, guards_what_is_defined, plays_what_is_declared, done_always, no_exactly, bad_words_exactly, bad_machine_exactly, bad_source_exactly, bad_text_exactly, bounds_order_time, judges_budget}
 
 pub promises : (call : Call) (counts : Counts) → Ends program (IsAnswer program call.told (plan_of call.arguments)) call.old call.new call.result
     → CountsOnShelf program call.told (plan_of call.arguments) call.old call.new call.result counts.faults counts.faults_now counts.absences counts.absences_now
@@ -35,6 +35,8 @@ promises call counts ends shelf sink = record {
   budget_judged = judges_budget call ends;
   scales = keeps_declared_scales call ends;
   scales_judged = judges_scales call ends;
+  edited = edits_to_what_is_safe call ends;
+  edits_judged = judges_edits call ends;
   accepted = certifies_accepted call ends;
   done = done_always call ends;
   no = no_exactly call ends;

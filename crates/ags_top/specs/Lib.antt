@@ -4,5 +4,6 @@ pub mod Outcome
 pub mod Promises
 -- what serves inside
 pub mod Guarding
+pub mod Telling
 pub mod PlayLaws
 pub mod ProgramLaws

@@ -1,5 +1,5 @@
 -- What `ags_main` comes to, command by command and status by status, in the program's own words.
-use Rattle.std.specs.Prelude.{◌≡◌, ℕ, ◌≤◌, ◌⊎◌, List, [], ◌++◌, length, Option, Some, None, Ok, Err}
+use Rattle.std.specs.Prelude.{◌≡◌, ℕ, ◌≤◌, ◌⊎◌, All, List, [], ◌++◌, length, Option, Some, None, Ok, Err}
 use Rattle.ags_command.specs.declared.source_texts.SourceText.{SourceText}
 use Rattle.ags_command.specs.Command as command
 use Rattle.ags_command.specs.Command.{line_arguments, asked_arguments, AreNoForm}
@@ -7,7 +7,7 @@ use Rattle.ags_load.specs.Workload.{source_text, cert_text}
 use Rattle.ags_outside.specs.ToldFile.{Stored}
 use Rattle.ags_outside.specs.Sink.{appended, WroteFront}
 use Rattle.ags_plan.specs.Plan.{WorkAt}
-use Rattle.ags_plan.specs.Walk.{Told, Agrees, Tells, EndsAt, IsGiven}
+use Rattle.ags_plan.specs.Walk.{Told as ToldFiles, Agrees, Tells, EndsAt, IsGiven}
 use Rattle.ags_plan.specs.Outcome as plan
 use Rattle.ags_places.specs.declared.source_error.SourceError.{SourceError}
 use Rattle.ags_cert.specs.Length.{certificate_limit}
@@ -32,12 +32,19 @@ use Rattle.ags_safe.specs.Accepted.{Accepted}
 use Rattle.ags_safe.specs.Safe.{Safe}
 use Rattle.ags_scale.specs.Tagged.{KeepsScales}
 use Rattle.ags_scale.specs.declared.answers.Scaled.TheVariants.{Agree}
+use Rattle.ags_check.specs.Judging.{Judging}
+use Rattle.ags_edits.specs.declared.edits.Edit.{Edit}
+use Rattle.ags_edits.specs.Text.{IsEditsOf}
+use Rattle.ags_recheck.specs.Told.{AreTold}
+use Rattle.ags_recheck.specs.declared.telling.Told.{Told}
+use Rattle.ags_recheck.specs.declared.telling.Told.TheVariants.{Made, NotMade}
 use Rattle.ags_tags.specs.Tag.{Scaling}
 use Rattle.ags_tags.specs.Text.{IsScalesOf}
 use Rattle.ags_times.specs.Budget.{IsGreatest}
 use Rattle.ags_times.specs.Text.{IsBudgetOf}
 use Rattle.ags_verdict.specs.Verdict.{IsVerdict}
 use Rattle.ags_verdict.specs.declared.verdicts.Refusal.{Refusal}
+use Rattle.ags_verdict.specs.declared.verdicts.Verdict.{Verdict}
 use Rattle.ags_verdict.specs.declared.verdicts.Verdict.TheVariants.{Certified, Refused}
 use Rattle.ags_script.specs.declared.commands.Command.{Command}
 use Rattle.ags_script.specs.Script.{IsScript}
@@ -50,13 +57,13 @@ use Rattle.ags_program.specs.declared.status.Status.{Status}
 use Rattle.ags_program.specs.declared.status.Status.TheVariants.{Done, No, BadMachine, BadSource, BadWords, BadCert, BadText}
 use Rattle.ags_program.specs.Files.{Kind, MachineFile, Source, Certificate, limit_of, Refuses, refused_status}
 use Rattle.ags_program.specs.Program.{program, plan_of}
-use Rattle.ags_program.specs.Text.{certified_word, met_line, scaled_line, timed_line, verdict_line, words_line, workload_line}
-use Rattle.ags_program.specs.Work.{Work, ListingBefore, PlayBehind, CountsInstead, BudgetBehind, ScalesBehind, IsTextOf, IsComparisonOf, IsJudgementOf, IsShownBy, met_status, Makes}
+use Rattle.ags_program.specs.Text.{certified_word, edit_lines, met_line, scaled_line, timed_line, verdict_line, words_line, workload_line}
+use Rattle.ags_program.specs.Work.{Work, ListingBefore, PlayBehind, CountsInstead, BudgetBehind, ScalesBehind, EditsBehind, IsTextOf, IsComparisonOf, IsJudgementOf, IsShownBy, met_status, Makes}
 use Rattle.ags_listing.specs.Listing.{listing}
 
 -- One call of `ags_main`: what the shelf tells, the arguments, what the sink told before and after it, and the status.
 pub record Call : Type 0 where
-  pub told : Told
+  pub told : ToldFiles
   pub arguments : List (List ℕ)
   pub old : Option (List ℕ)
   pub new : Option (List ℕ)
@@ -70,7 +77,7 @@ EndsWith result status = plan.EndsWith program result status
 
 -- The machine that a command line is for: the standard one where no file is named, and else one of valid tables, which is that of
 -- the file where the shelf tells it.
-abbrev pub IsMachineOf : (told : Told) → Option (List ℕ) → Machine → Type 0
+abbrev pub IsMachineOf : (told : ToldFiles) → Option (List ℕ) → Machine → Type 0
 IsMachineOf told None machine = machine ≡ standard_machine
 IsMachineOf told (Some name) machine = IsMachine machine × ((bytes : List ℕ) → told name ≡ Stored bytes → machine_of bytes ≡ Ok machine)
 
@@ -161,13 +168,13 @@ CertifiesWhatIsSafe call = (source certificate source_bytes certificate_bytes : 
 
 -- The machine that a command line is for is told: the standard one where no file is named, and else that of the file, which is within
 -- its limit.
-abbrev pub TellsMachine : (told : Told) → Option (List ℕ) → Machine → Type 0
+abbrev pub TellsMachine : (told : ToldFiles) → Option (List ℕ) → Machine → Type 0
 TellsMachine told None machine = machine ≡ standard_machine
 TellsMachine told (Some name) machine = (bytes : List ℕ) × (told name ≡ Stored bytes) × (length bytes ≤ machine_limit) × (machine_of bytes ≡ Ok machine)
 
 -- A source and a certificate are told, within their limits and without a fault, and the certificate is accepted for the words that the
 -- source defines.
-pub record TellsAccepted (told : Told) (machine : Machine) (source certificate : List ℕ) : Type 0 where
+pub record TellsAccepted (told : ToldFiles) (machine : Machine) (source certificate : List ℕ) : Type 0 where
   pub source_bytes : List ℕ
   pub source_told : told source ≡ Stored source_bytes
   pub source_short : length source_bytes ≤ source_limit
@@ -447,6 +454,66 @@ KeepsDeclaredScales call = (source certificate scales source_bytes certificate_b
     → (machine : Machine) × IsMachineOf call.told machine_file machine
     × ((text : List ℕ) × IsTaggedOn machine source_bytes certificate_bytes scales_bytes text × (call.new ≡ appended call.old text))
 
+-- The source defines words, the certificate is one for the machine's registers, the text of edits states these edits, and this is the text
+-- and the status of the verdict and of what comes of them.
+pub record AreEditsMadeOn (machine : Machine) (source certificate edits text : List ℕ) (status : Status) : Type 0 where
+  pub defined : CardWords
+  pub defines : Defines machine.codes source defined
+  pub cert : Stated
+  pub is_cert : IsCertOf machine.ports certificate cert
+  pub made : List Edit
+  pub are_edits : IsEditsOf edits made
+  pub judged : IsJudgementOf (record { machine = machine; assembly = record { bytes = source; defined = defined }; cert = cert }) (EditsBehind made) text status
+
+-- Where the run of `edits` ends with Done or with No, and the shelf and the sink tell, the sink took the verdict of the certificate for
+-- the words that the source defines, and behind it a line for each edit, made one behind the other: the verdict of the edited
+-- certificate for the edited words, which is what a check of them from nothing tells; or why it isn't made, and then nothing changed.
+abbrev pub JudgesEdits : Call → Type 0
+JudgesEdits call = (source certificate edits source_bytes certificate_bytes edits_bytes held : List ℕ) (machine_file : Option (List ℕ))
+    → (call.result ≡ Done) ⊎ (call.result ≡ No)
+    → call.arguments ≡ line_arguments (record { command = command.Edits source certificate edits; machine = machine_file }) → call.told source ≡ Stored source_bytes
+    → call.told certificate ≡ Stored certificate_bytes → call.told edits ≡ Stored edits_bytes → call.old ≡ Some held
+    → (machine : Machine) × IsMachineOf call.told machine_file machine
+    × ((text : List ℕ) × AreEditsMadeOn machine source_bytes certificate_bytes edits_bytes text call.result × (call.new ≡ Some (held ++ text)))
+
+-- the edit was made
+abbrev pub IsMade : Told → Type 0
+IsMade (Made verdict) = Unit {0}
+IsMade (NotMade error) = ⊥
+
+-- The machine's tables are valid. The source defines words, the certificate is one for the machine's registers, and the text of edits
+-- states these edits. Each of them was made, one behind the other, of the image of exactly these words and of the certificate; and what
+-- they leave of the certificate is accepted for what they leave of the image, so that every run of that is safe, over every list of
+-- events that it declares. The text is the verdict of the certificate, and a line for each edit.
+pub record IsEditedOn (machine : Machine) (source certificate edits text : List ℕ) : Type 0 where
+  pub valid : IsMachine machine
+  pub defined : CardWords
+  pub defines : Defines machine.codes source defined
+  pub image : List (Option ℕ)
+  pub image_is : IsImageOf (placed_words defined) image
+  pub cert : Stated
+  pub is_cert : IsCertOf machine.ports certificate cert
+  pub made : List Edit
+  pub are_edits : IsEditsOf edits made
+  pub told : List Told
+  pub after : Judging
+  pub are_told : AreTold (record { machine = machine; image = image; cert = cert }) made told after
+  pub each_made : All IsMade told
+  pub accepted : Accepted value_meaning machine after.image (certificate_of after.cert)
+  pub safe : Safe value_meaning machine after.image (certificate_of after.cert)
+  pub verdict : Verdict Value
+  pub is_verdict : IsVerdict value_meaning machine image (certificate_of cert) verdict
+  pub text_is : text ≡ verdict_line verdict ++ edit_lines 1 told
+
+-- The headline of `edits`: where its run is done, and the shelf tells, each edit was made, and every run of the edited words is safe; and
+-- where the sink tells, it took the verdict and the line of each edit.
+abbrev pub EditsToWhatIsSafe : Call → Type 0
+EditsToWhatIsSafe call = (source certificate edits source_bytes certificate_bytes edits_bytes : List ℕ) (machine_file : Option (List ℕ)) → call.result ≡ Done
+    → call.arguments ≡ line_arguments (record { command = command.Edits source certificate edits; machine = machine_file }) → call.told source ≡ Stored source_bytes
+    → call.told certificate ≡ Stored certificate_bytes → call.told edits ≡ Stored edits_bytes
+    → (machine : Machine) × IsMachineOf call.told machine_file machine
+    × ((text : List ℕ) × IsEditedOn machine source_bytes certificate_bytes edits_bytes text × (call.new ≡ appended call.old text))
+
 -- Where the walk over told files comes to a work that is done with Done, the run ends so, unless it stops: each file on the way
 -- is there, within its limit and without a fault.
 abbrev pub DoneAlways : Call → Type 0
@@ -463,8 +530,8 @@ pub record AnswersNo (call : Call) : Type 0 where
   pub sent : call.new ≡ appended call.old text
 
 -- No comes exactly where the walk comes to a work whose answer is no: a listing has other words than its source, a certificate is
--- refused by its verdict, a play meets a start or a word that its guard doesn't declare, a case needs more than its row's bound, or
--- scales don't agree
+-- refused by its verdict, a play meets a start or a word that its guard doesn't declare, a case needs more than its row's bound,
+-- scales don't agree, or an edit isn't made or the last verdict refuses
 pub record NoExactly (call : Call) : Type 0 where
   pub only : call.result ≡ No → AnswersNo call
   pub always : (work : Work) (text : List ℕ) → EndsAt program Tells call.told (plan_of call.arguments) (WorkAt work) → Makes work text No → EndsWith call.result No
@@ -508,9 +575,8 @@ pub record BadCertExactly (call : Call) : Type 0 where
   pub always : (machine : Machine) (name bytes : List ℕ) (line : ℕ) (kind : CertKind) → IsGiven program Tells call.told (plan_of call.arguments) (Certificate machine) name bytes
       → length bytes ≤ certificate_limit → IsFaultyCert machine.ports bytes line kind → EndsWith call.result BadCert
 
--- BadText comes exactly where the walk comes to a file of a kind that is refused with it, as a listing, a script or a text of times or
--- of scales, and
--- that has a faulty line, whose number and fault are printed
+-- BadText comes exactly where the walk comes to a file of a kind that is refused with it, as a listing, a script, or a text of times, of
+-- scales or of edits, and that has a faulty line, whose number and fault are printed
 pub record BadTextExactly (call : Call) : Type 0 where
   pub only : call.result ≡ BadText → (kind : Kind) × (refused_status kind ≡ BadText) × FindsFault kind call
   pub always : (kind : Kind) (name bytes line : List ℕ) → refused_status kind ≡ BadText → IsGiven program Tells call.told (plan_of call.arguments) kind name bytes

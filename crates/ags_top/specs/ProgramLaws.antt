@@ -1,9 +1,9 @@
 -- That the program's definition is lawful: its files mean one thing each, and its works make one text each.
-use Rattle.std.specs.Prelude.{◌≡◌, ◌≢◌, ◌⊎◌, ℕ, ◌++◌, List, length, Option, Some, None, Result, Ok, Err}
+use Rattle.std.specs.Prelude.{◌≡◌, ◌≢◌, ◌⊎◌, ℕ, All, List, [], ◌∷◌, ◌++◌, length, Option, Some, None, Result, Ok, Err}
 use Rattle.std.proofs.Common.{refl, sym, ap, subst, ◌∙◌, inl, inr}
 use Rattle.ags_command.specs.declared.source_texts.SourceText.{SourceText}
 use Rattle.ags_command.specs.declared.source_texts.SourceText.TheVariants as what
-use Rattle.ags_command.specs.Command.{Command, Write, Compare, Certify, Run, Guard, Budget, Scales, Asked, OnMachine, Workload, asked_of}
+use Rattle.ags_command.specs.Command.{Command, Write, Compare, Certify, Run, Guard, Budget, Scales, Edits, Asked, OnMachine, Workload, asked_of}
 use Rattle.ags_plan.specs.declared.causes.Cause.TheVariants as cause
 use Rattle.ags_plan.specs.Plan.{WorkAt}
 use Rattle.ags_plan.specs.Walk.{Told, Agrees, EndsAt, LeadsTo}
@@ -57,18 +57,24 @@ use Rattle.ags_play.specs.Played.{Met, Nothing}
 use Rattle.ags_scale.proofs.OneLemmas.{some_scaled, one_scaled}
 use Rattle.ags_scale.specs.declared.answers.Scaled.{Scaled}
 use Rattle.ags_scale.specs.declared.answers.Scaled.TheVariants as scaled
+use Rattle.ags_edits.specs.declared.edits_errors.EditsError.TheVariants as edits_error
+use Rattle.ags_edits.specs.Text.{IsLawful as IsLawfulEdit}
+use Rattle.ags_edits.proofs.MeaningLemmas as edits
+use Rattle.ags_recheck.specs.declared.telling.Told.{Told as ToldOf}
+use Rattle.ags_recheck.specs.declared.telling.Told.TheVariants.{Made, NotMade}
+use Rattle.ags_recheck.proofs.TellingLemmas.{some_told, one_told}
 use Rattle.ags_tags.specs.declared.scale_errors.ScaleError.TheVariants as scales_error
 use Rattle.ags_tags.proofs.MeaningLemmas as scales
 use Rattle.ags_times.specs.declared.budget_errors.BudgetError.TheVariants as times_error
 use Rattle.ags_times.proofs.MeaningLaws as times
 use Rattle.ags_program.specs.declared.status.Status.{Status}
 use Rattle.ags_program.specs.declared.status.Status.TheVariants.{Done, No, BadMachine, BadSource, BadCert, BadText, BadWords, LongFile}
-use Rattle.ags_program.specs.Files.{Kind, MachineFile, Source, Listing, Certificate, Script, Times, ScaleTags, Assembly, Pair, Value, HoldsSource, Holds, Refuses, refused_status}
+use Rattle.ags_program.specs.Files.{Kind, MachineFile, Source, Listing, Certificate, Script, Times, ScaleTags, EditList, Assembly, Pair, Value, HoldsSource, Holds, Refuses, refused_status}
 use Rattle.ags_top.specs.PlayLaws.{some_shown, one_shown, some_played, one_played}
 use Rattle.ags_program.specs.Program.{program, command_plan, plan_on, workload_plan, asked_plan, plan_of}
 use Rattle.ags_program.specs.Status.{cause_of}
-use Rattle.ags_program.specs.Text.{words_line, certificate_fault_line, fault_line, listing_fault_line, machine_fault_line, scales_fault_line, script_fault_line, times_fault_line, compared_line, scaled_line, timed_line, verdict_line}
-use Rattle.ags_program.specs.Work.{Work, NoForm, WriteText, CompareImages, JudgePair, PlayScript, Sequel, ListingBefore, PlayBehind, CountsInstead, BudgetBehind, ScalesBehind, ComesWith, IsTextOf, IsComparisonOf, IsJudgementOf, IsPlayedBy, compared_status, counts_line, met_status, scaled_status, timed_status, verdict_status, Makes}
+use Rattle.ags_program.specs.Text.{words_line, certificate_fault_line, edit_lines, edits_fault_line, fault_line, listing_fault_line, machine_fault_line, scales_fault_line, script_fault_line, times_fault_line, compared_line, scaled_line, timed_line, verdict_line}
+use Rattle.ags_program.specs.Work.{Work, NoForm, WriteText, CompareImages, JudgePair, PlayScript, Sequel, ListingBefore, PlayBehind, CountsInstead, BudgetBehind, ScalesBehind, EditsBehind, ComesWith, IsTextOf, IsComparisonOf, IsJudgementOf, IsPlayedBy, compared_status, counts_line, edits_status, met_status, scaled_status, timed_status, verdict_status, Makes}
 
 -- ---- files
 
@@ -107,6 +113,10 @@ some_reading (ScaleTags machine rows) bytes = elim (scales.each_text_means machi
   | inl (declared, is) ↦ inl (declared, is)
   | inr (number, kind, faulty) ↦ inr (scales_fault_line (scales_error.At number kind), record { number = number; kind = kind; faulty = faulty; line_is = refl })
 ]
+some_reading EditList bytes = elim (edits.each_text_means bytes) [
+  | inl (made, is) ↦ inl (made, is)
+  | inr (number, kind, faulty) ↦ inr (edits_fault_line (edits_error.At number kind), record { number = number; kind = kind; faulty = faulty; line_is = refl })
+]
 
 -- what was read of a source is one thing
 one_assembly : (order_codes bytes : List ℕ) (one other : Assembly) → HoldsSource order_codes bytes one → HoldsSource order_codes bytes other → one ≡ other
@@ -122,6 +132,7 @@ one_reading (Certificate machine) bytes one other first second = cert.one_cert_o
 one_reading (Script machine) bytes one other first second = script.one_script machine bytes one other first second
 one_reading (Times rows) bytes one other first second = times.one_budget_of rows bytes one other first second
 one_reading (ScaleTags machine rows) bytes one other first second = scales.one_scales_of machine.ports rows bytes one other first second
+one_reading EditList bytes one other first second = edits.one_edits_of bytes one other first second
 
 -- the lines of two faults that are one
 same_line : {K : Type 0} (text_of : ℕ → K → List ℕ) (line other : ℕ) (kind another : K) → (line ≡ other) × (kind ≡ another) → text_of line kind ≡ text_of other another
@@ -147,6 +158,9 @@ one_refusal (Times rows) bytes line other first second =
 one_refusal (ScaleTags machine rows) bytes line other first second =
     let same = scales.one_fault_of machine.ports rows bytes first.number second.number first.kind second.kind first.faulty second.faulty in
     first.line_is ∙ same_line (λ n k. scales_fault_line (scales_error.At n k)) first.number second.number first.kind second.kind same ∙ sym second.line_is
+one_refusal EditList bytes line other first second =
+    let same = edits.one_fault_of bytes first.number second.number first.kind second.kind first.faulty second.faulty in
+    first.line_is ∙ same_line (λ n k. edits_fault_line (edits_error.At n k)) first.number second.number first.kind second.kind same ∙ sym second.line_is
 
 not_both : (kind : Kind) (bytes line : List ℕ) (value : Value kind) → Holds kind bytes value → Refuses kind bytes line → ⊥
 not_both MachineFile bytes line machine holds refuses = let faulty = refuses.faulty in absurd cc
@@ -156,6 +170,7 @@ not_both (Certificate machine) bytes line stated is refuses = cert.never_both ma
 not_both (Script machine) bytes line commands is refuses = script.not_faulty machine bytes commands refuses.number refuses.kind is refuses.faulty
 not_both (Times rows) bytes line bounds is refuses = times.never_both rows bytes bounds refuses.number refuses.kind is refuses.faulty
 not_both (ScaleTags machine rows) bytes line declared is refuses = scales.never_both machine.ports rows bytes declared refuses.number refuses.kind is refuses.faulty
+not_both EditList bytes line made is refuses = edits.never_both bytes made refuses.number refuses.kind is refuses.faulty
 
 are_readable : AreReadable program
 are_readable = record {
@@ -171,9 +186,10 @@ are_readable = record {
 AreWordsOfSource : CardWords → Type 0
 AreWordsOfSource defined = (order_codes : List ℕ) × AreCodes order_codes × ((bytes : List ℕ) × Defines order_codes bytes defined)
 
--- what is so of what stands with a verdict: there is a bound for each row
+-- what is so of what stands with a verdict: there is a bound for each row, and edits are of the memory
 IsSequelFor : Pair → Sequel → Type 0
 IsSequelFor pair (BudgetBehind bounds) = length bounds ≡ length pair.cert.rows
+IsSequelFor pair (EditsBehind made) = All IsLawfulEdit made
 IsSequelFor pair _ = Unit {0}
 
 -- what is so of a work in which a walk ends: its machine is one, its words are a source's, and a listing's image is read of its bytes
@@ -202,6 +218,8 @@ asked_on_way told machine (Budget name certificate timing) work is (assembly, (b
     (subst IsAskedFor same (is, (machine.codes, is.codes, (bytes, holds.holds.defines)), has.holds.are_bounds.count), λ none. absurd cc)
 asked_on_way told machine (Scales name certificate tagging) work is (assembly, (bytes, agrees, holds), (stated, seen, (declared, (there, found, has), same))) =
     (subst IsAskedFor same (is, (machine.codes, is.codes, (bytes, holds.holds.defines)), tt), λ none. absurd cc)
+asked_on_way told machine (Edits name certificate changes) work is (assembly, (bytes, agrees, holds), (stated, seen, (made, (there, found, has), same))) =
+    (subst IsAskedFor same (is, (machine.codes, is.codes, (bytes, holds.holds.defines)), edits.lawful_edits there made has.holds), λ none. absurd cc)
 
 -- the same, of the work that a command line leads to
 asked_by_line : (told : Told) (machine : Option (List ℕ)) (command : Command) (work : Work)
@@ -273,6 +291,12 @@ some_coming (BudgetBehind bounds) pair image verdict is image_is so =
 some_coming (ScalesBehind declared) pair image verdict is image_is so =
     let (answer, is_scaled) = some_scaled pair.machine image (certificate_of pair.cert) declared is image_is in
     (verdict_line verdict ++ scaled_line answer, scaled_status answer, record { answer = answer; is_scaled = is_scaled; text_is = refl; status_is = refl })
+some_coming (EditsBehind made) pair image verdict is image_is so =
+    let (told, after, are) = some_told (record { machine = pair.machine; image = image; cert = pair.cert }) made is image_is so in (
+      verdict_line verdict ++ edit_lines 1 told,
+      edits_status (verdict_status verdict) told,
+      record { told = told; after = after; are_told = are; text_is = refl; status_is = refl },
+    )
 
 -- and that is one text and one status
 one_coming : (sequel : Sequel) (pair : Pair) (image : List (Option ℕ)) (verdict : Verdict Words) (text other : List ℕ) (status ended : Status) → IsMachine pair.machine
@@ -287,6 +311,12 @@ one_coming (BudgetBehind bounds) pair image verdict text other status ended is f
 one_coming (ScalesBehind declared) pair image verdict text other status ended is first second =
     let same = one_scaled pair.machine image (certificate_of pair.cert) declared is first.answer second.answer first.is_scaled second.is_scaled in
     (first.text_is ∙ ap (λ (a : Scaled). verdict_line verdict ++ scaled_line a) same ∙ sym second.text_is, first.status_is ∙ ap scaled_status same ∙ sym second.status_is)
+one_coming (EditsBehind made) pair image verdict text other status ended is first second =
+    let same = (one_told (record { machine = pair.machine; image = image; cert = pair.cert }) made first.told second.told first.after second.after is
+    first.are_told second.are_told).0 in (
+      first.text_is ∙ ap (λ (t : List ToldOf). verdict_line verdict ++ edit_lines 1 t) same ∙ sym second.text_is,
+      first.status_is ∙ ap (λ (t : List ToldOf). edits_status (verdict_status verdict) t) same ∙ sym second.status_is,
+    )
 
 -- a source and a certificate are judged
 some_judgement : (pair : Pair) (sequel : Sequel) → IsMachine pair.machine → AreWordsOfSource pair.assembly.defined → IsSequelFor pair sequel
@@ -375,6 +405,12 @@ unfolding IsWorkStatus
 scaled_work (scaled.Agree rows cases) = tt
 scaled_work _ = tt
 
+edits_work : (status : Status) (told : List ToldOf) → IsWorkStatus status → IsWorkStatus (edits_status status told)
+unfolding IsWorkStatus
+edits_work status [] is = is
+edits_work status (Made verdict ∷ more) is = edits_work (verdict_status verdict) more (judged_work verdict)
+edits_work status (NotMade error ∷ more) is = tt
+
 guarded_work : (machine : Machine) (image : List (Option ℕ)) (stated : Stated) (commands : List ScriptCommand) (verdict : Verdict Words) (text : List ℕ) (status : Status)
     → IsPlayedBy machine image stated commands verdict text status → IsWorkStatus status
 unfolding IsWorkStatus
@@ -388,6 +424,8 @@ coming_work (PlayBehind commands) pair image verdict text status comes = guarded
 coming_work (CountsInstead size) pair image verdict text status comes = subst IsWorkStatus (sym comes.1) (judged_work verdict)
 coming_work (BudgetBehind bounds) pair image verdict text status comes = subst IsWorkStatus (sym comes.status_is) (timed_work comes.timed)
 coming_work (ScalesBehind declared) pair image verdict text status comes = subst IsWorkStatus (sym comes.status_is) (scaled_work comes.answer)
+coming_work (EditsBehind made) pair image verdict text status comes =
+    subst IsWorkStatus (sym comes.status_is) (edits_work (verdict_status verdict) comes.told (judged_work verdict))
 
 made_status : (work : Work) (text : List ℕ) (status : Status) → Makes work text status → IsWorkStatus status
 unfolding IsWorkStatus
@@ -425,6 +463,7 @@ kind_refused (Certificate machine) = tt
 kind_refused (Script machine) = tt
 kind_refused (Times rows) = tt
 kind_refused (ScaleTags machine rows) = tt
+kind_refused EditList = tt
 
 refused_no_work : (status : Status) → IsRefusedStatus status → IsWorkStatus status → ⊥
 unfolding IsRefusedStatus IsWorkStatus

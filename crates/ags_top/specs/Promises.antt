@@ -7,7 +7,7 @@ use Rattle.ags_plan.specs.Outcome.{AbsentExactly, Ends, EndsExactly, IsCleanOnSh
 use Rattle.ags_program.specs.declared.status.Status.{Status}
 use Rattle.ags_program.specs.declared.status.Status.TheVariants.{AbsentFile, ReadFault, WriteFault}
 use Rattle.ags_program.specs.Program.{plan_of, program}
-use Rattle.ags_top.specs.Outcome.{Call, BadCertExactly, BadMachineExactly, BadSourceExactly, BadTextExactly, BadWordsExactly, BoundsOrderTime, CertifiesAccepted, CertifiesWhatIsSafe, CertifiesWorkload, ComparesWhatIsDefined, DoneAlways, EqualsWhatIsDefined, GuardsWhatIsDefined, JudgesBudget, JudgesScales, JudgesWhatIsDefined, JudgesWorkload, KeepsDeclaredScales, NoExactly, PlaysWhatIsDeclared, PlaysWhatIsDefined, SafeWhereCertifiedIsWritten, WritesWhatIsDefined}
+use Rattle.ags_top.specs.Outcome.{Call, BadCertExactly, BadMachineExactly, BadSourceExactly, BadTextExactly, BadWordsExactly, BoundsOrderTime, CertifiesAccepted, CertifiesWhatIsSafe, CertifiesWorkload, ComparesWhatIsDefined, DoneAlways, EditsToWhatIsSafe, EqualsWhatIsDefined, GuardsWhatIsDefined, JudgesBudget, JudgesEdits, JudgesScales, JudgesWhatIsDefined, JudgesWorkload, KeepsDeclaredScales, NoExactly, PlaysWhatIsDeclared, PlaysWhatIsDefined, SafeWhereCertifiedIsWritten, WritesWhatIsDefined}
 
 -- The counts of a call: the shelf's of its faults and of absent files, and the sink's of its faults, each before and after it.
 pub record Counts : Type 0 where
@@ -32,6 +32,8 @@ pub record Promises (call : Call) (counts : Counts) : Type 0 where
   -- is accepted for those words; and wherever `guard` wrote that it is certified, that is so, even where the output stops there.
   -- What is said of a workload is said of its two texts, and where it is done every run of its words is safe. What is said of bounds on
   -- order time is what comes of them, and where `budget` is done they are kept in every run; and so of scales, where `scales` is done.
+  -- What is said of edits is what a check from nothing tells of what stands after each, and where `edits` is done every run of what
+  -- stands after the last is safe.
   pub certified : CertifiesWhatIsSafe call
   pub judged : JudgesWhatIsDefined call
   pub listed : WritesWhatIsDefined Listing call
@@ -49,6 +51,8 @@ pub record Promises (call : Call) (counts : Counts) : Type 0 where
   pub budget_judged : JudgesBudget call
   pub scales : KeepsDeclaredScales call
   pub scales_judged : JudgesScales call
+  pub edited : EditsToWhatIsSafe call
+  pub edits_judged : JudgesEdits call
   -- Good files are answered, and an accepted certificate is certified.
   pub accepted : CertifiesAccepted call
   pub done : DoneAlways call

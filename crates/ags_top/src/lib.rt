@@ -2,7 +2,7 @@
 //! shelf and any sink. What a command line asks for is loaded by `ags_program`, along the walk of `ags_plan`, and done
 //! here: a text of a source is written by `ags_listing`, `ags_image` or `ags_xref`, images are compared by
 //! `ags_compare`, certificates judged by `ags_check`, scripts played by `ags_run`, bounds on order time judged by
-//! `ags_budget`, and scales by `ags_scale`. `ags_main` answers exactly what the definitions in `specs/`, and those of `ags_program`, say of the
+//! `ags_budget`, scales by `ags_scale`, and edits made by `ags_recheck`. `ags_main` answers exactly what the definitions in `specs/`, and those of `ags_program`, say of the
 //! arguments and the files.
 #![tactic(auto)]
 
@@ -10,6 +10,7 @@ mod answer_laws;
 mod budget_command;
 mod certify_command;
 mod compare_command;
+mod edits_command;
 mod guard_command;
 mod judging;
 mod listed_laws;

@@ -91,7 +91,7 @@ impl Program for Ags {
             Work::NoForm => say_forms(out),
             Work::WriteText { text, source } => write_text(alloc, text, &source, out),
             Work::CompareImages { made, listed } => compare_images(&made, &listed, out),
-            Work::JudgePair { pair, sequel } => judge_pair(alloc, &pair, &sequel, out),
+            Work::JudgePair { pair, sequel } => judge_pair(alloc, pair, sequel, out),
             Work::PlayScript {
                 machine,
                 made,
