@@ -1,5 +1,5 @@
 #!/usr/bin/env bash
-# Runs the README's tour and compares what each command prints, on standard output and, where the output has no line, on standard
+# Runs the tour, docs/TOUR.md, and compares what each command prints, on standard output and, where the output has no line, on standard
 # error. Other programs than bin/ags and bin/agsbench may be named, in this order, as builds without proofs. Ends with 1 where something differs.
 set -u
 cd "$(dirname "$(readlink -f "${BASH_SOURCE[0]}")")/.." || exit 2
@@ -282,4 +282,4 @@ END
 if [ "$differing" -ne 0 ]; then
   exit 1
 fi
-printf 'the tour is as the README says\n'
+printf 'the tour is as docs/TOUR.md says\n'
