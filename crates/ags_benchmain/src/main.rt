@@ -3,11 +3,10 @@
 #![tactic(auto)]
 
 mod devices;
-mod messages;
 mod running;
 
+use ags_advice::{Program, tell};
 use ags_edge::{FileShelf, OutSink};
-use messages::{Message, tell};
 use running::run;
 use std::env::args;
 use std::io;
@@ -16,8 +15,9 @@ use std::process::ExitCode;
 fn main(rt: HostRuntime) -> ExitCode {
     let mut shelf = FileShelf::new(&rt, rt.alloc());
     let mut out = OutSink::new(rt.alloc(), io::writer(&rt));
-    let status = run(rt.alloc(), args(&rt), &mut shelf, &mut out);
-    let unread = shelf.unread();
-    tell(&rt, Message { status, unread });
-    ExitCode::from(status.number())
+    let words = args(&rt);
+    let is_text = words.is_ok();
+    let number = run(rt.alloc(), words, &mut shelf, &mut out).number();
+    tell(&rt, Program::AgsBench, number, is_text, &shelf, &out);
+    ExitCode::from(number)
 }

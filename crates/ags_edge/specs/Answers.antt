@@ -1,5 +1,5 @@
 -- What the adapters answer to what the outside did, and what they count.
-use Rattle.std.specs.Prelude.{ℕ, ◌+◌, ◌-◌, ◌^◌, List, take, min, Option, Some, None}
+use Rattle.std.specs.Prelude.{◌≡◌, ◌⊎◌, ℕ, ◌+◌, ◌-◌, ◌^◌, List, [], take, length, min, Option, Some, None}
 use Rattle.std.specs.Io.KnownBytes.{Appends, Keeps}
 use Rattle.ags_outside.specs.declared.shelves.Pull.{Pull}
 use Rattle.ags_outside.specs.declared.shelves.Pull.TheVariants as pull
@@ -28,3 +28,14 @@ abbrev pub PutAppends : (old new : Option (List ℕ)) (piece : List ℕ) (answer
 PutAppends old new piece (put.Took count) = Appends old new (take count piece)
 PutAppends old new piece put.Failed = Keeps old new
 PutAppends old new piece put.NoMemory = Keeps old new
+
+-- the name of the file that was looked for last: of the one that couldn't be read, else of the one that is open
+abbrev pub looked_for : (unread held : Option (List ℕ)) → Option (List ℕ)
+looked_for (Some name) held = Some name
+looked_for None held = held
+
+-- what is kept of the piece that was put last: all of it where it was taken whole, or nothing
+abbrev pub KeepsPiece : (kept : List ℕ) (piece : List ℕ) (answer : PutDone) → Type 0
+KeepsPiece kept piece (put.Took count) = count ≡ length piece → (kept ≡ piece) ⊎ (kept ≡ [])
+KeepsPiece kept piece put.Failed = kept ≡ []
+KeepsPiece kept piece put.NoMemory = kept ≡ []

@@ -6,12 +6,13 @@ ghost use Rattle.std.specs.IoError.{error_kind};
 ghost use Rattle.std.specs.Option.{option_map};
 ghost use Rattle.std.specs.Result.{result_ok};
 ghost use Rattle.std.specs.String.{string_bytes};
-ghost use Rattle.ags_edge.specs.Answers.{count_of, faults_after};
+ghost use Rattle.ags_edge.specs.Answers.{count_of, faults_after, looked_for};
 ghost use Rattle.ags_edge.specs.Held.{IsAtItsEnd, IsBroughtTo, ReadsOn, ReadsWhatStood, StaysOpen, StoodAt};
 ghost use Rattle.ags_outside.specs.Count.{HasCause, Rose};
 ghost use Rattle.ags_outside.specs.Shelf.{GotWithin, absences_after, is_absent_pull, is_failed_pull};
 ghost use Rattle.ags_outside.specs.ToldFile.{Untold};
 
+use crate::reasons::reason_of;
 use ags_outside::{Pull, Shelf};
 use std::alloc::Global;
 use std::fs;
@@ -36,6 +37,8 @@ pub struct FileShelf<'a, R: Files> {
     absences: u64,
     /// The name of the file that couldn't be read last, where there was memory to keep it.
     unread: Option<String>,
+    /// Why it couldn't be read.
+    reason: Option<ErrorKind>,
 }
 
 /// A file that stood at its start, at that place.
@@ -127,6 +130,7 @@ impl<'a, R: Files> FileShelf<'a, R> {
         ensures faults { result.faults ≡ 0 }
         ensures absences { result.absences ≡ 0 }
         ensures unread { result.unread ≡ None }
+        ensures reason { result.reason ≡ None }
     {
         FileShelf {
             rt,
@@ -135,6 +139,7 @@ impl<'a, R: Files> FileShelf<'a, R> {
             faults: 0,
             absences: 0,
             unread: None,
+            reason: None,
         }
     }
 
@@ -148,8 +153,29 @@ impl<'a, R: Files> FileShelf<'a, R> {
         }
     }
 
-    /// Keeps the name of a file that couldn't be read.
-    fn keep_unread(&mut self, name: &str, answer: Pull)
+    /// The name of the file that was looked for last, where it is known: of one that couldn't be read, else of one that is open. Of a
+    /// file that is absent no name is kept.
+    pub fn looked_for(&self) -> Option<&str>
+        ensures { option_map (λ name. name.now) result ≡ looked_for (option_map string_bytes self.now.unread) (option_map (λ file. string_bytes file.name) self.now.held) }
+    {
+        match (&self.unread, &self.held) {
+            (Some(name), _) => Some(name.as_str()),
+            (None, Some(file)) => Some(file.name.as_str()),
+            (None, None) => None,
+        }
+    }
+
+    /// Why the file that couldn't be read last couldn't be.
+    pub fn why_unread(&self) -> Option<ErrorKind>
+        ensures { result ≡ self.now.reason }
+    {
+        self.reason
+    }
+
+    /// Keeps the name of a file that couldn't be read, and why.
+    fn keep_unread(&mut self, name: &str, answer: Pull, reason: Option<ErrorKind>)
+        ensures reason { answer ≡ Pull.Failed → self.new.reason ≡ reason }
+        ensures reason_stays { answer ≢ Pull.Failed → self.new.reason ≡ self.old.reason }
         ensures unread { answer ≡ Pull.Failed → IfSome self.new.unread (λ unread. string_bytes unread ≡ name.now) }
         ensures unread_stays { answer ≢ Pull.Failed → self.new.unread ≡ self.old.unread }
         ensures faults { self.new.faults ≡ self.old.faults }
@@ -158,6 +184,7 @@ impl<'a, R: Files> FileShelf<'a, R> {
     {
         if matches!(answer, Pull::Failed) {
             self.unread = String::from_str(self.alloc, name).ok();
+            self.reason = reason;
         }
     }
 
@@ -172,6 +199,7 @@ impl<'a, R: Files> FileShelf<'a, R> {
         ensures source { ReadsWhatStood R.File.remaining R.File.stream_position R.File.stream_bytes self.old.held self.new.held from into.new (result_ok result) }
         ensures closed { OnErr result (self.new.held ≡ None) }
         ensures unread { self.new.unread ≡ self.old.unread }
+        ensures reason { self.new.reason ≡ self.old.reason }
     {
         let mut file = file_at(self.rt, self.alloc, self.held.take(), name, from)?;
         let count = read_more(&mut file, into)?;
@@ -187,6 +215,7 @@ impl<'a, R: Files> FileShelf<'a, R> {
         ensures absences_stay { self.old.absences ≤ self.new.absences }
         ensures held { self.new.held ≡ self.old.held }
         ensures unread { self.new.unread ≡ self.old.unread }
+        ensures reason { self.new.reason ≡ self.old.reason }
     {
         match answer {
             Pull::Absent => self.absences = self.absences.saturating_add(1),
@@ -215,6 +244,8 @@ impl<R: Files> Shelf for FileShelf<'_, R> {
         // The name that is kept for a message is that of the file that couldn't be read last.
         ensures unread { result ≡ Pull.Failed → IfSome self.new.unread (λ unread. string_bytes unread ≡ name.now) }
         ensures unread_stays { result ≢ Pull.Failed → self.new.unread ≡ self.old.unread }
+        // And the reason that is kept beside it is the last one too.
+        ensures reason_stays { result ≢ Pull.Failed → self.new.reason ≡ self.old.reason }
         // Bytes and an end are those of a file of that name, and what is known of it bears them out.
         ensures open { StaysOpen self.new.held name.now from (count_of result) }
         ensures end { IsAtItsEnd R.File.remaining self.new.held (count_of result) }
@@ -222,9 +253,11 @@ impl<R: Files> Shelf for FileShelf<'_, R> {
         // The first bytes of a file that was opened are those of what was opened, at the place that it was brought to.
         ensures source { ReadsWhatStood R.File.remaining R.File.stream_position R.File.stream_bytes self.old.held self.new.held from into.new (count_of result) }
     {
-        let answer = answer_to(self.read_on(name, from, into));
+        let read = self.read_on(name, from, into);
+        let reason = reason_of(&read);
+        let answer = answer_to(read);
         self.count(answer);
-        self.keep_unread(name, answer);
+        self.keep_unread(name, answer, reason);
         answer
     }
 }

@@ -7,6 +7,7 @@
 mod file_shelf;
 mod held_sink;
 mod out_sink;
+mod reasons;
 
 pub use file_shelf::FileShelf;
 pub use held_sink::HeldSink;

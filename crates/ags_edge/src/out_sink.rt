@@ -4,11 +4,13 @@ ghost use Rattle.std.specs.Prelude.{◌≡◌, ◌≢◌, ◌<◌, ◌≤◌, []
 ghost use Rattle.std.specs.Io.Buffered.{writer_buffer, writer_contents, writer_inner};
 ghost use Rattle.std.specs.Io.KnownBytes.{Keeps};
 ghost use Rattle.std.specs.IoError.{error_kind};
-ghost use Rattle.ags_edge.specs.Answers.{PutAppends};
+ghost use Rattle.std.specs.Str.{IsUtf8};
+ghost use Rattle.ags_edge.specs.Answers.{KeepsPiece, PutAppends};
 ghost use Rattle.ags_outside.specs.Count.{HasCause, Rose};
 ghost use Rattle.ags_outside.specs.Sink.{TookWithin, is_failed_put};
 
 use crate::held_sink::HeldSink;
+use crate::reasons::reason_of;
 use ags_outside::{PutDone, Sink};
 use std::alloc::Global;
 use std::io::{self, BufWriter, ErrorKind, Write};
@@ -21,6 +23,10 @@ const ROOM: usize = 65536;
 pub struct OutSink<W: Write + Drop> {
     out: BufWriter<W>,
     faults: u64,
+    /// The piece that was put last, where it was taken whole and there was memory to keep it.
+    last: Vec<u8>,
+    /// Why the writer failed last.
+    reason: Option<ErrorKind>,
 }
 
 /// What a sink answers to a write. One that took nothing is a fault, and so is each error that isn't want of memory.
@@ -44,10 +50,47 @@ impl<W: Write + Drop> OutSink<W> {
         ensures writer { IfOk result (λ sink. writer_inner sink.out ≡ writer) }
         ensures empty { IfOk result (λ sink. writer_buffer sink.out ≡ []) }
         ensures faults { IfOk result (λ sink. sink.faults ≡ 0) }
+        ensures last { IfOk result (λ sink. sink.last.items ≡ []) }
+        ensures reason { IfOk result (λ sink. sink.reason ≡ None) }
         ensures memory { IfErr result (λ error. error_kind error ≡ ErrorKind.OutOfMemory) }
     {
         let out = BufWriter::with_capacity(alloc, ROOM, writer)?;
-        Ok(OutSink { out, faults: 0 })
+        Ok(OutSink {
+            out,
+            faults: 0,
+            last: Vec::new(alloc),
+            reason: None,
+        })
+    }
+
+    /// The piece that was put last, where it was taken whole, is text, and there was memory to keep it; else nothing.
+    pub fn last_piece(&self) -> &str
+        ensures text { IsUtf8 self.now.last.items → result.now ≡ self.now.last.items }
+    {
+        match str::from_utf8(&self.last) {
+            Ok(text) => text,
+            Err(_) => "",
+        }
+    }
+
+    /// Why the writer failed last, where it did.
+    pub fn why_unwritten(&self) -> Option<ErrorKind>
+        ensures { result ≡ self.now.reason }
+    {
+        self.reason
+    }
+
+    /// Keeps a piece that was taken whole, and else none.
+    fn keep_last(&mut self, piece: &[u8], answer: PutDone)
+        ensures last { KeepsPiece self.new.last.items piece.now answer }
+        ensures out { self.new.out ≡ self.old.out }
+        ensures faults { self.new.faults ≡ self.old.faults }
+        ensures reason { self.new.reason ≡ self.old.reason }
+    {
+        self.last.clear();
+        if answer == PutDone::Took(piece.len()) {
+            let _ = self.last.extend_from_slice(piece);
+        }
     }
 }
 
@@ -62,10 +105,15 @@ impl<W: Write + Drop> Sink for OutSink<W> {
         ensures bytes { PutAppends (writer_contents W.contents self.old.out) (writer_contents W.contents self.new.out) piece.now result }
         ensures failed { result ≡ PutDone.Failed → Rose self.old.faults self.new.faults }
         ensures faults { HasCause self.old.faults self.new.faults (is_failed_put result) }
+        ensures last { KeepsPiece self.new.last.items piece.now result }
     {
-        let answer = answer_to(self.out.write(piece));
+        let written = self.out.write(piece);
+        let reason = reason_of(&written);
+        let answer = answer_to(written);
+        self.keep_last(piece, answer);
         if answer == PutDone::Failed {
             self.faults = self.faults.saturating_add(1);
+            self.reason = reason;
         }
         answer
     }
@@ -85,9 +133,11 @@ impl<W: Write + Drop> HeldSink for OutSink<W> {
         ensures clean { result ≡ true → self.new.faults ≡ self.old.faults }
     {
         let faults = self.faults;
-        let written = self.out.flush().is_ok();
+        let flushed = self.out.flush();
+        let written = flushed.is_ok();
         if !written {
             self.faults = faults.saturating_add(1);
+            self.reason = reason_of(&flushed);
         }
         written
     }

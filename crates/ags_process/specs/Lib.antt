@@ -1,3 +1,2 @@
 -- what the public contracts cite
 pub mod Ended
-pub mod MessageText

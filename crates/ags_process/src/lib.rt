@@ -1,10 +1,10 @@
 //! The program as a process: `ags_main` over real files and standard output, and the number that it ends with. `run` does
 //! what a process does over any shelf and any sink; only making the real ones, telling a person, and the number are left
-//! to `exit_number`, which has no branch. It stands on `ags_outside`, `ags_edge`, `ags_plan` and `ags_top`; the programs
+//! to `exit_number`, which has no branch. It stands on `ags_outside`, `ags_edge`, `ags_plan` and `ags_top`,
+//! and on `ags_advice` for what a person is told; the programs
 //! above are one line each.
 #![tactic(auto)]
 
-mod messages;
 mod running;
 
 ghost use Rattle.std.specs.Prelude.{◌≡◌, ◌≢◌, IfOk, IfErr, drop, map};
@@ -13,9 +13,8 @@ ghost use Rattle.std.specs.String.{string_bytes};
 ghost use Rattle.std.specs.Vec.Iter.{into_iter_items};
 ghost use Rattle.ags_process.specs.Ended.{ExitsFor};
 
+use ags_advice::{Program, tell};
 use ags_edge::{FileShelf, OutSink};
-pub use messages::Message;
-use messages::tell;
 pub use running::{Ran, run, run_over};
 use std::env::Args;
 use std::fs::Files;
@@ -35,8 +34,9 @@ pub fn exit_number<R: Files + Print + Eprint + AllocGlobal>(
 {
     let mut shelf = FileShelf::new(rt, rt.alloc());
     let mut out = OutSink::new(rt.alloc(), io::writer(rt));
+    let is_text = arguments.is_ok();
     let status = run(rt.alloc(), arguments, &mut shelf, &mut out).ended();
-    let unread = shelf.unread();
-    tell(rt, Message { status, unread });
-    status.number()
+    let number = status.number();
+    tell(rt, Program::Ags, number, is_text, &shelf, &out);
+    number
 }

@@ -21,8 +21,6 @@ mod listing_tests;
 #[cfg(test)]
 mod machine_tests;
 #[cfg(test)]
-mod message_tests;
-#[cfg(test)]
 mod order_tests;
 #[cfg(test)]
 mod panel_tests;

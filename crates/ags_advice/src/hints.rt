@@ -1,0 +1,300 @@
+//! What each kind of fault wants, one row a kind, in the words of docs/. A further kind is a row here and one in the definition.
+
+ghost use Rattle.std.specs.Prelude.{◌≡◌};
+ghost use Rattle.ags_advice.specs.Hint as hint;
+
+/// Of a fault of a source (docs/SOURCE.md, Faults).
+pub(crate) fn source(kind: &str) -> &'static str
+    ensures { result.now ≡ hint.wanted_in hint.source kind.now }
+{
+    match kind {
+        "BadByte" => {
+            "a card, a comment too, has tabs and the characters from the space to the tilde, and no other byte"
+        }
+        "LongCard" => "a card, a comment too, has at most 120 bytes; the line's end doesn't count",
+        "BadSymbol" => {
+            "a symbol, from column 1 on, is 1 to 6 capitals and digits with a letter among them; EQU and SYN have one"
+        }
+        "UnknownOperation" => {
+            "an operation, behind column 1, is one of the 27 orders, ORG, EQU, SYN, BSS, BES, DEC, OCT or END, in capitals"
+        }
+        "MissingOperand" => {
+            "every operation but ABS, COM and END has an operand behind a blank, with no blank in it"
+        }
+        "ExtraOperand" => {
+            "the operand of ORG, EQU, SYN, BSS and BES is one expression, without a comma"
+        }
+        "BadExpression" => {
+            "an operand is terms joined by + or -: /octal or decimal, 6 digits at most, *, a symbol; an order may end in ,1"
+        }
+        "BadDecimal" => {
+            "a number of DEC is as -1.5E2B10: 1 to 10 digits, E and B or none, net power of ten -12 to 12, scale -30 to 60"
+        }
+        "BadOctal" => {
+            "each number of OCT is an optional sign and 1 to 6 octal digits, with a comma between each two"
+        }
+        "SymbolTwice" => "a symbol stands in the symbol field of one card alone",
+        "UndefinedEarly" => {
+            "the symbols that ORG, EQU, SYN, BSS and BES use are defined by earlier cards"
+        }
+        "PlaceRange" => {
+            "words and ORG have places 0 to 4095, BSS and BES go forward, to 4096 at most, EQU is -262143 to 262143"
+        }
+        "Undefined" => "each symbol that an order uses stands in the symbol field of some card",
+        "AddressRange" => {
+            "the address of an order, the value of its expression, is 0 to 4095, in octal /0 to /7777"
+        }
+        "ValueRange" => {
+            "each number of DEC, times 2 to the power of 17 less its scale, rounds to a value from -131072 to 131071"
+        }
+        "PlaceTwice" => "a place has the word of one card alone",
+        _ => "docs/SOURCE.md, Faults, has the kinds",
+    }
+}
+
+/// Of a fault of a machine file (docs/MACHINE.md, Machine files).
+pub(crate) fn machine(kind: &str) -> &'static str
+    ensures { result.now ≡ hint.wanted_in hint.machine kind.now }
+{
+    match kind {
+        "NotToml" => {
+            "a machine file is one TOML document in UTF-8; an empty one gives the standard machine"
+        }
+        "MissingKey" => {
+            "codes and times, where given, have all 27 orders by name; each entry of input and output has an address"
+        }
+        "BadValue" => {
+            "codes are even, 0 to 62, times 1 to 1000, addresses 0 to 4095; input and output are at most 32 tables each"
+        }
+        "SameCode" => "no two of the 27 orders have one code",
+        "SamePort" => {
+            "no two registers of one direction have one address; an input and an output register may"
+        }
+        _ => "docs/MACHINE.md, Machine files, has the kinds",
+    }
+}
+
+/// Of a fault of a certificate (docs/CERTIFICATE.md, Faults).
+pub(crate) fn certificate(kind: &str) -> &'static str
+    ensures { result.now ≡ hint.wanted_in hint.certificate kind.now }
+{
+    match kind {
+        "BadLine" => {
+            "lines are the forms in their order, END last; CELL, INIT, AT, LINK name erasable cells, IN and OUT registers"
+        }
+        "Version" => "line 1 is AGSCERT 1 or AGSCERT 2, and there is no other version",
+        "Twice" => {
+            "START stands once, an address once in one kind, AT once for a cell of a row, and LINK once in a row"
+        }
+        "EmptyRange" => "RANGE n m has the lesser value first: n is m or less",
+        "OutsideGlobal" => {
+            "each word that INIT or AT states of a cell is one of its CELL line: narrow the one, or widen the other"
+        }
+        "NoZero" => {
+            "an input register that holds its word once is 0 when it was read, so the value of its IN line holds 0"
+        }
+        "TooManyRows" => "a certificate has at most 20,000 rows, and at most 512 at one location",
+        "TooManyAt" => "a row has at most 64 AT lines",
+        "NoRows" => "a certificate has a ROW line before END, one at least",
+        _ => "docs/CERTIFICATE.md, Faults, has the kinds",
+    }
+}
+
+/// Of a fault of a listing (docs/SOURCE.md, Listing).
+pub(crate) fn listing(kind: &str) -> &'static str
+    ensures { result.now ≡ hint.wanted_in hint.listing kind.now }
+{
+    match kind {
+        "BadLine" => {
+            "columns 1-7 are digits, 9-12 and 14-19 octal digits in both or spaces in both, 8, 13 and 20 spaces"
+        }
+        "PlaceTwice" => "a place has a word in one line of a listing alone",
+        _ => "docs/SOURCE.md, Listing, has the kinds",
+    }
+}
+
+/// Of a fault of a script (docs/SCRIPT.md, Faults).
+pub(crate) fn script(kind: &str) -> &'static str
+    ensures { result.now ≡ hint.wanted_in hint.script kind.now }
+{
+    match kind {
+        "BadLine" => {
+            "a line is one of the forms, in capitals; START (once), CELL and PORT come first; CELL names 0000 to 3777"
+        }
+        "NoPort" => {
+            "PORT and SET name an input register of the machine, SHOW OUT an output one, and FEED needs the panel's"
+        }
+        "TooManySteps" => {
+            "the counts of all STEP lines, and 20,000 times those of all CYCLE lines, come to at most 100,000,000"
+        }
+        _ => "docs/SCRIPT.md, Faults, has the kinds",
+    }
+}
+
+/// Of a fault of a bench script (docs/BENCH.md, Scripts).
+pub(crate) fn bench_script(kind: &str) -> &'static str
+    ensures { result.now ≡ hint.wanted_in hint.bench_script kind.now }
+{
+    match kind {
+        "BadLine" => {
+            "a line is STEP n, PULSE, CYCLE n, FEED i, DETACH i, SHOW REG, SHOW CELL c or SHOW OUT p, and no other"
+        }
+        "NoPort" => "SHOW OUT names an output register of the machine",
+        "TooManySteps" => {
+            "the counts of all STEP lines, and 20,000 times those of all CYCLE lines, come to at most 100,000,000"
+        }
+        _ => "docs/BENCH.md, Scripts, has the kinds",
+    }
+}
+
+/// Of a fault of a text of times (docs/TIMES.md, Faults).
+pub(crate) fn times(kind: &str) -> &'static str
+    ensures { result.now ≡ hint.wanted_in hint.times kind.now }
+{
+    match kind {
+        "BadLine" => {
+            "line 1 is AGSTIME 1, then come lines TIME r n, both of 1 to 5 digits, and END is last"
+        }
+        "Version" => "line 1 is AGSTIME 1, and there is no other version",
+        "Twice" => "a row has one TIME line at most",
+        "NoRow" => "the r of TIME r n is the number of a row of the certificate, counted from 1",
+        "TimeRange" => "the n of TIME r n, a row's bound, is 1 to 20,000 microseconds",
+        _ => "docs/TIMES.md, Faults, has the kinds",
+    }
+}
+
+/// Of a fault of a text of scales (docs/SCALES.md, Faults).
+pub(crate) fn scales(kind: &str) -> &'static str
+    ensures { result.now ≡ hint.wanted_in hint.scales kind.now }
+{
+    match kind {
+        "BadLine" => {
+            "a line is one of the forms; IN, OUT name registers; n is -128 to 127, a and q ANY, RAW or as n; END is last"
+        }
+        "Version" => "line 1 is AGSSCALE 1, and there is no other version",
+        "Twice" => {
+            "an address stands in one line at most of each of CELL, IN and OUT, and a row in one ROW line"
+        }
+        "NoRow" => "the r of ROW r a q is the number of a row of the certificate, counted from 1",
+        _ => "docs/SCALES.md, Faults, has the kinds",
+    }
+}
+
+/// Of a fault of a text of edits (docs/EDITS.md, Faults).
+pub(crate) fn edits(kind: &str) -> &'static str
+    ensures { result.now ≡ hint.wanted_in hint.edits kind.now }
+{
+    match kind {
+        "BadLine" => {
+            "a line is one of the forms; CELL, AT, LINK name erasable cells, AT and LINK stand behind a ROW; END is last"
+        }
+        "Version" => "line 1 is AGSEDIT 1, and there is no other version",
+        "Twice" => "a cell stands in one AT line of a row, and a row has one LINK line at most",
+        "EmptyRange" => "RANGE n m has the lesser value first: n is m or less",
+        "TooManyAt" => "a row has at most 64 AT lines",
+        "TooManyEdits" => "a text of edits has at most 10,000 edits",
+        _ => "docs/EDITS.md, Faults, has the kinds",
+    }
+}
+
+/// Of a start or a word that a script sets and a certificate doesn't declare (docs/SCRIPT.md, Guarded plays).
+pub(crate) fn outside(kind: &str) -> &'static str
+    ensures { result.now ≡ hint.wanted_in hint.outside kind.now }
+{
+    match kind {
+        "START" => {
+            "the script starts where the certificate does: its START names that location, or it has none"
+        }
+        "CELL" => {
+            "an erasable cell begins as its card's word, else as a word of its INIT line, and where neither is as 0"
+        }
+        "PORT" => {
+            "an input register begins as a word of its IN line, and as 0 where no PORT line sets it"
+        }
+        "IN" => {
+            "a word that is put into an input register is one of its IN line: put another, or widen that"
+        }
+        _ => "docs/SCRIPT.md, Guarded plays, has the kinds",
+    }
+}
+
+/// The same at the bench (docs/BENCH.md, What stops a run).
+pub(crate) fn bench_outside(kind: &str) -> &'static str
+    ensures { result.now ≡ hint.wanted_in hint.bench_outside kind.now }
+{
+    match kind {
+        "CELL" => {
+            "a cell without a card's word begins as 0 at the bench, so its INIT line, where it has one, holds 0"
+        }
+        "PORT" => {
+            "an input register begins as 0 at the bench, so its IN line, where it has one, holds 0"
+        }
+        "IN" => "each word that a device gives is one of the IN line of the register that it feeds",
+        _ => "docs/BENCH.md, What stops a run, has the kinds",
+    }
+}
+
+/// Of an item of the verdict that fails (docs/CHECKER.md, The verdict), and that text of any other kind.
+fn item_or(otherwise: &'static str, kind: &str) -> &'static str
+    ensures { result.now ≡ hint.wanted_by hint.items otherwise.now kind.now }
+{
+    match kind {
+        "InitRange" => {
+            "a cell begins as a word of its CELL line: widen that, mend the card, or write INIT where no card has a word there"
+        }
+        "StartUncovered" => {
+            "a row at the start has to hold 0 in A, Q, X and V, and the first word of each cell of its AT lines"
+        }
+        "CodeUnknown" => {
+            "at an erasable cell at most 16 words may be run: name them by WORDS in an AT line of the row, or in CELL"
+        }
+        "NoOrder" => {
+            "each word that is run has to be an order: let no way lead to another word, or state fewer words of the cell"
+        }
+        "BadPort" => "INP names an input register of the machine, and OUT an output register",
+        "FixedWrite" => {
+            "a store goes to an erasable cell, 0000 to 3777: mend the address, or state less of X or of the word that is run"
+        }
+        "MayOverflow" => {
+            "with these words the order overflows: narrow A in the row, or the cell by AT or CELL, or name the place by MAY"
+        }
+        "CellRange" => {
+            "what is stored has to lie within the CELL line: widen that, or narrow A in the row (Q for STQ)"
+        }
+        "OutputRange" => {
+            "what is given has to lie within the OUT line of the register: widen that, or narrow A in the row"
+        }
+        "NotCovered" => {
+            "a row at NEXT has to hold all that this order leaves: in A, Q, X, V and the cells of its AT lines, and its LINK"
+        }
+        _ => otherwise,
+    }
+}
+
+/// Of an item of the verdict that fails.
+pub(crate) fn verdict(kind: &str) -> &'static str
+    ensures { result.now ≡ hint.wanted_in hint.verdict kind.now }
+{
+    item_or("docs/CHECKER.md, The verdict, has the kinds", kind)
+}
+
+/// Of what comes of an edit: it isn't made (docs/EDITS.md, What an edit does), or an item of the verdict fails, or the verdict is
+/// certified, and then an edit before it wasn't made.
+pub(crate) fn edit(kind: &str) -> &'static str
+    ensures { result.now ≡ hint.wanted_in hint.edit kind.now }
+{
+    match kind {
+        "NoRow" => "the r of ROW r is the number of a row of the certificate, counted from 1",
+        "OutsideGlobal" => {
+            "each AT line of the new row is within its cell's limit, as the certificate and the edits before it say"
+        }
+        "BelowUse" => {
+            "a new limit of a cell holds each word that the INIT line and the AT lines of all rows state of the cell"
+        }
+        "FullLocation" => "at most 512 rows stand at one location, the new one among them",
+        _ => item_or(
+            "an edit before this one isn't made: its line has NOTMADE",
+            kind,
+        ),
+    }
+}
