@@ -39,7 +39,7 @@ shows() {
 ends() {
   local told status wanted=1
   cat >"$room/given.cert"
-  told=$("$program" certify "$1.lem" "$room/given.cert")
+  told=$("$program" certify "$1.lem" "$room/given.cert" 2>"$room/said")
   status=$?
   told=${told##*$'\n'}
   [[ $2 == CERTIFIED* ]] && wanted=0
@@ -84,7 +84,7 @@ ends return 'CERTIFIED ROWS 5 CASES 5' \
 page=$(cat ../docs/CHECKER.md) || exit 2
 for name in 01-InitRange-empty 02-StartUncovered 03-CodeUnknown 04-NoOrder 05-BadPort 06-FixedWrite 07-MayOverflow 08-CellRange \
   09-OutputRange 10-NotCovered; do
-  told=$("$program" certify "refusals/$name.lem" "refusals/$name.cert")
+  told=$("$program" certify "refusals/$name.lem" "refusals/$name.cert" 2>"$room/said")
   told=${told##*$'\n'}
   [[ $page == *"**\`$told\`**"* ]] || tell "docs/CHECKER.md doesn't have $told"
 done

@@ -267,17 +267,45 @@ END
 
 # --- what standard error says
 
+says 1 certify examples/counter.lem examples/counter.cert <<'END'
+ags: MayOverflow ROW 2 WORD 224004 A 377777 Q 000000 M 000001: with these words the order overflows: narrow A in the row, or the cell by AT or CELL, or name the place by MAY (docs/CHECKER.md, The verdict)
+END
+
+says 1 guard examples/deck.lem examples/outside.script examples/deck.cert <<'END'
+ags: examples/outside.script: OUTSIDE IN 2001 001751: a word that is put into an input register is one of its IN line: put another, or widen that
+END
+
+says 2 assemble examples/deck.cert <<'END'
+ags: examples/deck.cert:1: BadSymbol: a symbol, from column 1 on, is 1 to 6 capitals and digits with a letter among them; EQU and SYN have one
+END
+
 says 3 assemble <<'END'
-ags: the forms of arguments are: assemble S [M], compare S L [M], tape S [M], xref S [M], certify S C [M], run S P [M], guard S P C [M], budget S C T [M], scales S C K [M], edits S C E [M], workload N
+ags: the forms of arguments are: assemble S [M], compare S L [M], tape S [M], xref S [M], certify S C [M], run S P [M], guard S P C [M], budget S C T [M], scales S C K [M], edits S C E [M], workload N; S is a source, L a listing, C a certificate, P a script, T a text of times, K one of scales, E one of edits, M a machine file, and N a size from 1 to 400
+END
+
+says 4 assemble examples/none.lem <<'END'
+ags: examples/none.lem: there is no file of this name
 END
 
 says 5 assemble examples <<'END'
-ags: examples can't be read
+ags: examples: it is a folder, and no file
 END
 
 OUT=/dev/full says 6 assemble examples/first.lem <<'END'
-ags: the output can't be written
+ags: the output can't be written: its device is full
 END
+
+says 8 certify examples/deck.lem examples/deck.lem <<'END'
+ags: examples/deck.lem:1: BadLine: lines are the forms in their order, END last; CELL, INIT, AT, LINK name erasable cells, IN and OUT registers
+END
+
+# Whoever reads the output has closed it before anything is written: the status is 6, and nothing is said.
+{
+  sleep 1
+  "$ags" assemble examples/first.lem 2>"$room/got"
+  echo $? >"$room/status"
+} | true
+compare 'ags into a closed pipe (standard error)' "$(cat "$room/status")" 6 </dev/null
 
 if [ "$differing" -ne 0 ]; then
   exit 1

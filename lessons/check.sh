@@ -39,7 +39,7 @@ compare() {
 prints() {
   local stored=$1 wanted=$2 status
   shift 2
-  "$program" "$@" >"$room/got"
+  "$program" "$@" >"$room/got" 2>"$room/said"
   status=$?
   compare "$stored" "$status" "$wanted"
 }
@@ -48,7 +48,7 @@ prints() {
 ends() {
   local stored=$1 wanted=$2 status
   shift 2
-  "$program" "$@" >"$room/all"
+  "$program" "$@" >"$room/all" 2>"$room/said"
   status=$?
   tail -n 1 "$room/all" >"$room/got"
   compare "$stored" "$status" "$wanted"

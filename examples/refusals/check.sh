@@ -22,7 +22,7 @@ refuses() {
   shift 2
   tried+="$name "
   number=${name%%-*} kind=${name#*-}
-  told=$("$program" certify "$name.lem" "$name.cert" | tail -n 1)
+  told=$("$program" certify "$name.lem" "$name.cert" 2>"$room/said" | tail -n 1)
   [[ $told == "REFUSED $((10#$number)) ${kind%%-*}"* ]] || tell "$name: certify says $told, which is another kind"
   [ "$told" = "$verdict" ] || tell "$name: certify says $told, and not $verdict"
 
