@@ -268,7 +268,7 @@ END
 # --- what standard error says
 
 says 1 certify examples/counter.lem examples/counter.cert <<'END'
-ags: MayOverflow ROW 2 WORD 224004 A 377777 Q 000000 M 000001: with these words the order overflows: narrow A in the row, or the cell by AT or CELL, or name the place by MAY (docs/CHECKER.md, The verdict)
+ags: examples/counter.cert: MayOverflow ROW 2 WORD 224004 A 377777 Q 000000 M 000001: with these words the order overflows: narrow A in the row, or the cell by AT or CELL, or name the place by MAY (docs/CHECKER.md, The verdict)
 END
 
 says 1 guard examples/deck.lem examples/outside.script examples/deck.cert <<'END'
@@ -276,7 +276,7 @@ ags: examples/outside.script: OUTSIDE IN 2001 001751: a word that is put into an
 END
 
 says 2 assemble examples/deck.cert <<'END'
-ags: examples/deck.cert:1: BadSymbol: a symbol, from column 1 on, is 1 to 6 capitals and digits with a letter among them; EQU and SYN have one
+ags: examples/deck.cert:1: BadSymbol: a symbol, from column 1 on, is 1 to 6 capitals and digits with a letter among them; EQU and SYN have one; a comment has * in column 1
 END
 
 says 3 assemble <<'END'
@@ -296,7 +296,7 @@ ags: the output can't be written: its device is full
 END
 
 says 8 certify examples/deck.lem examples/deck.lem <<'END'
-ags: examples/deck.lem:1: BadLine: lines are the forms in their order, END last; CELL, INIT, AT, LINK name erasable cells, IN and OUT registers
+ags: examples/deck.lem:1: BadLine: this is read as a certificate, whose line 1 is AGSCERT 1 or AGSCERT 2
 END
 
 # Whoever reads the output has closed it before anything is written: the status is 6, and nothing is said.

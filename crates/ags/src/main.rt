@@ -6,5 +6,5 @@ use std::env::args;
 use std::process::ExitCode;
 
 fn main(rt: HostRuntime) -> ExitCode {
-    ExitCode::from(exit_number(&rt, args(&rt)))
+    ExitCode::from(exit_number(&rt, args(&rt), args(&rt)))
 }

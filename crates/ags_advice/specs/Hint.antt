@@ -1,5 +1,5 @@
 -- What each kind of fault wants, in the words of docs/.
-use Rattle.std.specs.Prelude.{ℕ, List, [], ◌∷◌, codes, if◌then◌else◌}
+use Rattle.std.specs.Prelude.{ℕ, List, [], ◌∷◌, ◌++◌, codes, if◌then◌else◌}
 use Rattle.std.specs.Str.{bytes_eq}
 
 -- What a kind wants.
@@ -27,12 +27,12 @@ source = record {
   kinds =
       record { kind = codes "BadByte"; wanted = codes "a card, a comment too, has tabs and the characters from the space to the tilde, and no other byte" }
       ∷ record { kind = codes "LongCard"; wanted = codes "a card, a comment too, has at most 120 bytes; the line's end doesn't count" }
-      ∷ record { kind = codes "BadSymbol"; wanted = codes "a symbol, from column 1 on, is 1 to 6 capitals and digits with a letter among them; EQU and SYN have one" }
+      ∷ record { kind = codes "BadSymbol"; wanted = codes "a symbol, from column 1 on, is 1 to 6 capitals and digits with a letter among them; EQU and SYN have one; a comment has * in column 1" }
       ∷ record { kind = codes "UnknownOperation"; wanted = codes "an operation, behind column 1, is one of the 27 orders, ORG, EQU, SYN, BSS, BES, DEC, OCT or END, in capitals" }
       ∷ record { kind = codes "MissingOperand"; wanted = codes "every operation but ABS, COM and END has an operand behind a blank, with no blank in it" }
       ∷ record { kind = codes "ExtraOperand"; wanted = codes "the operand of ORG, EQU, SYN, BSS and BES is one expression, without a comma" }
       ∷ record { kind = codes "BadExpression"; wanted = codes "an operand is terms joined by + or -: /octal or decimal, 6 digits at most, *, a symbol; an order may end in ,1" }
-      ∷ record { kind = codes "BadDecimal"; wanted = codes "a number of DEC is as -1.5E2B10: 1 to 10 digits, E and B or none, net power of ten -12 to 12, scale -30 to 60" }
+      ∷ record { kind = codes "BadDecimal"; wanted = codes "a number of DEC is as -1.5E2B10: 1 to 10 digits, E and B or none, net power of ten -12 to 12, scale -30 to 60; no blank stands behind a comma" }
       ∷ record { kind = codes "BadOctal"; wanted = codes "each number of OCT is an optional sign and 1 to 6 octal digits, with a comma between each two" }
       ∷ record { kind = codes "SymbolTwice"; wanted = codes "a symbol stands in the symbol field of one card alone" }
       ∷ record { kind = codes "UndefinedEarly"; wanted = codes "the symbols that ORG, EQU, SYN, BSS and BES use are defined by earlier cards" }
@@ -62,7 +62,7 @@ machine = record {
 abbrev pub certificate : Hints
 certificate = record {
   kinds =
-      record { kind = codes "BadLine"; wanted = codes "lines are the forms in their order, END last; CELL, INIT, AT, LINK name erasable cells, IN and OUT registers" }
+      record { kind = codes "BadLine"; wanted = codes "a line is one of the forms, their kinds in order, END last; an address has 4 octal digits and a word 6, RANGE n m is decimal; CELL, INIT, AT and LINK name erasable cells, IN and OUT registers" }
       ∷ record { kind = codes "Version"; wanted = codes "line 1 is AGSCERT 1 or AGSCERT 2, and there is no other version" }
       ∷ record { kind = codes "Twice"; wanted = codes "START stands once, an address once in one kind, AT once for a cell of a row, and LINK once in a row" }
       ∷ record { kind = codes "EmptyRange"; wanted = codes "RANGE n m has the lesser value first: n is m or less" }
@@ -89,7 +89,7 @@ listing = record {
 abbrev pub script : Hints
 script = record {
   kinds =
-      record { kind = codes "BadLine"; wanted = codes "a line is one of the forms, in capitals; START (once), CELL and PORT come first; CELL names 0000 to 3777" }
+      record { kind = codes "BadLine"; wanted = codes "START p, CELL c w and PORT p w come first, then STEP n, PULSE, SET p w, KEY k .., FEED, CYCLE n, SHOW REG, SHOW CELL c, SHOW OUT p and SHOW DEDA; p and c have 4 octal digits, w has 6, n is decimal" }
       ∷ record { kind = codes "NoPort"; wanted = codes "PORT and SET name an input register of the machine, SHOW OUT an output one, and FEED needs the panel's" }
       ∷ record { kind = codes "TooManySteps"; wanted = codes "the counts of all STEP lines, and 20,000 times those of all CYCLE lines, come to at most 100,000,000" }
       ∷ [];
@@ -111,7 +111,7 @@ bench_script = record {
 abbrev pub times : Hints
 times = record {
   kinds =
-      record { kind = codes "BadLine"; wanted = codes "line 1 is AGSTIME 1, then come lines TIME r n, both of 1 to 5 digits, and END is last" }
+      record { kind = codes "BadLine"; wanted = codes "a line is TIME r n, both of 1 to 5 digits, and END is last" }
       ∷ record { kind = codes "Version"; wanted = codes "line 1 is AGSTIME 1, and there is no other version" }
       ∷ record { kind = codes "Twice"; wanted = codes "a row has one TIME line at most" }
       ∷ record { kind = codes "NoRow"; wanted = codes "the r of TIME r n is the number of a row of the certificate, counted from 1" }
@@ -124,7 +124,7 @@ times = record {
 abbrev pub scales : Hints
 scales = record {
   kinds =
-      record { kind = codes "BadLine"; wanted = codes "a line is one of the forms; IN, OUT name registers; n is -128 to 127, a and q ANY, RAW or as n; END is last" }
+      record { kind = codes "BadLine"; wanted = codes "a line is CELL c n, IN p n, OUT p n or ROW r a q, and END is last; c and p have 4 octal digits, n is -128 to 127, a and q are ANY, RAW or as n; IN and OUT name registers" }
       ∷ record { kind = codes "Version"; wanted = codes "line 1 is AGSSCALE 1, and there is no other version" }
       ∷ record { kind = codes "Twice"; wanted = codes "an address stands in one line at most of each of CELL, IN and OUT, and a row in one ROW line" }
       ∷ record { kind = codes "NoRow"; wanted = codes "the r of ROW r a q is the number of a row of the certificate, counted from 1" }
@@ -136,7 +136,7 @@ scales = record {
 abbrev pub edits : Hints
 edits = record {
   kinds =
-      record { kind = codes "BadLine"; wanted = codes "a line is one of the forms; CELL, AT, LINK name erasable cells, AT and LINK stand behind a ROW; END is last" }
+      record { kind = codes "BadLine"; wanted = codes "a line is WORD p w, CELL c value or ROW r p A .. (the row's number, then its location), with its AT and LINK lines behind it, and END is last; CELL, AT and LINK name erasable cells" }
       ∷ record { kind = codes "Version"; wanted = codes "line 1 is AGSEDIT 1, and there is no other version" }
       ∷ record { kind = codes "Twice"; wanted = codes "a cell stands in one AT line of a row, and a row has one LINK line at most" }
       ∷ record { kind = codes "EmptyRange"; wanted = codes "RANGE n m has the lesser value first: n is m or less" }
@@ -176,12 +176,12 @@ items =
     ∷ record { kind = codes "StartUncovered"; wanted = codes "a row at the start has to hold 0 in A, Q, X and V, and the first word of each cell of its AT lines" }
     ∷ record { kind = codes "CodeUnknown"; wanted = codes "at an erasable cell at most 16 words may be run: name them by WORDS in an AT line of the row, or in CELL" }
     ∷ record { kind = codes "NoOrder"; wanted = codes "each word that is run has to be an order: let no way lead to another word, or state fewer words of the cell" }
-    ∷ record { kind = codes "BadPort"; wanted = codes "INP names an input register of the machine, and OUT an output register" }
-    ∷ record { kind = codes "FixedWrite"; wanted = codes "a store goes to an erasable cell, 0000 to 3777: mend the address, or state less of X or of the word that is run" }
+    ∷ record { kind = codes "BadPort"; wanted = codes "INP names an input register of the machine, and OUT an output register; /2001 is octal, and 2001 decimal" }
+    ∷ record { kind = codes "FixedWrite"; wanted = codes "a store goes to an erasable cell, 0000 to 3777: mend the address, or allow fewer words of a cell that is run" }
     ∷ record { kind = codes "MayOverflow"; wanted = codes "with these words the order overflows: narrow A in the row, or the cell by AT or CELL, or name the place by MAY" }
     ∷ record { kind = codes "CellRange"; wanted = codes "what is stored has to lie within the CELL line: widen that, or narrow A in the row (Q for STQ)" }
     ∷ record { kind = codes "OutputRange"; wanted = codes "what is given has to lie within the OUT line of the register: widen that, or narrow A in the row" }
-    ∷ record { kind = codes "NotCovered"; wanted = codes "a row at NEXT has to hold all that this order leaves: in A, Q, X, V and the cells of its AT lines, and its LINK" }
+    ∷ record { kind = codes "NotCovered"; wanted = codes "a row at NEXT has to hold all that this order leaves: in A, Q, X, V and the cells of its AT lines, and its LINK; bin/ags-explain shows the rows there" }
     ∷ []
 
 -- of an item of the verdict that fails

@@ -20,7 +20,9 @@ use std::io::ErrorKind;
 pub struct Advice<'a> {
     /// The program.
     program: Program,
-    /// The name of the file at fault, where it is known.
+    /// The name of the certificate, where one is named.
+    certificate: Option<&'a str>,
+    /// The name of the file that was looked for last, where it is known.
     file: Option<&'a str>,
     /// How the run ended.
     ending: Ending<'a>,
@@ -37,10 +39,11 @@ impl<'a> Advice<'a> {
     /// What a person is told of a run of a program, by the number of its status (docs/COMMANDS.md) and what was seen of it, and nothing
     /// where it was answered as asked: with status 0, with the answer of `compare`, or to a reader who has closed the output.
     pub fn of(program: Program, status: u8, seen: Seen<'a>) -> Option<Advice<'a>>
-        ensures { option_map (λ told. advice_text told.program (option_map (λ name. name.now) told.file) told.ending) result ≡ said program status seen.entry }
+        ensures { option_map (λ told. advice_text told.program (option_map (λ name. name.now) told.certificate) (option_map (λ name. name.now) told.file) told.ending) result ≡ said program status seen.entry }
     {
         let advice = Advice {
             program,
+            certificate: seen.certificate,
             file: seen.file,
             ending: Ending::of(status, seen),
         };
@@ -68,6 +71,7 @@ impl<'a> Advice<'a> {
 struct LastLine<'a> {
     program: Program,
     status: u8,
+    certificate: &'a str,
     file: &'a str,
     line: &'a str,
 }
@@ -77,12 +81,13 @@ impl fmt::Display for LastLine<'_> {
     ghost use Rattle.std.specs.Prelude.{Some};
     ghost use Rattle.ags_advice.specs.Advice.{told_text};
 
-    ghost output = { λ it. Some (told_text it.program it.status it.file.now it.line.now) };
+    ghost output = { λ it. Some (told_text it.program it.status it.certificate.now it.file.now it.line.now) };
 
     fn fmt<W: fmt::Write>(&self, f: &mut fmt::Formatter<W>) -> fmt::Result {
         let LastLine {
             program,
             status,
+            certificate,
             file,
             line,
         } = *self;
@@ -90,6 +95,7 @@ impl fmt::Display for LastLine<'_> {
             Some(heading) => {
                 let finding = Finding {
                     heading,
+                    certificate,
                     file,
                     line,
                 };
@@ -106,7 +112,7 @@ impl fmt::Display for Advice<'_> {
     ghost use Rattle.std.specs.Option.{option_map};
     ghost use Rattle.ags_advice.specs.Advice.{advice_text};
 
-    ghost output = { λ it. Some (advice_text it.program (option_map (λ name. name.now) it.file) it.ending) };
+    ghost output = { λ it. Some (advice_text it.program (option_map (λ name. name.now) it.certificate) (option_map (λ name. name.now) it.file) it.ending) };
 
     fn fmt<W: fmt::Write>(&self, f: &mut fmt::Formatter<W>) -> fmt::Result {
         match self.ending {
@@ -114,6 +120,7 @@ impl fmt::Display for Advice<'_> {
                 let last = LastLine {
                     program: self.program,
                     status,
+                    certificate: name_of(self.certificate),
                     file: name_of(self.file),
                     line: first_line(line),
                 };

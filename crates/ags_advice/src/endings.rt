@@ -15,6 +15,8 @@ pub struct Seen<'a> {
     /// The name of the file that was looked for last, where it is known: each file is read before the next one is looked for, so
     /// that it is the one at fault.
     pub file: Option<&'a str>,
+    /// The name of the certificate, where one is named.
+    pub certificate: Option<&'a str>,
     /// Why a file couldn't be read, where one couldn't be and the reason is known.
     pub unread: Option<ErrorKind>,
     /// Why the output couldn't be written, where it couldn't be and the reason is known.

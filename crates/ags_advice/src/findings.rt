@@ -80,36 +80,69 @@ impl fmt::Display for Place<'_> {
     }
 }
 
+/// Whether a line of output tells that the first line of a text is none that it may have.
+fn is_bad_opening(kind: &str, number: Option<u32>) -> bool
+    ensures { result ≡ finding.is_bad_opening kind.now number }
+{
+    match number {
+        Some(number) => number == 1 && kind == "BadLine",
+        None => false,
+    }
+}
+
+/// What would be right: of a first line what the text begins with, and else what the kind wants.
+fn wanted_of_line(heading: Heading, kind: &str, number: Option<u32>) -> &'static str
+    ensures { result.now ≡ finding.wanted_of_line heading kind.now number }
+{
+    if is_bad_opening(kind, number) {
+        match heading.opening() {
+            Some(opening) => opening,
+            None => heading.wanted(kind),
+        }
+    } else {
+        heading.wanted(kind)
+    }
+}
+
 /// What is found in a line of output with a heading.
 #[derive(Clone, Copy)]
 pub(crate) struct Finding<'a> {
     /// The heading.
     pub(crate) heading: Heading,
-    /// The name of the file at fault.
+    /// The name of the certificate.
+    pub(crate) certificate: &'a str,
+    /// The name of the file that was looked for last.
     pub(crate) file: &'a str,
     /// The line.
     pub(crate) line: &'a str,
 }
 
-/// Prints the place, what is shown of the line, and what would be right: of a refusal no place, since its certificate isn't always
-/// the last file.
+/// Prints the place, what is shown of the line, and what would be right. A refusal is of the certificate, which isn't always the last
+/// file.
 impl fmt::Display for Finding<'_> {
     ghost use Rattle.std.specs.Prelude.{Some};
     ghost use Rattle.ags_advice.specs.Finding as finding;
 
-    ghost output = { λ it. Some (finding.finding_text it.heading it.file.now it.line.now) };
+    ghost output = { λ it. Some (finding.finding_text it.heading it.certificate.now it.file.now it.line.now) };
 
     fn fmt<W: fmt::Write>(&self, f: &mut fmt::Formatter<W>) -> fmt::Result {
         let form = self.heading.form();
-        let wanted = self.heading.wanted(kind_in(form, self.line));
+        let number = number_in(form, self.line);
+        let wanted = wanted_of_line(self.heading, kind_in(form, self.line), number);
         let shown = shown_in(form, self.line);
         let place = Place {
             file: self.file,
-            number: number_in(form, self.line),
+            number,
         };
         match form {
             Form::Answer => Ok(()),
-            Form::Item => write!(f, "{shown}: {wanted} (docs/CHECKER.md, The verdict)"),
+            Form::Item => {
+                let place = Place {
+                    file: self.certificate,
+                    number: None,
+                };
+                write!(f, "{place}{shown}: {wanted} (docs/CHECKER.md, The verdict)")
+            }
             Form::Name => write!(f, "{shown}: {wanted}"),
             Form::File => write!(f, "{place}{wanted}"),
             _ => write!(f, "{place}{shown}: {wanted}"),

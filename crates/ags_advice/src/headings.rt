@@ -1,6 +1,7 @@
 //! The headings of the lines that tell how a run ended: how such a line goes on, and what its kinds want.
 
 ghost use Rattle.std.specs.Prelude.{◌≡◌};
+ghost use Rattle.std.specs.Option.{option_map};
 ghost use Rattle.ags_advice.specs.Heading as heading;
 
 use crate::hints;
@@ -176,7 +177,7 @@ impl Heading {
                 "FEED names a device that feeds an input register of the machine; a recorder feeds none"
             }
             Heading::Over => {
-                "a bound is at least its order's time and, but at DLY, the least bound of a row that covers what is next"
+                "a row needs its order's time and, but at DLY, the least bound of a row that covers what is next; a row without a TIME line has 20,000"
             }
             Heading::StartMixed => {
                 "a row that holds the start has ANY or RAW for A and for Q, or no ROW line in the text of scales"
@@ -185,13 +186,28 @@ impl Heading {
                 "two tags that meet have to be one scale, or both raw: mend the declaration or the ROW line, or shift the word first"
             }
             Heading::NotHeld => {
-                "a row at NEXT that covers what this order leaves has to have its tags or ANY: mend the tags there, or of this row"
+                "a row at NEXT that covers what this order leaves has to have its tags or ANY: mend the tags there, or of this row; a cell without a CELL line is raw"
             }
             Heading::Absent => "there is no file of this name",
             Heading::Long => {
                 "it is longer than is read: at most 65,536 bytes of a machine file, 67,108,864 of a certificate, 134,217,728 of a listing, 4,194,304 of any other"
             }
             Heading::Differs => "",
+        }
+    }
+
+    /// What its text begins with, for a text whose first line says what it is.
+    pub(crate) fn opening(self) -> Option<&'static str>
+        ensures { option_map (λ opening. opening.now) result ≡ heading.opening_of self }
+    {
+        match self {
+            Heading::Certificate => {
+                Some("this is read as a certificate, whose line 1 is AGSCERT 1 or AGSCERT 2")
+            }
+            Heading::Times => Some("this is read as a text of times, whose line 1 is AGSTIME 1"),
+            Heading::Scales => Some("this is read as a text of scales, whose line 1 is AGSSCALE 1"),
+            Heading::Edits => Some("this is read as a text of edits, whose line 1 is AGSEDIT 1"),
+            _ => None,
         }
     }
 }

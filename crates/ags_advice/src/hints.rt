@@ -13,7 +13,7 @@ pub(crate) fn source(kind: &str) -> &'static str
         }
         "LongCard" => "a card, a comment too, has at most 120 bytes; the line's end doesn't count",
         "BadSymbol" => {
-            "a symbol, from column 1 on, is 1 to 6 capitals and digits with a letter among them; EQU and SYN have one"
+            "a symbol, from column 1 on, is 1 to 6 capitals and digits with a letter among them; EQU and SYN have one; a comment has * in column 1"
         }
         "UnknownOperation" => {
             "an operation, behind column 1, is one of the 27 orders, ORG, EQU, SYN, BSS, BES, DEC, OCT or END, in capitals"
@@ -28,7 +28,7 @@ pub(crate) fn source(kind: &str) -> &'static str
             "an operand is terms joined by + or -: /octal or decimal, 6 digits at most, *, a symbol; an order may end in ,1"
         }
         "BadDecimal" => {
-            "a number of DEC is as -1.5E2B10: 1 to 10 digits, E and B or none, net power of ten -12 to 12, scale -30 to 60"
+            "a number of DEC is as -1.5E2B10: 1 to 10 digits, E and B or none, net power of ten -12 to 12, scale -30 to 60; no blank stands behind a comma"
         }
         "BadOctal" => {
             "each number of OCT is an optional sign and 1 to 6 octal digits, with a comma between each two"
@@ -80,7 +80,7 @@ pub(crate) fn certificate(kind: &str) -> &'static str
 {
     match kind {
         "BadLine" => {
-            "lines are the forms in their order, END last; CELL, INIT, AT, LINK name erasable cells, IN and OUT registers"
+            "a line is one of the forms, their kinds in order, END last; an address has 4 octal digits and a word 6, RANGE n m is decimal; CELL, INIT, AT and LINK name erasable cells, IN and OUT registers"
         }
         "Version" => "line 1 is AGSCERT 1 or AGSCERT 2, and there is no other version",
         "Twice" => {
@@ -119,7 +119,7 @@ pub(crate) fn script(kind: &str) -> &'static str
 {
     match kind {
         "BadLine" => {
-            "a line is one of the forms, in capitals; START (once), CELL and PORT come first; CELL names 0000 to 3777"
+            "START p, CELL c w and PORT p w come first, then STEP n, PULSE, SET p w, KEY k .., FEED, CYCLE n, SHOW REG, SHOW CELL c, SHOW OUT p and SHOW DEDA; p and c have 4 octal digits, w has 6, n is decimal"
         }
         "NoPort" => {
             "PORT and SET name an input register of the machine, SHOW OUT an output one, and FEED needs the panel's"
@@ -152,9 +152,7 @@ pub(crate) fn times(kind: &str) -> &'static str
     ensures { result.now ≡ hint.wanted_in hint.times kind.now }
 {
     match kind {
-        "BadLine" => {
-            "line 1 is AGSTIME 1, then come lines TIME r n, both of 1 to 5 digits, and END is last"
-        }
+        "BadLine" => "a line is TIME r n, both of 1 to 5 digits, and END is last",
         "Version" => "line 1 is AGSTIME 1, and there is no other version",
         "Twice" => "a row has one TIME line at most",
         "NoRow" => "the r of TIME r n is the number of a row of the certificate, counted from 1",
@@ -169,7 +167,7 @@ pub(crate) fn scales(kind: &str) -> &'static str
 {
     match kind {
         "BadLine" => {
-            "a line is one of the forms; IN, OUT name registers; n is -128 to 127, a and q ANY, RAW or as n; END is last"
+            "a line is CELL c n, IN p n, OUT p n or ROW r a q, and END is last; c and p have 4 octal digits, n is -128 to 127, a and q are ANY, RAW or as n; IN and OUT name registers"
         }
         "Version" => "line 1 is AGSSCALE 1, and there is no other version",
         "Twice" => {
@@ -186,7 +184,7 @@ pub(crate) fn edits(kind: &str) -> &'static str
 {
     match kind {
         "BadLine" => {
-            "a line is one of the forms; CELL, AT, LINK name erasable cells, AT and LINK stand behind a ROW; END is last"
+            "a line is WORD p w, CELL c value or ROW r p A .. (the row's number, then its location), with its AT and LINK lines behind it, and END is last; CELL, AT and LINK name erasable cells"
         }
         "Version" => "line 1 is AGSEDIT 1, and there is no other version",
         "Twice" => "a cell stands in one AT line of a row, and a row has one LINK line at most",
@@ -251,9 +249,11 @@ fn item_or(otherwise: &'static str, kind: &str) -> &'static str
         "NoOrder" => {
             "each word that is run has to be an order: let no way lead to another word, or state fewer words of the cell"
         }
-        "BadPort" => "INP names an input register of the machine, and OUT an output register",
+        "BadPort" => {
+            "INP names an input register of the machine, and OUT an output register; /2001 is octal, and 2001 decimal"
+        }
         "FixedWrite" => {
-            "a store goes to an erasable cell, 0000 to 3777: mend the address, or state less of X or of the word that is run"
+            "a store goes to an erasable cell, 0000 to 3777: mend the address, or allow fewer words of a cell that is run"
         }
         "MayOverflow" => {
             "with these words the order overflows: narrow A in the row, or the cell by AT or CELL, or name the place by MAY"
@@ -265,7 +265,7 @@ fn item_or(otherwise: &'static str, kind: &str) -> &'static str
             "what is given has to lie within the OUT line of the register: widen that, or narrow A in the row"
         }
         "NotCovered" => {
-            "a row at NEXT has to hold all that this order leaves: in A, Q, X, V and the cells of its AT lines, and its LINK"
+            "a row at NEXT has to hold all that this order leaves: in A, Q, X, V and the cells of its AT lines, and its LINK; bin/ags-explain shows the rows there"
         }
         _ => otherwise,
     }

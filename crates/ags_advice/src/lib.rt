@@ -17,4 +17,4 @@ mod telling;
 pub use advice::Advice;
 pub use endings::Seen;
 pub use programs::Program;
-pub use telling::tell;
+pub use telling::{Ended, tell};

@@ -4,12 +4,13 @@ use ags_advice::{Advice, Program, Seen};
 use std::alloc::Global;
 use std::process::Abort;
 
-/// What was seen of a run whose output ended with a line, where the file looked for last is F.
+/// What was seen of a run whose output ended with a line, where the certificate is C and the file looked for last is F.
 pub(crate) fn seen_of(line: &str) -> Seen<'_> {
     Seen {
         is_text: true,
         line,
         file: Some("F"),
+        certificate: Some("C"),
         unread: None,
         unwritten: None,
     }

@@ -4,7 +4,7 @@ use crate::common::{expect_said, seen_of};
 use ags_advice::Program;
 
 /// The last line of an output of `ags`, where the file looked for last is F, and what is said of it.
-const LINES: [(&str, &str); 76] = [
+const LINES: [(&str, &str); 80] = [
     (
         "SOURCE CARD 0000029 ERROR 1 BadByte\n",
         "F:29: BadByte: a card, a comment too, has tabs and the characters from the space to the tilde, and no other byte",
@@ -15,7 +15,7 @@ const LINES: [(&str, &str); 76] = [
     ),
     (
         "SOURCE CARD 0000031 ERROR 3 BadSymbol\n",
-        "F:31: BadSymbol: a symbol, from column 1 on, is 1 to 6 capitals and digits with a letter among them; EQU and SYN have one",
+        "F:31: BadSymbol: a symbol, from column 1 on, is 1 to 6 capitals and digits with a letter among them; EQU and SYN have one; a comment has * in column 1",
     ),
     (
         "SOURCE CARD 0000032 ERROR 4 UnknownOperation\n",
@@ -35,7 +35,7 @@ const LINES: [(&str, &str); 76] = [
     ),
     (
         "SOURCE CARD 0000036 ERROR 8 BadDecimal\n",
-        "F:36: BadDecimal: a number of DEC is as -1.5E2B10: 1 to 10 digits, E and B or none, net power of ten -12 to 12, scale -30 to 60",
+        "F:36: BadDecimal: a number of DEC is as -1.5E2B10: 1 to 10 digits, E and B or none, net power of ten -12 to 12, scale -30 to 60; no blank stands behind a comma",
     ),
     (
         "SOURCE CARD 0000037 ERROR 9 BadOctal\n",
@@ -71,7 +71,7 @@ const LINES: [(&str, &str); 76] = [
     ),
     (
         "CERTIFICATE LINE 7 ERROR 1 BadLine\n",
-        "F:7: BadLine: lines are the forms in their order, END last; CELL, INIT, AT, LINK name erasable cells, IN and OUT registers",
+        "F:7: BadLine: a line is one of the forms, their kinds in order, END last; an address has 4 octal digits and a word 6, RANGE n m is decimal; CELL, INIT, AT and LINK name erasable cells, IN and OUT registers",
     ),
     (
         "CERTIFICATE LINE 8 ERROR 2 Version\n",
@@ -115,7 +115,7 @@ const LINES: [(&str, &str); 76] = [
     ),
     (
         "SCRIPT LINE 7 ERROR 1 BadLine\n",
-        "F:7: BadLine: a line is one of the forms, in capitals; START (once), CELL and PORT come first; CELL names 0000 to 3777",
+        "F:7: BadLine: START p, CELL c w and PORT p w come first, then STEP n, PULSE, SET p w, KEY k .., FEED, CYCLE n, SHOW REG, SHOW CELL c, SHOW OUT p and SHOW DEDA; p and c have 4 octal digits, w has 6, n is decimal",
     ),
     (
         "SCRIPT LINE 8 ERROR 2 NoPort\n",
@@ -127,7 +127,7 @@ const LINES: [(&str, &str); 76] = [
     ),
     (
         "TIMES LINE 7 ERROR 1 BadLine\n",
-        "F:7: BadLine: line 1 is AGSTIME 1, then come lines TIME r n, both of 1 to 5 digits, and END is last",
+        "F:7: BadLine: a line is TIME r n, both of 1 to 5 digits, and END is last",
     ),
     (
         "TIMES LINE 8 ERROR 2 Version\n",
@@ -147,7 +147,7 @@ const LINES: [(&str, &str); 76] = [
     ),
     (
         "SCALES LINE 7 ERROR 1 BadLine\n",
-        "F:7: BadLine: a line is one of the forms; IN, OUT name registers; n is -128 to 127, a and q ANY, RAW or as n; END is last",
+        "F:7: BadLine: a line is CELL c n, IN p n, OUT p n or ROW r a q, and END is last; c and p have 4 octal digits, n is -128 to 127, a and q are ANY, RAW or as n; IN and OUT name registers",
     ),
     (
         "SCALES LINE 8 ERROR 2 Version\n",
@@ -163,7 +163,7 @@ const LINES: [(&str, &str); 76] = [
     ),
     (
         "EDITS LINE 7 ERROR 1 BadLine\n",
-        "F:7: BadLine: a line is one of the forms; CELL, AT, LINK name erasable cells, AT and LINK stand behind a ROW; END is last",
+        "F:7: BadLine: a line is WORD p w, CELL c value or ROW r p A .. (the row's number, then its location), with its AT and LINK lines behind it, and END is last; CELL, AT and LINK name erasable cells",
     ),
     (
         "EDITS LINE 8 ERROR 2 Version\n",
@@ -207,43 +207,43 @@ const LINES: [(&str, &str); 76] = [
     ),
     (
         "REFUSED 1 InitRange 0017 000000\n",
-        "InitRange 0017 000000: a cell begins as a word of its CELL line: widen that, mend the card, or write INIT where no card has a word there (docs/CHECKER.md, The verdict)",
+        "C: InitRange 0017 000000: a cell begins as a word of its CELL line: widen that, mend the card, or write INIT where no card has a word there (docs/CHECKER.md, The verdict)",
     ),
     (
         "REFUSED 2 StartUncovered\n",
-        "StartUncovered: a row at the start has to hold 0 in A, Q, X and V, and the first word of each cell of its AT lines (docs/CHECKER.md, The verdict)",
+        "C: StartUncovered: a row at the start has to hold 0 in A, Q, X and V, and the first word of each cell of its AT lines (docs/CHECKER.md, The verdict)",
     ),
     (
         "REFUSED 3 CodeUnknown ROW 5\n",
-        "CodeUnknown ROW 5: at an erasable cell at most 16 words may be run: name them by WORDS in an AT line of the row, or in CELL (docs/CHECKER.md, The verdict)",
+        "C: CodeUnknown ROW 5: at an erasable cell at most 16 words may be run: name them by WORDS in an AT line of the row, or in CELL (docs/CHECKER.md, The verdict)",
     ),
     (
         "REFUSED 4 NoOrder ROW 2 WORD 000000\n",
-        "NoOrder ROW 2 WORD 000000: each word that is run has to be an order: let no way lead to another word, or state fewer words of the cell (docs/CHECKER.md, The verdict)",
+        "C: NoOrder ROW 2 WORD 000000: each word that is run has to be an order: let no way lead to another word, or state fewer words of the cell (docs/CHECKER.md, The verdict)",
     ),
     (
         "REFUSED 5 BadPort ROW 1 WORD 642003\n",
-        "BadPort ROW 1 WORD 642003: INP names an input register of the machine, and OUT an output register (docs/CHECKER.md, The verdict)",
+        "C: BadPort ROW 1 WORD 642003: INP names an input register of the machine, and OUT an output register; /2001 is octal, and 2001 decimal (docs/CHECKER.md, The verdict)",
     ),
     (
         "REFUSED 6 FixedWrite ROW 1 WORD 304000 AT 4000\n",
-        "FixedWrite ROW 1 WORD 304000 AT 4000: a store goes to an erasable cell, 0000 to 3777: mend the address, or state less of X or of the word that is run (docs/CHECKER.md, The verdict)",
+        "C: FixedWrite ROW 1 WORD 304000 AT 4000: a store goes to an erasable cell, 0000 to 3777: mend the address, or allow fewer words of a cell that is run (docs/CHECKER.md, The verdict)",
     ),
     (
         "REFUSED 7 MayOverflow ROW 2 WORD 224004 A 377777 Q 000000 M 000001\n",
-        "MayOverflow ROW 2 WORD 224004 A 377777 Q 000000 M 000001: with these words the order overflows: narrow A in the row, or the cell by AT or CELL, or name the place by MAY (docs/CHECKER.md, The verdict)",
+        "C: MayOverflow ROW 2 WORD 224004 A 377777 Q 000000 M 000001: with these words the order overflows: narrow A in the row, or the cell by AT or CELL, or name the place by MAY (docs/CHECKER.md, The verdict)",
     ),
     (
         "REFUSED 8 CellRange ROW 3 WORD 100020 AT 0020 VALUE RANGE -126 125\n",
-        "CellRange ROW 3 WORD 100020 AT 0020 VALUE RANGE -126 125: what is stored has to lie within the CELL line: widen that, or narrow A in the row (Q for STQ) (docs/CHECKER.md, The verdict)",
+        "C: CellRange ROW 3 WORD 100020 AT 0020 VALUE RANGE -126 125: what is stored has to lie within the CELL line: widen that, or narrow A in the row (Q for STQ) (docs/CHECKER.md, The verdict)",
     ),
     (
         "REFUSED 9 OutputRange ROW 4 WORD 666001 AT 6001 VALUE ANY\n",
-        "OutputRange ROW 4 WORD 666001 AT 6001 VALUE ANY: what is given has to lie within the OUT line of the register: widen that, or narrow A in the row (docs/CHECKER.md, The verdict)",
+        "C: OutputRange ROW 4 WORD 666001 AT 6001 VALUE ANY: what is given has to lie within the OUT line of the register: widen that, or narrow A in the row (docs/CHECKER.md, The verdict)",
     ),
     (
         "REFUSED 10 NotCovered ROW 4 WORD 400017 X 0 V 0 NEXT 0017\n",
-        "NotCovered ROW 4 WORD 400017 X 0 V 0 NEXT 0017: a row at NEXT has to hold all that this order leaves: in A, Q, X, V and the cells of its AT lines, and its LINK (docs/CHECKER.md, The verdict)",
+        "C: NotCovered ROW 4 WORD 400017 X 0 V 0 NEXT 0017: a row at NEXT has to hold all that this order leaves: in A, Q, X, V and the cells of its AT lines, and its LINK; bin/ags-explain shows the rows there (docs/CHECKER.md, The verdict)",
     ),
     (
         "EDIT 3 NOTMADE 1 NoRow\n",
@@ -287,7 +287,7 @@ const LINES: [(&str, &str); 76] = [
     ),
     (
         "OVER ROW 3 WORD 224005 X 0 V 0 NEXT ---- NEEDS 10 BOUND 9\n",
-        "F: OVER ROW 3 WORD 224005 X 0 V 0 NEXT ---- NEEDS 10 BOUND 9: a bound is at least its order's time and, but at DLY, the least bound of a row that covers what is next",
+        "F: OVER ROW 3 WORD 224005 X 0 V 0 NEXT ---- NEEDS 10 BOUND 9: a row needs its order's time and, but at DLY, the least bound of a row that covers what is next; a row without a TIME line has 20,000",
     ),
     (
         "STARTMIXED\n",
@@ -299,9 +299,25 @@ const LINES: [(&str, &str); 76] = [
     ),
     (
         "NOTHELD ROW 3 WORD 224005 X 0 V 0 NEXT 4006\n",
-        "F: NOTHELD ROW 3 WORD 224005 X 0 V 0 NEXT 4006: a row at NEXT that covers what this order leaves has to have its tags or ANY: mend the tags there, or of this row",
+        "F: NOTHELD ROW 3 WORD 224005 X 0 V 0 NEXT 4006: a row at NEXT that covers what this order leaves has to have its tags or ANY: mend the tags there, or of this row; a cell without a CELL line is raw",
     ),
     ("ABSENT G H\n", "G H: there is no file of this name"),
+    (
+        "CERTIFICATE LINE 1 ERROR 1 BadLine\n",
+        "F:1: BadLine: this is read as a certificate, whose line 1 is AGSCERT 1 or AGSCERT 2",
+    ),
+    (
+        "TIMES LINE 1 ERROR 1 BadLine\n",
+        "F:1: BadLine: this is read as a text of times, whose line 1 is AGSTIME 1",
+    ),
+    (
+        "SCALES LINE 1 ERROR 1 BadLine\n",
+        "F:1: BadLine: this is read as a text of scales, whose line 1 is AGSSCALE 1",
+    ),
+    (
+        "EDITS LINE 1 ERROR 1 BadLine\n",
+        "F:1: BadLine: this is read as a text of edits, whose line 1 is AGSEDIT 1",
+    ),
     (
         "LONG F 4194304\n",
         "F: it is longer than is read: at most 65,536 bytes of a machine file, 67,108,864 of a certificate, 134,217,728 of a listing, 4,194,304 of any other",

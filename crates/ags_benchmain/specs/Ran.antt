@@ -1,5 +1,5 @@
 -- What a run of the program comes to: the bench with the program's three devices, and the end of its output.
-use Rattle.std.specs.Prelude.{◌≡◌, ◌⊎◌, ℕ, List, Option}
+use Rattle.std.specs.Prelude.{◌≡◌, ◌⊎◌, ℕ, List, ◌∷◌, Option, Some, None}
 use Rattle.ags_bench.specs.Promises.{Counts, Promises}
 use Rattle.ags_bench.specs.declared.status.Status.{Status}
 use Rattle.ags_bench.specs.declared.status.Status.TheVariants.{WriteFault, NoMemory}
@@ -29,3 +29,8 @@ pub record EndsThree (told : Told) (words : List (List ℕ)) (old new : Option (
   pub failures : ℕ
   pub ran : RanThree told words old new status (record counts { sink_faults_now = failures })
   pub ended : ((result ≡ status) × Written) ⊎ ((result ≡ WriteFault) × Rose failures counts.sink_faults_now)
+
+-- the second of words, where there are so many
+abbrev pub second_word : List (List ℕ) → Option (List ℕ)
+second_word (first ∷ second ∷ more) = Some second
+second_word _ = None

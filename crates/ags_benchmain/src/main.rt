@@ -5,9 +5,9 @@
 mod devices;
 mod running;
 
-use ags_advice::{Program, tell};
+use ags_advice::{Ended, Program, tell};
 use ags_edge::{FileShelf, OutSink};
-use running::run;
+use running::{certificate_named, run, words_again};
 use std::env::args;
 use std::io;
 use std::process::ExitCode;
@@ -18,6 +18,13 @@ fn main(rt: HostRuntime) -> ExitCode {
     let words = args(&rt);
     let is_text = words.is_ok();
     let number = run(rt.alloc(), words, &mut shelf, &mut out).number();
-    tell(&rt, Program::AgsBench, number, is_text, &shelf, &out);
+    let again = words_again(rt.alloc(), args(&rt));
+    let ended = Ended {
+        program: Program::AgsBench,
+        status: number,
+        is_text,
+        certificate: certificate_named(&again),
+    };
+    tell(&rt, ended, &shelf, &out);
     ExitCode::from(number)
 }

@@ -1,11 +1,12 @@
 //! A run of the bench over any shelf and any sink: what a real process does, but for making the real ones.
 
-ghost use Rattle.std.specs.Prelude.{◌≡◌, ◌≢◌, IfOk, IfErr, OnErr, Ok, drop, map};
+ghost use Rattle.std.specs.Prelude.{◌≡◌, ◌≢◌, [], IfOk, IfErr, OnErr, Ok, drop, map};
 ghost use Rattle.std.specs.IoError.{error_kind};
+ghost use Rattle.std.specs.Option.{option_map};
 ghost use Rattle.std.specs.String.{string_bytes};
 ghost use Rattle.std.specs.Vec.Iter.{into_iter_items};
 ghost use Rattle.ags_benchmain.specs.Devices.{three_devices};
-ghost use Rattle.ags_benchmain.specs.Ran.{EndsThree, RanThree, RunsThree};
+ghost use Rattle.ags_benchmain.specs.Ran.{EndsThree, RanThree, RunsThree, second_word};
 
 use crate::devices::{pad, recorder, sensor};
 use ags_bench::{Status, bench_main};
@@ -27,6 +28,29 @@ fn words_of(alloc: Global, all: Args) -> Result<Vec<String>, AllocError>
         words.push(word)?;
     }
     Ok(words)
+}
+
+/// The words after the program's name, and none where they can't be had.
+pub(crate) fn words_again(alloc: Global, again: io::Result<Args>) -> Vec<String>
+    ensures { result.items ≢ [] → IfOk again (λ all. result.items ≡ drop 1 (into_iter_items all)) }
+{
+    match again {
+        Ok(all) => match words_of(alloc, all) {
+            Ok(words) => words,
+            Err(_) => Vec::new(alloc),
+        },
+        Err(_) => Vec::new(alloc),
+    }
+}
+
+/// The name of the certificate, which is the second word.
+pub(crate) fn certificate_named(words: &[String]) -> Option<&str>
+    ensures { option_map (λ name. name.now) result ≡ second_word (map string_bytes words.now) }
+{
+    match words {
+        [_, certificate, ..] => Some(certificate.as_str()),
+        _ => None,
+    }
 }
 
 /// The status of a run whose words couldn't be had: there was no memory for them, or one of them isn't UTF-8.

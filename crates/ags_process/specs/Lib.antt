@@ -1,2 +1,3 @@
 -- what the public contracts cite
 pub mod Ended
+pub mod Named

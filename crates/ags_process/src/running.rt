@@ -1,6 +1,6 @@
 //! A run over any shelf and any sink: what a real process does, but for making the real ones.
 
-ghost use Rattle.std.specs.Prelude.{◌≡◌, ◌≢◌, ℕ, true, false, IfOk, IfErr, List, drop, map};
+ghost use Rattle.std.specs.Prelude.{◌≡◌, ◌≢◌, ℕ, true, false, IfOk, IfErr, List, [], drop, map};
 ghost use Rattle.std.specs.IoError.{error_kind};
 ghost use Rattle.std.specs.String.{string_bytes};
 ghost use Rattle.std.specs.Vec.Iter.{into_iter_items};
@@ -62,6 +62,19 @@ fn arguments_of(alloc: Global, all: Args) -> Result<Vec<String>, AllocError>
         arguments.push(argument)?;
     }
     Ok(arguments)
+}
+
+/// The arguments behind the program's name, and none where they can't be had.
+pub(crate) fn words_of(alloc: Global, again: io::Result<Args>) -> Vec<String>
+    ensures { result.items ≢ [] → IfOk again (λ all. result.items ≡ drop 1 (into_iter_items all)) }
+{
+    match again {
+        Ok(all) => match arguments_of(alloc, all) {
+            Ok(arguments) => arguments,
+            Err(_) => Vec::new(alloc),
+        },
+        Err(_) => Vec::new(alloc),
+    }
 }
 
 /// The status of a run whose arguments couldn't be had: there was no memory for them, or one of them isn't UTF-8.
