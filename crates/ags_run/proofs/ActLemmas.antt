@@ -28,7 +28,6 @@ use Rattle.ags_run.specs.declared.benches.Bench.{Bench}
 use Rattle.ags_run.specs.declared.listeners.Listener.{Listener}
 use Rattle.ags_run.specs.Acted.{AreCounted, ActMade}
 use Rattle.ags_run.specs.Hearing.{Hears, heard, listening}
-use Rattle.ags_run.specs.Making.{CountsFit}
 use Rattle.ags_run.specs.Standing.{StandsAs}
 
 -- ---- what the panel hears
@@ -73,11 +72,10 @@ counted_on start mid end first second early late =
 pub counted_none : (start end : ℕ) → start < 2 ^ 64 → end ≡ start → end ≡ (start + 0) % 2 ^ 64
 counted_none start end fits same = omega arith
 
-seen_steps : (moments : List Moment) (old new : Listener) → old.steps < 2 ^ 64 → LooksAt Hears old moments new → new.steps ≡ (old.steps + length moments) % 2 ^ 64
-seen_steps [] old new fits p = counted_none old.steps new.steps fits (ap (λ (l : Listener). l.steps) p)
-seen_steps (moment ∷ moments) old new fits p =
-    let below : p.0.steps < 2 ^ 64 = omega (arith, p.1.steps) in
-    let all = counted_on old.steps p.0.steps new.steps 1 (length moments) p.1.steps (seen_steps moments p.0 new below p.2) in
+seen_steps : (moments : List Moment) (old new : Listener) → LooksAt Hears old moments new → new.steps ≡ (old.steps + length moments) % 2 ^ 64
+seen_steps [] old new p = counted_none old.steps new.steps old.counted (ap (λ (l : Listener). l.steps) p)
+seen_steps (moment ∷ moments) old new p =
+    let all = counted_on old.steps p.0.steps new.steps 1 (length moments) p.1.steps (seen_steps moments p.0 new p.2) in
     let size : 1 + length moments ≡ suc (length moments) = omega arith in
     all ∙ ap (λ (n : ℕ). (old.steps + n) % 2 ^ 64) size
 
@@ -95,11 +93,11 @@ steps_are_many machine s zero (moment ∷ moments) p = absurd p
 steps_are_many machine s (suc count) [] p = absurd p
 steps_are_many machine s (suc count) (moment ∷ moments) p = ap suc (steps_are_many machine moment.after count moments p.1)
 
-steps_counted : (before after : Bench) (count : ℕ) → CountsFit before → after.listener.steps ≡ (before.listener.steps + count) % 2 ^ 64 → after.puts ≡ before.puts
+steps_counted : (before after : Bench) (count : ℕ) → after.listener.steps ≡ (before.listener.steps + count) % 2 ^ 64 → after.puts ≡ before.puts
     → AreCounted before after (replicate count event.Step)
-steps_counted before after count fit steps puts = record {
+steps_counted before after count steps puts = record {
   steps = steps ∙ ap (λ (n : ℕ). (before.listener.steps + n) % 2 ^ 64) (sym (steps_among count));
-  puts = counted_none before.puts after.puts fit.puts puts ∙ ap (λ (n : ℕ). (before.puts + n) % 2 ^ 64) (sym (puts_among count));
+  puts = counted_none before.puts after.puts before.counted puts ∙ ap (λ (n : ℕ). (before.puts + n) % 2 ^ 64) (sym (puts_among count));
 }
 
 -- ---- over the bench that the code's bench stands for
@@ -115,23 +113,23 @@ at_stood P bench b stands holds = subst P (same_bench bench.core b.core b.panel 
 
 -- ---- acts that no guard stops
 
-pub steps_made : (machine : Machine) (count : ℕ) (before after : Bench) → before.listener.address ≡ listening machine → CountsFit before
+pub steps_made : (machine : Machine) (count : ℕ) (before after : Bench) → before.listener.address ≡ listening machine
     → RunsSteps Hears machine count before.core before.listener after.core after.listener → after.carry ≡ before.carry → after.puts ≡ before.puts
     → (b : play.Bench) → StandsAs before b → ActMade machine b (MakesSteps count) before after
-steps_made machine count before after at fit run carry puts b stands = at_stood (λ (x : play.Bench). ActMade machine x (MakesSteps count) before after) before b stands (record {
+steps_made machine count before after at run carry puts b stands = at_stood (λ (x : play.Bench). ActMade machine x (MakesSteps count) before after) before b stands (record {
   events = replicate count event.Step;
   moments = run.moments;
   does = record { makes = refl; run = run.run };
   stands = record { core = run.ends; panel = seen_panel machine run.moments before.listener after.listener b.panel at run.seen stands.panel; carry = carry };
-  counted = steps_counted before after count fit
-      (seen_steps run.moments before.listener after.listener fit.steps run.seen ∙ ap (λ (n : ℕ). (before.listener.steps + n) % 2 ^ 64) (steps_are_many machine before.core count run.moments run.run)) puts;
+  counted = steps_counted before after count
+      (seen_steps run.moments before.listener after.listener run.seen ∙ ap (λ (n : ℕ). (before.listener.steps + n) % 2 ^ 64) (steps_are_many machine before.core count run.moments run.run)) puts;
 })
 
-pub cycle_made : (machine : Machine) (spent : ℕ) (before after : Bench) → before.listener.address ≡ listening machine → CountsFit before
+pub cycle_made : (machine : Machine) (spent : ℕ) (before after : Bench) → before.listener.address ≡ listening machine
     → RunsFor Hears machine (time_left before.carry) before.core before.listener after.core after.listener spent
     → after.carry ≡ carry_in after.core.phase (time_left before.carry) spent → after.puts ≡ before.puts
     → (b : play.Bench) → StandsAs before b → ActMade machine b RunsCycle before after
-cycle_made machine spent before after at fit run carry puts b stands = at_stood (λ (x : play.Bench). ActMade machine x RunsCycle before after) before b stands (record {
+cycle_made machine spent before after at run carry puts b stands = at_stood (λ (x : play.Bench). ActMade machine x RunsCycle before after) before b stands (record {
   events = replicate (length run.moments) event.Step;
   moments = run.moments;
   does = record { makes = record { spent = spent; timed = run.timed; steps = refl }; run = run.timed.run };
@@ -140,7 +138,7 @@ cycle_made machine spent before after at fit run carry puts b stands = at_stood 
     panel = seen_panel machine run.moments before.listener after.listener b.panel at run.seen stands.panel;
     carry = carry ∙ ap (λ (s : State). carry_in s.phase (time_left before.carry) spent) run.ends ∙ ap (carry_in (last_state before.core run.moments).phase (time_left before.carry)) run.timed.time;
   };
-  counted = steps_counted before after (length run.moments) fit (seen_steps run.moments before.listener after.listener fit.steps run.seen) puts;
+  counted = steps_counted before after (length run.moments) (seen_steps run.moments before.listener after.listener run.seen) puts;
 })
 
 -- an event that runs no order: the panel hears nothing
@@ -148,10 +146,10 @@ pub idle_panel : (machine : Machine) (s : State) (report : Done) (after : State)
     → panel_along machine happenings (record { report = report; after = after } ∷ []) ≡ happenings
 idle_panel machine s report after happenings idle = ap (λ (r : Done). with_shown happenings (digit_given machine r.gave)) idle
 
-pub pulse_made : (machine : Machine) (report : Done) (before after : Bench) → CountsFit before → Steps machine before.core event.Pulse report after.core
+pub pulse_made : (machine : Machine) (report : Done) (before after : Bench) → Steps machine before.core event.Pulse report after.core
     → after.listener ≡ before.listener → after.carry ≡ before.carry → after.puts ≡ before.puts
     → (b : play.Bench) → StandsAs before b → ActMade machine b Pulses before after
-pulse_made machine report before after fit step listener carry puts b stands = at_stood (λ (x : play.Bench). ActMade machine x Pulses before after) before b stands (record {
+pulse_made machine report before after step listener carry puts b stands = at_stood (λ (x : play.Bench). ActMade machine x Pulses before after) before b stands (record {
   events = event.Pulse ∷ [];
   moments = record { report = report; after = after.core } ∷ [];
   does = record { makes = refl; run = (step, tt) };
@@ -162,7 +160,7 @@ pulse_made machine report before after fit step listener carry puts b stands = a
     carry = carry;
   };
   counted = record {
-    steps = counted_none before.listener.steps after.listener.steps fit.steps (ap (λ (l : Listener). l.steps) listener);
-    puts = counted_none before.puts after.puts fit.puts puts;
+    steps = counted_none before.listener.steps after.listener.steps before.listener.counted (ap (λ (l : Listener). l.steps) listener);
+    puts = counted_none before.puts after.puts before.counted puts;
   };
 })

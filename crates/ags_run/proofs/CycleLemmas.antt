@@ -1,20 +1,13 @@
 -- So many cycles, one behind another. The proofs of `cycling` cite:
---     one_cycle, one_stopped         one cycle
---     cycles_more, cycles_unmade     a cycle behind those before it
+--     one_cycle, one_stopped           one cycle
+--     cycles_more, cycles_stopped      a cycle behind those before it
 use Rattle.std.proofs.Common.{◌≡◌, ℕ, zero, suc, ◌+◌, ◌-◌, ◌<◌, List, [], ◌∷◌, ◌++◌, refl, ap, subst, ◌∙◌, arith}
-use Rattle.std.specs.Prelude.{Option}
-use Rattle.ags_domain.specs.declared.values.Value.{Value}
+use Rattle.std.specs.Prelude.{Option, Some, None}
 use Rattle.ags_play.specs.Act.{Act, FeedsWhereZero, Pulses, RunsCycle, cycles}
-use Rattle.ags_play.specs.Bench as play
-use Rattle.ags_ports.specs.declared.machines.Machine.{Machine}
-use Rattle.ags_ports.specs.Machine.{IsMachine}
-use Rattle.ags_safe.specs.Certificate.{Certificate}
-use Rattle.ags_run.specs.declared.benches.Bench.{Bench}
-use Rattle.ags_run.specs.declared.play_error.PlayError.{PlayError}
-use Rattle.ags_run.specs.Acted.{ActMade}
-use Rattle.ags_run.specs.Making.{ActLetThrough, ActStopped, AllMade, NotAllMade}
-use Rattle.ags_run.specs.Standing.{StandsAs}
-use Rattle.ags_run.proofs.JoinLemmas.{plain_made, put_made, put_stopped, made_on, unmade_on, unmade_before}
+use Rattle.ags_run.specs.declared.players.Player.{Player}
+use Rattle.ags_run.specs.declared.players.StoppedWord.{StoppedWord}
+use Rattle.ags_run.specs.Playing.{Acted, ActedUnder, PlayedActs}
+use Rattle.ags_run.proofs.JoinLemmas.{plain_played, under_played, played_on, stopped_before}
 
 -- the acts of one cycle
 abbrev one : List Act
@@ -39,30 +32,28 @@ cycles_at early count within =
     let same : suc (early + (count - early - 1)) ≡ count = omega (arith, within) in
     cycles_cut early (count - early - 1) ∙ ap cycles same
 
-module _ (machine : Machine) (guard : Option (Certificate Value)) where
-  pub one_cycle : (before fed pulsed after : Bench) → ((b : play.Bench) → StandsAs before b → ActLetThrough machine guard b FeedsWhereZero before fed)
-      → ((b : play.Bench) → StandsAs fed b → ActMade machine b Pulses fed pulsed) → ((b : play.Bench) → StandsAs pulsed b → ActMade machine b RunsCycle pulsed after)
-      → (told : Option (List ℕ)) → AllMade machine guard (FeedsWhereZero ∷ Pulses ∷ RunsCycle ∷ []) told told before after
-  one_cycle before fed pulsed after feeds pulses runs told =
-      made_on machine guard (FeedsWhereZero ∷ []) (Pulses ∷ RunsCycle ∷ []) told told told before fed after (put_made machine guard FeedsWhereZero before fed (λ b. refl) feeds told)
-      (made_on machine guard (Pulses ∷ []) (RunsCycle ∷ []) told told told fed pulsed after (plain_made machine guard Pulses fed pulsed (λ b. refl) (λ b. refl) pulses told)
-      (plain_made machine guard RunsCycle pulsed after (λ b. refl) (λ b. refl) runs told))
+pub one_cycle : (before fed pulsed after : Player) → ActedUnder FeedsWhereZero before fed None → Acted Pulses fed pulsed → Acted RunsCycle pulsed after
+    → (told : Option (List ℕ)) → PlayedActs (FeedsWhereZero ∷ Pulses ∷ RunsCycle ∷ []) told told before after None
+one_cycle before fed pulsed after feeds pulses runs told =
+    played_on (FeedsWhereZero ∷ []) (Pulses ∷ RunsCycle ∷ []) told told told before fed after None (under_played FeedsWhereZero told before fed None (λ b. refl) feeds)
+    (played_on (Pulses ∷ []) (RunsCycle ∷ []) told told told fed pulsed after None (plain_played Pulses told fed pulsed (λ b. refl) (λ b. refl) pulses)
+    (plain_played RunsCycle told pulsed after (λ b. refl) (λ b. refl) runs))
 
-  pub one_stopped : (before : Bench) (error : PlayError) → IsMachine machine → ((b : play.Bench) → StandsAs before b → ActStopped machine guard b FeedsWhereZero error)
-      → (told : Option (List ℕ)) → NotAllMade machine guard (FeedsWhereZero ∷ Pulses ∷ RunsCycle ∷ []) told told before error
-  one_stopped before error h stops told =
-      unmade_before machine guard (FeedsWhereZero ∷ []) (Pulses ∷ RunsCycle ∷ []) told told before error h (put_stopped machine guard FeedsWhereZero before error stops told)
+pub one_stopped : (before after : Player) (stopped : StoppedWord) → ActedUnder FeedsWhereZero before after (Some stopped)
+    → (told : Option (List ℕ)) → PlayedActs (FeedsWhereZero ∷ Pulses ∷ RunsCycle ∷ []) told told before after (Some stopped)
+one_stopped before after stopped stops told =
+    stopped_before (FeedsWhereZero ∷ []) (Pulses ∷ RunsCycle ∷ []) told told before after stopped (under_played FeedsWhereZero told before after (Some stopped) (λ b. refl) stops)
 
-  pub cycles_more : (count : ℕ) (before between after : Bench) → ((told : Option (List ℕ)) → AllMade machine guard (cycles count) told told before between)
-      → ((told : Option (List ℕ)) → AllMade machine guard (FeedsWhereZero ∷ Pulses ∷ RunsCycle ∷ []) told told between after)
-      → (told : Option (List ℕ)) → AllMade machine guard (cycles (count + 1)) told told before after
-  cycles_more count before between after p q told =
-      subst (λ (acts : List Act). AllMade machine guard acts told told before after) (cycles_next count) (made_on machine guard (cycles count) one told told told before between after (p told) (q told))
+pub cycles_more : (count : ℕ) (before between after : Player) → ((told : Option (List ℕ)) → PlayedActs (cycles count) told told before between None)
+    → ((told : Option (List ℕ)) → PlayedActs (FeedsWhereZero ∷ Pulses ∷ RunsCycle ∷ []) told told between after None)
+    → (told : Option (List ℕ)) → PlayedActs (cycles (count + 1)) told told before after None
+cycles_more count before between after p q told =
+    subst (λ (acts : List Act). PlayedActs acts told told before after None) (cycles_next count) (played_on (cycles count) one told told told before between after None (p told) (q told))
 
-  pub cycles_unmade : (early count : ℕ) (before between : Bench) (error : PlayError) → IsMachine machine → early < count → ((told : Option (List ℕ)) → AllMade machine guard (cycles early) told told before between)
-      → ((told : Option (List ℕ)) → NotAllMade machine guard (FeedsWhereZero ∷ Pulses ∷ RunsCycle ∷ []) told told between error)
-      → (told : Option (List ℕ)) → NotAllMade machine guard (cycles count) told told before error
-  cycles_unmade early count before between error h within p q told =
-      subst (λ (acts : List Act). NotAllMade machine guard acts told told before error) (cycles_at early count within)
-      (unmade_on machine guard (cycles early) (one ++ cycles (count - early - 1)) told told told before between error (p told)
-      (unmade_before machine guard one (cycles (count - early - 1)) told told between error h (q told)))
+pub cycles_stopped : (early count : ℕ) (before between after : Player) (stopped : StoppedWord) → early < count → ((told : Option (List ℕ)) → PlayedActs (cycles early) told told before between None)
+    → ((told : Option (List ℕ)) → PlayedActs (FeedsWhereZero ∷ Pulses ∷ RunsCycle ∷ []) told told between after (Some stopped))
+    → (told : Option (List ℕ)) → PlayedActs (cycles count) told told before after (Some stopped)
+cycles_stopped early count before between after stopped within p q told =
+    let rest = cycles (count - early - 1) in
+    subst (λ (acts : List Act). PlayedActs acts told told before after (Some stopped)) (cycles_at early count within)
+    (played_on (cycles early) (one ++ rest) told told told before between after (Some stopped) (p told) (stopped_before one rest told told between after stopped (q told)))

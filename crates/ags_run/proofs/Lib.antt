@@ -1,4 +1,3 @@
-mod TextLemmas
 mod ActLemmas
 mod JoinLemmas
 mod PutLemmas

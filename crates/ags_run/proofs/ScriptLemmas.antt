@@ -1,23 +1,22 @@
 -- A script's commands, one behind another. The proofs of `script_play` cite:
 --     command_located      the command at a place names a location
 --     commands_more        a command behind those before it
---     commands_unmade      a command that wasn't made to its end
+--     commands_stopped     a command whose word was stopped
+--     commands_in_part     a command that was printed in part
 --     commands_all         all commands
+--     said_of_err          what is so is said of an error
 use Rattle.std.proofs.Common.{◌≡◌, ℕ, ◌+◌, ◌<◌, ◌≤◌, List, [], ◌∷◌, ◌++◌, All, length, take, drop, get_or, sym, ap, subst, ◌∙◌, append-nil}
-use Rattle.std.specs.Prelude.{slice_get, Option, Some}
+use Rattle.std.specs.Prelude.{slice_get, Option, Some, None, Result, Ok, Err, OnErr}
 use Rattle.std.proofs.lemmas.Grind.{flat_map-append}
 use Rattle.std.proofs.lemmas.Option.{slice_get_within, get_or_from_slice_get}
 use Rattle.std.proofs.lemmas.List.{take_more, take_all, take-append-drop, drop_more}
-use Rattle.ags_domain.specs.declared.values.Value.{Value}
 use Rattle.ags_play.specs.Act.{Act, acts_of, acts_of_command}
-use Rattle.ags_ports.specs.declared.machines.Machine.{Machine}
 use Rattle.ags_ports.specs.Machine.{IsMachine}
-use Rattle.ags_safe.specs.Certificate.{Certificate}
 use Rattle.ags_script.specs.declared.commands.Command.{Command}
-use Rattle.ags_run.specs.declared.benches.Bench.{Bench}
-use Rattle.ags_run.specs.declared.play_error.PlayError.{PlayError}
-use Rattle.ags_run.specs.Making.{AllMade, NotAllMade}
-use Rattle.ags_run.proofs.JoinLemmas.{made_on, unmade_on, unmade_before}
+use Rattle.ags_run.specs.declared.players.Player.{Player}
+use Rattle.ags_run.specs.declared.players.StoppedWord.{StoppedWord}
+use Rattle.ags_run.specs.Playing.{PlayedActs, InPart}
+use Rattle.ags_run.proofs.JoinLemmas.{played_on, part_on, stopped_before, part_before, is_machine}
 
 -- the acts of commands behind commands
 acts_of-append : (first second : List Command) → acts_of (first ++ second) ≡ acts_of first ++ acts_of second
@@ -48,23 +47,31 @@ acts_cut commands place command found =
 pub command_located : (P : Command → Type 0) (commands : List Command) (place : ℕ) (command : Command) → All P commands → slice_get commands place ≡ Some command → P command
 command_located P commands place command all found = let at = read_at commands place command found in subst P at.1 (all place command at.0)
 
-module _ (machine : Machine) (guard : Option (Certificate Value)) where
-  pub commands_more : (commands : List Command) (place : ℕ) (command : Command) (old mid new : Option (List ℕ)) (before between after : Bench) → slice_get commands place ≡ Some command
-      → AllMade machine guard (acts_of (take place commands)) old mid before between → AllMade machine guard (acts_of_command command) mid new between after
-      → AllMade machine guard (acts_of (take (place + 1) commands)) old new before after
-  commands_more commands place command old mid new before between after found p q =
-      subst (λ (acts : List Act). AllMade machine guard acts old new before after) (acts_taken commands place command found)
-      (made_on machine guard (acts_of (take place commands)) (acts_of_command command) old mid new before between after p q)
+module _ (commands : List Command) (place : ℕ) (command : Command) (old mid new : Option (List ℕ)) (before between : Player) (found : slice_get commands place ≡ Some command)
+    (so_far : PlayedActs (acts_of (take place commands)) old mid before between None) where
+  pub commands_more : (after : Player) → PlayedActs (acts_of_command command) mid new between after None → PlayedActs (acts_of (take (place + 1) commands)) old new before after None
+  commands_more after next =
+      subst (λ (acts : List Act). PlayedActs acts old new before after None) (acts_taken commands place command found)
+      (played_on (acts_of (take place commands)) (acts_of_command command) old mid new before between after None so_far next)
 
-  pub commands_unmade : (commands : List Command) (place : ℕ) (command : Command) (old mid new : Option (List ℕ)) (before between : Bench) (error : PlayError) → IsMachine machine
-      → slice_get commands place ≡ Some command → AllMade machine guard (acts_of (take place commands)) old mid before between
-      → NotAllMade machine guard (acts_of_command command) mid new between error → NotAllMade machine guard (acts_of commands) old new before error
-  commands_unmade commands place command old mid new before between error h found p q =
-      subst (λ (acts : List Act). NotAllMade machine guard acts old new before error) (acts_cut commands place command found)
-      (unmade_on machine guard (acts_of (take place commands)) (acts_of_command command ++ acts_of (drop (place + 1) commands)) old mid new before between error p
-      (unmade_before machine guard (acts_of_command command) (acts_of (drop (place + 1) commands)) mid new between error h q))
+  pub commands_stopped : (after : Player) (stopped : StoppedWord) → PlayedActs (acts_of_command command) mid new between after (Some stopped) → PlayedActs (acts_of commands) old new before after (Some stopped)
+  commands_stopped after stopped next =
+      let rest = acts_of (drop (place + 1) commands) in
+      subst (λ (acts : List Act). PlayedActs acts old new before after (Some stopped)) (acts_cut commands place command found)
+      (played_on (acts_of (take place commands)) (acts_of_command command ++ rest) old mid new before between after (Some stopped) so_far (stopped_before (acts_of_command command) rest mid new between after stopped next))
 
-  pub commands_all : (commands : List Command) (place : ℕ) (old new : Option (List ℕ)) (before after : Bench) → length commands ≤ place → AllMade machine guard (acts_of (take place commands)) old new before after
-      → AllMade machine guard (acts_of commands) old new before after
-  commands_all commands place old new before after past p =
-      subst (λ (all : List Command). AllMade machine guard (acts_of all) old new before after) (take_all place commands past) p
+  pub commands_in_part : IsMachine before.machine.now → InPart (acts_of_command command) mid new between → InPart (acts_of commands) old new before
+  commands_in_part h next =
+      let rest = acts_of (drop (place + 1) commands) in
+      subst (λ (acts : List Act). InPart acts old new before) (acts_cut commands place command found)
+      (part_on (acts_of (take place commands)) (acts_of_command command ++ rest) old mid new before between so_far
+      (part_before (acts_of_command command) rest mid new between (is_machine before between so_far.keeps h) next))
+
+pub commands_all : (commands : List Command) (place : ℕ) (old new : Option (List ℕ)) (before after : Player) → length commands ≤ place → PlayedActs (acts_of (take place commands)) old new before after None
+    → PlayedActs (acts_of commands) old new before after None
+commands_all commands place old new before after past p =
+    subst (λ (all : List Command). PlayedActs (acts_of all) old new before after None) (take_all place commands past) p
+
+pub said_of_err : {T E P : Type 0} (r : Result T E) → P → OnErr r P
+said_of_err (Ok value) holds = tt
+said_of_err (Err error) holds = holds

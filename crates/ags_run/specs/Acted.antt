@@ -1,5 +1,5 @@
 -- What the functions that make acts come to: over each bench of the definition that the code's bench stood for.
-use Rattle.std.specs.Prelude.{◌≡◌, ℕ, ◌+◌, ◌%◌, ◌^◌, List, count_by, Option, Some, None}
+use Rattle.std.specs.Prelude.{◌≡◌, ℕ, ◌+◌, ◌%◌, ◌^◌, List, count_by, Option, None}
 use Rattle.ags_domain.specs.declared.values.Value.{Value}
 use Rattle.ags_outside.specs.Sink.{appended, WroteFront}
 use Rattle.ags_play.specs.Act.{Act}
@@ -12,8 +12,6 @@ use Rattle.ags_ports.specs.declared.machines.Machine.{Machine}
 use Rattle.ags_ports.specs.Run.{Moment}
 use Rattle.ags_safe.specs.Certificate.{Certificate}
 use Rattle.ags_run.specs.declared.benches.Bench.{Bench}
-use Rattle.ags_run.specs.declared.play_error.PlayError.{PlayError}
-use Rattle.ags_run.specs.declared.play_error.PlayError.TheVariants.{WriteFault, StartOutside, InputRange, NoMemory}
 use Rattle.ags_run.specs.Standing.{StandsAs}
 
 -- the events are counted
@@ -29,23 +27,15 @@ pub record ActMade (machine : Machine) (b : play.Bench) (act : Act) (before afte
   pub stands : StandsAs after (bench_after machine b act moments)
   pub counted : AreCounted before after events
 
--- The acts were made, none of whose words was stopped, and the sink took exactly their text.
-pub record ActsMade (machine : Machine) (guard : Option (Certificate Value)) (b : play.Bench) (acts : List Act) (old new : Option (List ℕ)) (before after : Bench) : Type 0 where
+-- The acts were played up to the one whose word is stopped, or to their end where none is, and the sink took exactly their text.
+pub record ActsPlayed (machine : Machine) (guard : Option (Certificate Value)) (b : play.Bench) (acts : List Act) (old new : Option (List ℕ)) (before after : Bench) (met : Option PutWord) : Type 0 where
   pub events : List Event
   pub text : List ℕ
   pub end : play.Bench
-  pub plays : Plays machine guard b acts events text end None
+  pub plays : Plays machine guard b acts events text end met
   pub sent : new ≡ appended old text
-  pub stands : StandsAs after end
-  pub counted : AreCounted before after events
-
--- The acts were made up to the one whose word is stopped, and the sink took exactly their text.
-pub record ActsStopped (machine : Machine) (guard : Option (Certificate Value)) (b : play.Bench) (acts : List Act) (old new : Option (List ℕ)) (put : PutWord) : Type 0 where
-  pub events : List Event
-  pub text : List ℕ
-  pub end : play.Bench
-  pub plays : Plays machine guard b acts events text end (Some put)
-  pub sent : new ≡ appended old text
+  pub stands : met ≡ None → StandsAs after end
+  pub counted : met ≡ None → AreCounted before after events
 
 -- The sink took a prefix of the acts' text.
 pub record ActsInPart (machine : Machine) (guard : Option (Certificate Value)) (b : play.Bench) (acts : List Act) (old new : Option (List ℕ)) : Type 0 where
@@ -55,10 +45,3 @@ pub record ActsInPart (machine : Machine) (guard : Option (Certificate Value)) (
   pub met : Option PutWord
   pub plays : Plays machine guard b acts events text end met
   pub front : WroteFront old new text
-
--- why the acts weren't made to their end
-abbrev pub AreUnmade : Machine → Option (Certificate Value) → play.Bench → List Act → (old new : Option (List ℕ)) → PlayError → Type 0
-AreUnmade machine guard b acts old new (InputRange address word) = ActsStopped machine guard b acts old new (record { address = address; word = word })
-AreUnmade machine guard b acts old new WriteFault = ActsInPart machine guard b acts old new
-AreUnmade machine guard b acts old new NoMemory = ActsInPart machine guard b acts old new
-AreUnmade machine guard b acts old new (StartOutside outside) = ⊥

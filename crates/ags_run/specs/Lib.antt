@@ -6,4 +6,4 @@ pub mod Hearing
 pub mod Standing
 pub mod Acted
 pub mod Making
-pub mod Starting
+pub mod Playing

@@ -1,5 +1,7 @@
 //! The bench that a script is played on.
 
+ghost use Rattle.std.specs.Prelude.{◌<◌, ◌^◌};
+
 use crate::listeners::Listener;
 use ags_core::Core;
 
@@ -14,4 +16,5 @@ pub(crate) struct Bench {
     pub(crate) carry: u64,
     /// How many words were put, modulo 2 ^ 64.
     pub(crate) puts: u64,
+    pub(crate) ghost counted: { puts < 2 ^ 64 },
 }

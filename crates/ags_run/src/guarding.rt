@@ -8,9 +8,11 @@ ghost use Rattle.ags_ports.specs.Port.{held_port};
 ghost use Rattle.ags_ports.specs.State.{cell};
 ghost use Rattle.ags_posts.specs.InRow.{AreInputsHeld};
 ghost use Rattle.ags_safe.specs.Start.{IsFirstWord, IsStartWord};
-ghost use Rattle.ags_run.specs.Play.{guard_of, outside_of};
+ghost use Rattle.ags_run.specs.Play.{outside_of};
+ghost use Rattle.ags_run.specs.Playing.{guard_in};
 
 use crate::outside::Outside;
+use crate::players::Player;
 use ags_certtype::Cert;
 use ags_core::Core;
 use ags_domain::{Domain, Value};
@@ -118,18 +120,14 @@ pub fn find_outside(machine: &Machine, image: &Image, cert: &Cert, core: &Core) 
     find_word(machine, image, cert, core)
 }
 
-/// What of a state a guard finds outside first, and without a guard nothing.
-pub(crate) fn find_under_guard(
-    machine: &Machine,
-    image: &Image,
-    guard: Option<&Cert>,
-    core: &Core,
-) -> Option<Outside>
-    requires { length core.now.inputs ≡ length machine.now.ports.inputs }
-    ensures { IsFound machine.now image.now (guard_of (option_map (λ cert. cert.now) guard.entry)) core.now (option_map outside_of result) }
-{
-    match guard {
-        Some(cert) => find_outside(machine, image, cert, core),
-        None => None,
+impl<'a> Player<'a> {
+    /// What of the state the guard finds outside first, and without a guard nothing.
+    pub(crate) fn find_outside(&self, image: &Image) -> Option<Outside>
+        ensures { IsFound self.now.machine.now image.now (guard_in self.now) self.now.bench.core (option_map outside_of result) }
+    {
+        match self.guard {
+            Some(cert) => find_outside(self.machine, image, cert, &self.bench.core),
+            None => None,
+        }
     }
 }

@@ -14,6 +14,7 @@ mod guarding;
 mod listeners;
 mod outside;
 mod play_error;
+mod players;
 mod playing;
 mod putting;
 mod script_play;

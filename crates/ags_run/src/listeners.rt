@@ -1,7 +1,6 @@
 //! The panel as it listens to the machine.
 
-ghost use Rattle.std.specs.Prelude.{◌≡◌, ◌≤◌, IfSome};
-ghost use Rattle.ags_run.specs.Hearing.{heard};
+ghost use Rattle.std.specs.Prelude.{◌<◌, ◌≤◌, ◌^◌};
 
 use ags_deda::Panel;
 use ags_ports::Done;
@@ -16,9 +15,13 @@ pub(crate) struct Listener {
     pub(crate) address: Option<u16>,
     /// How many steps it was told of, modulo 2 ^ 64.
     pub(crate) steps: u64,
+    pub(crate) ghost counted: { steps < 2 ^ 64 },
 }
 
 impl Listener {
+    ghost use Rattle.std.specs.Prelude.{◌≡◌, IfSome};
+    ghost use Rattle.ags_run.specs.Hearing.{heard};
+
     /// The digit that a report shows to the panel.
     fn heard(&self, report: &Done) -> Option<u8>
         ensures digit { result ≡ heard self.now.address report.now.gave }

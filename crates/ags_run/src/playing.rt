@@ -3,10 +3,9 @@
 ghost use Rattle.std.specs.Prelude.{◌≡◌, ◌<◌, ◌^◌, ℕ, List, Option, Some, length, option_map, IfOk, IfErr, IsErrOf};
 ghost use Rattle.ags_domain.specs.Value.{value_meaning};
 ghost use Rattle.ags_domain.specs.declared.values.Value.{Value};
-ghost use Rattle.ags_image.specs.Image.{IsImage};
 ghost use Rattle.ags_outside.specs.Count.{HasCause, Rose};
 ghost use Rattle.ags_play.specs.Begun.{IsRunOf};
-ghost use Rattle.ags_play.specs.Bench.{usual_location, begun_state};
+ghost use Rattle.ags_play.specs.Bench.{begun_state};
 ghost use Rattle.ags_play.specs.Cut.{IsSafeWhereCut};
 ghost use Rattle.ags_play.specs.Guard as outside_start;
 ghost use Rattle.ags_play.specs.Played.{IsPlayOf, Met, OutsideStart};
@@ -19,11 +18,11 @@ ghost use Rattle.ags_script.specs.Suiting.{Suits};
 ghost use Rattle.ags_run.specs.Play.{guard_of, IsUnplayed, PlayedWhole, is_play_fault};
 
 use crate::play_error::PlayError;
-use crate::script_play::play_commands;
-use crate::starting::{begin, usual_location};
+use crate::players::{Player, StoppedWord};
+use crate::starting::usual_location;
 use ags_certtype::Cert;
 use ags_image::Image;
-use ags_outside::Sink;
+use ags_outside::{SendError, Sink};
 use ags_ports::Machine;
 use ags_ports::laws::machine_is_made_of_tables;
 use ags_script::Script;
@@ -37,17 +36,6 @@ pub struct Played {
     pub steps: u64,
     /// The words that were put into input registers.
     pub puts: u64,
-}
-
-/// Does nothing: its contract tells the proofs what is so of an image, of a script and of a certificate by their types.
-fn types_are_kept(image: &Image, script: &Script, guard: Option<&Cert>)
-    ensures image { IsImage image.now }
-    ensures commands { length script.now < 2 ^ 63 }
-    ensures location { usual_location (guard_of (option_map (λ cert. cert.now) guard.entry)) < 4096 }
-{
-    let _ = image.get(0);
-    let _ = script.len();
-    let _ = usual_location(guard);
 }
 
 /// Does nothing: its contract tells the proofs what is so of a machine, of a script that was read for it, and of each play of the
@@ -68,7 +56,9 @@ fn plays_are_sound(machine: &Machine, image: &Image, script: &Script, guard: Opt
 {
     machine_is_made_of_tables(machine);
     scripts_suit_their_machine();
-    types_are_kept(image, script, guard);
+    let _image = image.get(0);
+    let _count = script.len();
+    let _location = usual_location(guard);
 }
 
 /// Plays a script that was read for the machine (docs/SCRIPT.md), on the machine that starts with an image. What it shows is
@@ -101,10 +91,19 @@ pub fn play<K: Sink>(
     ensures faults { HasCause (K.faults out.old) (K.faults out.new) (is_play_fault result) }
 {
     plays_are_sound(machine, image, script, guard);
-    let mut bench = begin(alloc, machine, image, script, guard)?;
-    play_commands(machine, guard, &mut bench, script, out)?;
-    Ok(Played {
-        steps: bench.listener.steps,
-        puts: bench.puts,
-    })
+    let Ok(mut player) = Player::begin(alloc, machine, image, script, guard) else {
+        return Err(PlayError::NoMemory);
+    };
+    if let Some(outside) = player.find_outside(image) {
+        return Err(PlayError::StartOutside(outside));
+    }
+    match player.play_commands(script, out) {
+        Ok(None) => Ok(Played {
+            steps: player.bench.listener.steps,
+            puts: player.bench.puts,
+        }),
+        Ok(Some(StoppedWord { address, word })) => Err(PlayError::InputRange { address, word }),
+        Err(SendError::WriteFault) => Err(PlayError::WriteFault),
+        Err(SendError::NoMemory) => Err(PlayError::NoMemory),
+    }
 }

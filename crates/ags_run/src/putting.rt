@@ -1,19 +1,14 @@
 //! Words that are put into input registers, where the guard lets them through.
 
-ghost use Rattle.std.specs.Prelude.{◌≡◌, ◌+◌, ◌<◌, false, length, IsTrue, IfOk, IfErr, Some, None, option_map};
+ghost use Rattle.std.specs.Prelude.{◌≡◌, ◌+◌, false, IsTrue, Some, None};
 ghost use Rattle.ags_certtype.specs.Cert.{certificate_of};
 ghost use Rattle.ags_play.specs.Act as act;
-ghost use Rattle.ags_play.specs.Bench as play;
 ghost use Rattle.ags_play.specs.Doing as doing;
 ghost use Rattle.ags_play.specs.Guard as guarding;
-ghost use Rattle.ags_run.specs.Making.{WordPut, WordStopped, ActLetThrough, ActStopped};
-ghost use Rattle.ags_run.specs.Play.{guard_of, is_play_fault};
-ghost use Rattle.ags_run.specs.Standing.{IsBenchOf, StandsAs};
+ghost use Rattle.ags_run.specs.Playing.{guard_in, Put, ActedUnder};
 
-use crate::benches::Bench;
-use crate::play_error::PlayError;
+use crate::players::{Player, StoppedWord};
 use ags_certtype::Cert;
-use ags_core::Core;
 use ags_domain::Domain;
 use ags_ports::laws::machine_is_made_of_tables;
 use ags_ports::{Event, Machine};
@@ -33,28 +28,6 @@ pub fn cert_lets_through(machine: &Machine, cert: &Cert, address: u16, word: Wor
     }
 }
 
-/// Whether a guard lets a word be put; without a guard each word is.
-fn lets_through(machine: &Machine, guard: Option<&Cert>, address: u16, word: Word) -> bool
-    ensures through { IsTrue result → guarding.stopped_by machine.now (guard_of (option_map (λ cert. cert.now) guard.entry)) (Some (record { address = address; word = word })) ≡ None }
-    ensures stopped { result ≡ false → guarding.stopped_by machine.now (guard_of (option_map (λ cert. cert.now) guard.entry)) (Some (record { address = address; word = word })) ≡ Some (record { address = address; word = word }) }
-{
-    match guard {
-        Some(cert) => cert_lets_through(machine, cert, address, word),
-        None => true,
-    }
-}
-
-/// Whether a cycle feeds in this state: the panel's digits go to a register of the machine, and its word is 0.
-fn wants_digit(machine: &Machine, core: &Core) -> bool
-    requires { length core.now.inputs ≡ length machine.now.ports.inputs }
-    ensures { result ≡ doing.wants_digit machine.now core.now }
-{
-    match machine.ports.find_input(machine.deda_in) {
-        Some(place) => core.input(place).number() == 0,
-        None => false,
-    }
-}
-
 /// The word that a digit of the panel is put as.
 fn digit_word(digit: u8) -> Word
     ensures { result ≡ 16 + digit }
@@ -63,86 +36,67 @@ fn digit_word(digit: u8) -> Word
     Word::of(DIGIT_BASE + u32::from(digit)).unwrap()
 }
 
-/// Puts a word where the guard lets it through.
-fn put(
-    machine: &Machine,
-    guard: Option<&Cert>,
-    bench: &mut Bench,
-    address: u16,
-    word: Word,
-) -> Result<(), PlayError>
-    requires { IsBenchOf machine.now bench.old }
-    ensures fitted { IsBenchOf machine.now bench.new }
-    ensures put { IfOk result (λ _. WordPut machine.now (guard_of (option_map (λ cert. cert.now) guard.entry)) address word bench.old bench.new) }
-    ensures stopped { IfErr result (WordStopped machine.now (guard_of (option_map (λ cert. cert.now) guard.entry)) address word) }
-    ensures no_fault { is_play_fault result ≡ false }
-{
-    if !lets_through(machine, guard, address, word) {
-        return Err(PlayError::InputRange { address, word });
+impl<'a> Player<'a> {
+    /// Whether the guard lets a word be put; without a guard each word is.
+    fn lets_through(&self, address: u16, word: Word) -> bool
+        ensures through { IsTrue result → guarding.stopped_by self.now.machine.now (guard_in self.now) (Some (record { address = address; word = word })) ≡ None }
+        ensures stopped { result ≡ false → guarding.stopped_by self.now.machine.now (guard_in self.now) (Some (record { address = address; word = word })) ≡ Some (record { address = address; word = word }) }
+    {
+        match self.guard {
+            Some(cert) => cert_lets_through(self.machine, cert, address, word),
+            None => true,
+        }
     }
-    bench.core.act(machine, Event::Put { address, word });
-    bench.puts = bench.puts.wrapping_add(1);
-    Ok(())
-}
 
-/// Puts the word of SET.
-pub(crate) fn set(
-    machine: &Machine,
-    guard: Option<&Cert>,
-    bench: &mut Bench,
-    address: u16,
-    word: Word,
-) -> Result<(), PlayError>
-    requires { IsBenchOf machine.now bench.old }
-    ensures fitted { IsBenchOf machine.now bench.new }
-    ensures made { IfOk result (λ _. (b : play.Bench) → StandsAs bench.old b
-        → ActLetThrough machine.now (guard_of (option_map (λ cert. cert.now) guard.entry)) b (act.Puts address word) bench.old bench.new) }
-    ensures stopped { IfErr result (λ error. (b : play.Bench) → StandsAs bench.old b
-        → ActStopped machine.now (guard_of (option_map (λ cert. cert.now) guard.entry)) b (act.Puts address word) error) }
-    ensures no_fault { is_play_fault result ≡ false }
-{
-    bench.counts_fit();
-    put(machine, guard, bench, address, word)
-}
-
-/// Feeds the next digit of the panel, where one is left.
-pub(crate) fn feed(
-    machine: &Machine,
-    guard: Option<&Cert>,
-    bench: &mut Bench,
-) -> Result<(), PlayError>
-    requires { IsBenchOf machine.now bench.old }
-    ensures fitted { IsBenchOf machine.now bench.new }
-    ensures made { IfOk result (λ _. (b : play.Bench) → StandsAs bench.old b
-        → ActLetThrough machine.now (guard_of (option_map (λ cert. cert.now) guard.entry)) b act.Feeds bench.old bench.new) }
-    ensures stopped { IfErr result (λ error. (b : play.Bench) → StandsAs bench.old b
-        → ActStopped machine.now (guard_of (option_map (λ cert. cert.now) guard.entry)) b act.Feeds error) }
-    ensures no_fault { is_play_fault result ≡ false }
-{
-    bench.counts_fit();
-    match bench.listener.panel.sent() {
-        Some(digit) => put(machine, guard, bench, machine.deda_in, digit_word(digit)),
-        None => Ok(()),
+    /// Whether a cycle feeds in this state: the panel's digits go to a register of the machine, and its word is 0.
+    fn wants_digit(&self) -> bool
+        ensures { result ≡ doing.wants_digit self.now.machine.now self.now.bench.core }
+    {
+        match self.machine.ports.find_input(self.machine.deda_in) {
+            Some(place) => self.bench.core.input(place).number() == 0,
+            None => false,
+        }
     }
-}
 
-/// Feeds the next digit of the panel, where one is left and its register's word is 0.
-pub(crate) fn feed_where_zero(
-    machine: &Machine,
-    guard: Option<&Cert>,
-    bench: &mut Bench,
-) -> Result<(), PlayError>
-    requires { IsBenchOf machine.now bench.old }
-    ensures fitted { IsBenchOf machine.now bench.new }
-    ensures made { IfOk result (λ _. (b : play.Bench) → StandsAs bench.old b
-        → ActLetThrough machine.now (guard_of (option_map (λ cert. cert.now) guard.entry)) b act.FeedsWhereZero bench.old bench.new) }
-    ensures stopped { IfErr result (λ error. (b : play.Bench) → StandsAs bench.old b
-        → ActStopped machine.now (guard_of (option_map (λ cert. cert.now) guard.entry)) b act.FeedsWhereZero error) }
-    ensures no_fault { is_play_fault result ≡ false }
-{
-    bench.counts_fit();
-    if !wants_digit(machine, &bench.core) {
-        return Ok(());
+    /// Puts a word where the guard lets it through.
+    fn put(&mut self, address: u16, word: Word) -> Option<StoppedWord>
+        ensures { Put address word self.old self.new result }
+    {
+        if !self.lets_through(address, word) {
+            return Some(StoppedWord { address, word });
+        }
+        let bench = &mut self.bench;
+        bench.core.act(self.machine, Event::Put { address, word });
+        bench.puts = bench.puts.wrapping_add(1);
+        None
     }
-    feed(machine, guard, bench)
+
+    /// Puts the word of SET.
+    pub(crate) fn set(&mut self, address: u16, word: Word) -> Option<StoppedWord>
+        ensures { ActedUnder (act.Puts address word) self.old self.new result }
+    {
+        self.put(address, word)
+    }
+
+    /// Feeds the next digit of the panel, where one is left.
+    pub(crate) fn feed(&mut self) -> Option<StoppedWord>
+        ensures { ActedUnder act.Feeds self.old self.new result }
+    {
+        let bench = &mut self.bench;
+        match bench.listener.panel.sent() {
+            Some(digit) => self.put(self.machine.deda_in, digit_word(digit)),
+            None => None,
+        }
+    }
+
+    /// Feeds the next digit of the panel, where one is left and its register's word is 0.
+    pub(crate) fn feed_where_zero(&mut self) -> Option<StoppedWord>
+        ensures { ActedUnder act.FeedsWhereZero self.old self.new result }
+    {
+        if self.wants_digit() {
+            self.feed()
+        } else {
+            None
+        }
+    }
 }

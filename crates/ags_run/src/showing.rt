@@ -1,21 +1,17 @@
 //! What is shown: a line, sent with its line feed.
 
-ghost use Rattle.std.specs.Prelude.{◌≡◌, ◌<◌, ◌≤◌, List, [], ◌∷◌, ◌++◌, codes, length, IfOk, IfErr, Option};
+ghost use Rattle.std.specs.Prelude.{◌≡◌, ◌<◌, ◌≤◌, List, [], ◌∷◌, ◌++◌, codes, length, None, OnOk, OnErr};
 ghost use Rattle.ags_deda.specs.Happening.{Happening};
 ghost use Rattle.ags_deda.specs.Standing.{StandsFor};
-ghost use Rattle.ags_domain.specs.declared.values.Value.{Value};
 ghost use Rattle.ags_outside.specs.Count.{HasCause};
-ghost use Rattle.ags_outside.specs.Sink.{appended};
+ghost use Rattle.ags_outside.specs.Send.{is_write_fault};
+ghost use Rattle.ags_outside.specs.Sink.{appended, WroteFront};
 ghost use Rattle.ags_play.specs.Act as act;
 ghost use Rattle.ags_play.specs.Doing.{deda_text};
-ghost use Rattle.ags_ports.specs.declared.machines.Machine.{Machine};
 ghost use Rattle.ags_ports.specs.Port.{place_of, register_at};
-ghost use Rattle.ags_run.specs.Play.{is_play_fault};
-ghost use Rattle.ags_run.specs.Making.{AllMade, NotAllMade, IsFrontSent};
-ghost use Rattle.ags_safe.specs.Certificate.{Certificate};
+ghost use Rattle.ags_run.specs.Playing.{PlayedActs, InPart};
 
-use crate::benches::Bench;
-use crate::play_error::PlayError;
+use crate::players::Player;
 use crate::shown_lines::{cell_line, output_line, reg_line};
 use ags_core::Core;
 use ags_deda::Panel;
@@ -61,72 +57,54 @@ pub fn whole_line(line: &[u8]) -> ArrayVec<u8, 35>
 }
 
 /// Sends a line with its line feed, as one piece.
-fn send_line<K: Sink>(out: &mut K, line: &[u8]) -> Result<(), PlayError>
+fn send_line<K: Sink>(out: &mut K, line: &[u8]) -> Result<(), SendError>
     requires { length line.now ≤ 34 }
-    ensures sent { IfOk result (λ _. K.told out.new ≡ appended (K.told out.old) (line.now ++ codes "\n")) }
-    ensures front { IfErr result (IsFrontSent (K.told out.old) (K.told out.new) (line.now ++ codes "\n")) }
-    ensures faults { HasCause (K.faults out.old) (K.faults out.new) (is_play_fault result) }
+    ensures sent { OnOk result (K.told out.new ≡ appended (K.told out.old) (line.now ++ codes "\n")) }
+    ensures front { OnErr result (WroteFront (K.told out.old) (K.told out.new) (line.now ++ codes "\n")) }
+    ensures faults { HasCause (K.faults out.old) (K.faults out.new) (is_write_fault result) }
 {
-    match send(out, whole_line(line).as_slice()) {
-        Ok(()) => Ok(()),
-        Err(SendError::WriteFault) => Err(PlayError::WriteFault),
-        Err(SendError::NoMemory) => Err(PlayError::NoMemory),
+    send(out, whole_line(line).as_slice())
+}
+
+impl<'a> Player<'a> {
+    /// Shows the processor's registers.
+    pub(crate) fn show_reg<K: Sink>(&self, out: &mut K) -> Result<(), SendError>
+        ensures shown { OnOk result (PlayedActs (act.ShowsReg ∷ []) (K.told out.old) (K.told out.new) self.now self.now None) }
+        ensures part { OnErr result (InPart (act.ShowsReg ∷ []) (K.told out.old) (K.told out.new) self.now) }
+        ensures faults { HasCause (K.faults out.old) (K.faults out.new) (is_write_fault result) }
+    {
+        send_line(out, &reg_line(&self.bench.core))
     }
-}
 
-/// Shows the processor's registers.
-pub(crate) fn show_reg<K: Sink>(bench: &Bench, out: &mut K) -> Result<(), PlayError>
-    ensures made { IfOk result (λ _. (machine : Machine) (guard : Option (Certificate Value))
-        → AllMade machine guard (act.ShowsReg ∷ []) (K.told out.old) (K.told out.new) bench.now bench.now) }
-    ensures unmade { IfErr result (λ error. (machine : Machine) (guard : Option (Certificate Value))
-        → NotAllMade machine guard (act.ShowsReg ∷ []) (K.told out.old) (K.told out.new) bench.now error) }
-    ensures faults { HasCause (K.faults out.old) (K.faults out.new) (is_play_fault result) }
-{
-    bench.counts_fit();
-    send_line(out, &reg_line(&bench.core))
-}
+    /// Shows the cell at an address.
+    pub(crate) fn show_cell<K: Sink>(&self, address: u16, out: &mut K) -> Result<(), SendError>
+        requires { address < 4096 }
+        ensures shown { OnOk result (PlayedActs (act.ShowsCell address ∷ []) (K.told out.old) (K.told out.new) self.now self.now None) }
+        ensures part { OnErr result (InPart (act.ShowsCell address ∷ []) (K.told out.old) (K.told out.new) self.now) }
+        ensures faults { HasCause (K.faults out.old) (K.faults out.new) (is_write_fault result) }
+    {
+        send_line(out, &cell_line(address, self.bench.core.cell(address)))
+    }
 
-/// Shows the cell at an address.
-pub(crate) fn show_cell<K: Sink>(bench: &Bench, address: u16, out: &mut K) -> Result<(), PlayError>
-    requires { address < 4096 }
-    ensures made { IfOk result (λ _. (machine : Machine) (guard : Option (Certificate Value))
-        → AllMade machine guard (act.ShowsCell address ∷ []) (K.told out.old) (K.told out.new) bench.now bench.now) }
-    ensures unmade { IfErr result (λ error. (machine : Machine) (guard : Option (Certificate Value))
-        → NotAllMade machine guard (act.ShowsCell address ∷ []) (K.told out.old) (K.told out.new) bench.now error) }
-    ensures faults { HasCause (K.faults out.old) (K.faults out.new) (is_play_fault result) }
-{
-    bench.counts_fit();
-    send_line(out, &cell_line(address, bench.core.cell(address)))
-}
+    /// Shows the output register at an address.
+    pub(crate) fn show_out<K: Sink>(&self, address: u16, out: &mut K) -> Result<(), SendError>
+        requires { address < 4096 }
+        ensures shown { OnOk result (PlayedActs (act.ShowsOut address ∷ []) (K.told out.old) (K.told out.new) self.now self.now None) }
+        ensures part { OnErr result (InPart (act.ShowsOut address ∷ []) (K.told out.old) (K.told out.new) self.now) }
+        ensures faults { HasCause (K.faults out.old) (K.faults out.new) (is_write_fault result) }
+    {
+        send_line(
+            out,
+            &output_line(address, output_at(self.machine, &self.bench.core, address)),
+        )
+    }
 
-/// Shows the output register at an address.
-pub(crate) fn show_out<K: Sink>(
-    machine: &Machine,
-    bench: &Bench,
-    address: u16,
-    out: &mut K,
-) -> Result<(), PlayError>
-    requires address { address < 4096 }
-    requires outputs { length bench.now.core.outputs ≡ length machine.now.ports.outputs }
-    ensures made { IfOk result (λ _. (guard : Option (Certificate Value))
-        → AllMade machine.now guard (act.ShowsOut address ∷ []) (K.told out.old) (K.told out.new) bench.now bench.now) }
-    ensures unmade { IfErr result (λ error. (guard : Option (Certificate Value))
-        → NotAllMade machine.now guard (act.ShowsOut address ∷ []) (K.told out.old) (K.told out.new) bench.now error) }
-    ensures faults { HasCause (K.faults out.old) (K.faults out.new) (is_play_fault result) }
-{
-    bench.counts_fit();
-    let word = output_at(machine, &bench.core, address);
-    send_line(out, &output_line(address, word))
-}
-
-/// Shows the panel's display.
-pub(crate) fn show_deda<K: Sink>(bench: &Bench, out: &mut K) -> Result<(), PlayError>
-    ensures made { IfOk result (λ _. (machine : Machine) (guard : Option (Certificate Value))
-        → AllMade machine guard (act.ShowsDeda ∷ []) (K.told out.old) (K.told out.new) bench.now bench.now) }
-    ensures unmade { IfErr result (λ error. (machine : Machine) (guard : Option (Certificate Value))
-        → NotAllMade machine guard (act.ShowsDeda ∷ []) (K.told out.old) (K.told out.new) bench.now error) }
-    ensures faults { HasCause (K.faults out.old) (K.faults out.new) (is_play_fault result) }
-{
-    bench.counts_fit();
-    send_line(out, deda_line(&bench.listener.panel).as_slice())
+    /// Shows the panel's display.
+    pub(crate) fn show_deda<K: Sink>(&self, out: &mut K) -> Result<(), SendError>
+        ensures shown { OnOk result (PlayedActs (act.ShowsDeda ∷ []) (K.told out.old) (K.told out.new) self.now self.now None) }
+        ensures part { OnErr result (InPart (act.ShowsDeda ∷ []) (K.told out.old) (K.told out.new) self.now) }
+        ensures faults { HasCause (K.faults out.old) (K.faults out.new) (is_write_fault result) }
+    {
+        send_line(out, deda_line(&self.bench.listener.panel).as_slice())
+    }
 }

@@ -1,22 +1,19 @@
-//! The bench before the first act.
+//! The player before the first act.
 
-ghost use Rattle.std.specs.Prelude.{◌≡◌, ◌<◌, false, All, option_map, IfOk, IfErr, None, []};
+ghost use Rattle.std.specs.Prelude.{◌≡◌, ◌<◌, false, All, option_map, IfOk, []};
 ghost use Rattle.ags_deda.specs.Standing.{StandsFor};
-ghost use Rattle.ags_play.specs.Bench.{with_setting, with_settings, usual_location, begun_state, start_bench};
-ghost use Rattle.ags_play.specs.Guard.{IsFound};
+ghost use Rattle.ags_play.specs.Bench.{with_setting, with_settings, usual_location, begun_state};
 ghost use Rattle.ags_ports.specs.declared.machines.Machine.{Machine};
 ghost use Rattle.ags_ports.specs.State.{State, IsState};
 ghost use Rattle.ags_script.specs.Command.{lacks_port};
 ghost use Rattle.ags_script.specs.Suiting.{NamesLocation, Suits};
 ghost use Rattle.ags_run.specs.Hearing.{listening};
 ghost use Rattle.ags_run.specs.Play.{guard_of};
-ghost use Rattle.ags_run.specs.Standing.{IsBenchOf, StandsAs};
-ghost use Rattle.ags_run.specs.Starting.{IsUnbegun};
+ghost use Rattle.ags_run.specs.Playing.{Begins};
 
 use crate::benches::Bench;
-use crate::guarding::find_under_guard;
 use crate::listeners::Listener;
-use crate::play_error::PlayError;
+use crate::players::Player;
 use ags_certtype::Cert;
 use ags_core::Core;
 use ags_deda::Panel;
@@ -147,28 +144,24 @@ fn bench_with(machine: &Machine, core: Core) -> Bench
     }
 }
 
-/// The bench before the first act. Under a certificate the start must be one that it declares.
-pub(crate) fn begin(
-    alloc: Global,
-    machine: &Machine,
-    image: &Image,
-    script: &Script,
-    guard: Option<&Cert>,
-) -> Result<Bench, PlayError>
-    requires { Suits machine.now script.now }
-    ensures fitted { IfOk result (IsBenchOf machine.now) }
-    ensures stands { IfOk result (λ bench. StandsAs bench
-        (start_bench machine.now image.now (guard_of (option_map (λ cert. cert.now) guard.entry)) script.now)) }
-    ensures none { IfOk result (λ bench. (bench.listener.steps ≡ 0) × (bench.puts ≡ 0)) }
-    ensures inside { IfOk result (λ _. IsFound machine.now image.now (guard_of (option_map (λ cert. cert.now) guard.entry))
-        (begun_state machine.now image.now (guard_of (option_map (λ cert. cert.now) guard.entry)) script.now) None) }
-    ensures outside { IfErr result (IsUnbegun machine.now image.now (guard_of (option_map (λ cert. cert.now) guard.entry)) script.now) }
-{
-    let Ok(core) = begun_core(alloc, machine, image, script, guard) else {
-        return Err(PlayError::NoMemory);
-    };
-    match find_under_guard(machine, image, guard, &core) {
-        Some(outside) => Err(PlayError::StartOutside(outside)),
-        None => Ok(bench_with(machine, core)),
+impl<'a> Player<'a> {
+    /// The player before the first act.
+    pub(crate) fn begin(
+        alloc: Global,
+        machine: &'a Machine,
+        image: &Image,
+        script: &Script,
+        guard: Option<&'a Cert>,
+    ) -> Result<Player<'a>, AllocError>
+        requires { Suits machine.now script.now }
+        ensures { IfOk result (Begins machine.now image.now (guard_of (option_map (λ cert. cert.now) guard.entry)) script.now) }
+    {
+        let core = begun_core(alloc, machine, image, script, guard)?;
+        let bench = bench_with(machine, core);
+        Ok(Player {
+            machine,
+            guard,
+            bench,
+        })
     }
 }

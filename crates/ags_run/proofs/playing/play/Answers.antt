@@ -1,28 +1,25 @@
 use Rattle.std.proofs.Common.{option_map}
-use Rattle.std.proofs.lemmas.Result.{err_from_is_err_and}
-use Rattle.ags_play.specs.Bench.{start_bench}
 use Rattle.ags_run.specs.Play.{guard_of}
-use Rattle.ags_run.proofs.PlayedLemmas.{played_whole, played_less, not_begun}
+use Rattle.ags_run.proofs.PlayedLemmas.{not_begun, found_outside, played_whole, played_to, played_in_part}
 use Rattle.ags_run.proofs.playing.play.Goals as goal
 
-pub returns-in_err-bench-clause-unplayed : goal.returns-in_err-bench-clause-unplayed
-returns-in_err-bench-clause-unplayed g c =
-    let guard = guard_of (option_map (λ cert. cert.now) c.args.guard) in
-    let p = err_from_is_err_and c.from_residual.result c.from_residual.ensures.1 in
-    rw (p.1, p.2) (not_begun c.args.machine.now c.args.image.now guard c.args.script.now _ (g.K.Sink.told c.args.out.now) c.plays_are_sound.ensures.machine c.in_err-bench.ensures.outside)
+pub returns-in_default-clause-unplayed : goal.returns-in_default-clause-unplayed
+returns-in_default-clause-unplayed g c = not_begun c.args.machine.now c.args.image.now (guard_of (option_map (λ cert. cert.now) c.args.guard)) c.args.script.now (g.K.Sink.told c.args.out.now) c.plays_are_sound.ensures.machine
 
-pub returns-in_err-play_commands-clause-unplayed : goal.returns-in_err-play_commands-clause-unplayed
-returns-in_err-play_commands-clause-unplayed g c =
-    let guard = guard_of (option_map (λ cert. cert.now) c.args.guard) in
-    let b = start_bench c.args.machine.now c.args.image.now guard c.args.script.now in
-    let p = err_from_is_err_and c.from_residual-in_err-play_commands.result c.from_residual-in_err-play_commands.ensures.1 in
-    rw (p.1, p.2) (played_less c.args.machine.now c.args.image.now guard c.args.script.now _ (g.K.Sink.told c.args.out.now) (g.K.Sink.told c.play_commands.new.out) c.in_ok-bench.ensures.inside
-    (c.in_err-play_commands.ensures.unmade b c.in_ok-bench.ensures.stands))
+pub returns-in-Some-clause-unplayed : goal.returns-in-Some-clause-unplayed
+returns-in-Some-clause-unplayed g c = found_outside c.args.machine.now c.args.image.now (guard_of (option_map (λ cert. cert.now) c.args.guard)) c.args.script.now c.in-Ok.player c.in-Ok.ensures c.in-Some.outside (g.K.Sink.told c.args.out.now) c.in-Some.ensures
 
-pub returns-clause-played : goal.returns-clause-played
-returns-clause-played g c =
-    let guard = guard_of (option_map (λ cert. cert.now) c.args.guard) in
-    let b = start_bench c.args.machine.now c.args.image.now guard c.args.script.now in
-    played_whole c.args.machine.now c.args.image.now guard c.args.script.now c.in_ok-bench.bench c.play_commands.new.bench (g.K.Sink.told c.args.out.now) (g.K.Sink.told c.play_commands.new.out)
-    c.plays_are_sound.ensures.machine c.in_ok-bench.ensures.inside c.plays_are_sound.ensures.suits.steps c.plays_are_sound.ensures.commands c.in_ok-bench.ensures.none.0 c.in_ok-bench.ensures.none.1
-    (c.in_ok-play_commands.ensures.made b c.in_ok-bench.ensures.stands)
+pub returns-in-Ok-None-clause-played : goal.returns-in-Ok-None-clause-played
+returns-in-Ok-None-clause-played g c =
+    played_whole c.args.machine.now c.args.image.now (guard_of (option_map (λ cert. cert.now) c.args.guard)) c.args.script.now c.in-Ok.player c.in-Ok.ensures (g.K.Sink.told c.args.out.now) (g.K.Sink.told c.play_commands.new.out) c.play_commands.new.self c.in_default-find_outside.ensures
+    c.plays_are_sound.ensures.machine c.plays_are_sound.ensures.suits.steps c.plays_are_sound.ensures.commands c.in-Ok-None.field-0 c.in-Ok-None.field-0-is c.in-Ok-None.ensures.played
+
+pub returns-in-Ok-Some-clause-unplayed : goal.returns-in-Ok-Some-clause-unplayed
+returns-in-Ok-Some-clause-unplayed g c =
+    played_to c.args.machine.now c.args.image.now (guard_of (option_map (λ cert. cert.now) c.args.guard)) c.args.script.now c.in-Ok.player c.in-Ok.ensures (g.K.Sink.told c.args.out.now) (g.K.Sink.told c.play_commands.new.out) c.play_commands.new.self c.in-Ok-Some.field-0-0 c.in_default-find_outside.ensures c.in-Ok-Some.field-0 c.in-Ok-Some.field-0-is c.in-Ok-Some.ensures.played
+
+pub returns-in-Err-WriteFault-clause-unplayed : goal.returns-in-Err-WriteFault-clause-unplayed
+returns-in-Err-WriteFault-clause-unplayed g c = played_in_part c.args.machine.now c.args.image.now (guard_of (option_map (λ cert. cert.now) c.args.guard)) c.args.script.now c.in-Ok.player c.in-Ok.ensures (g.K.Sink.told c.args.out.now) (g.K.Sink.told c.play_commands.new.out) c.in_default-find_outside.ensures c.in-Err-WriteFault.ensures.part
+
+pub returns-clause-unplayed : goal.returns-clause-unplayed
+returns-clause-unplayed g c = played_in_part c.args.machine.now c.args.image.now (guard_of (option_map (λ cert. cert.now) c.args.guard)) c.args.script.now c.in-Ok.player c.in-Ok.ensures (g.K.Sink.told c.args.out.now) (g.K.Sink.told c.play_commands.new.out) c.in_default-find_outside.ensures c.in-Err-NoMemory.ensures.part

@@ -1,0 +1,16 @@
+use Rattle.std.proofs.lemmas.Result.{on_ok_weaker, on_err_weaker}
+use Rattle.ags_play.specs.Act as act
+use Rattle.ags_run.proofs.ShowLemmas.{reg_shown, shown_whole, shown_in_part}
+use Rattle.ags_run.proofs.players.Player.show_reg.Goals as goal
+
+pub returns-clause-shown : goal.returns-clause-shown
+returns-clause-shown g c =
+    on_ok_weaker c.send_line.result
+    (λ sent. shown_whole c.args.self.now act.ShowsReg _ (g.K.Sink.told c.args.out.now) (g.K.Sink.told c.send_line.new.out)
+    (reg_shown c.args.self.now c.reg_line.result c.reg_line.ensures) sent) c.send_line.ensures.sent
+
+pub returns-clause-part : goal.returns-clause-part
+returns-clause-part g c =
+    on_err_weaker c.send_line.result
+    (λ front. shown_in_part c.args.self.now act.ShowsReg _ (g.K.Sink.told c.args.out.now) (g.K.Sink.told c.send_line.new.out)
+    (reg_shown c.args.self.now c.reg_line.result c.reg_line.ensures) front) c.send_line.ensures.front
