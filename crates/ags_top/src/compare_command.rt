@@ -1,8 +1,8 @@
 //! The command `compare`: whether the words of a source are those of a listing.
 
-ghost use Rattle.std.specs.Prelude.{◌≡◌, ◌<◌};
+ghost use Rattle.std.specs.Prelude.{◌≡◌, ◌<◌, IfOk, Some};
+ghost use Rattle.std.specs.String.{string_bytes};
 ghost use Rattle.ags_asm.specs.Source.{card_words};
-ghost use Rattle.ags_compare.specs.declared.comparing.Compared.{Compared};
 ghost use Rattle.ags_outside.specs.Count.{HasCause};
 ghost use Rattle.ags_outside.specs.Send.{is_write_fault};
 ghost use Rattle.ags_plan.specs.Plan.{WorkAt};
@@ -17,36 +17,75 @@ use ags_compare::{Compared, compare};
 use ags_image::Image;
 use ags_outside::{SendError, Sink, send};
 use ags_program::Status;
-use ags_text::octal4;
-use ags_word::Word;
+use ags_text::FourDigits;
+use ags_word::{SixDigits, Word};
+use std::alloc::{AllocError, Global};
+use std::fmt;
 
 /// The column of a word, if there is one.
-fn word_column(word: Option<Word>) -> [u8; 6]
-    ensures { result ≡ word_column word }
-{
-    match word {
-        Some(word) => word.octal6(),
-        None => *b"------",
+#[derive(Clone, Copy)]
+struct WordColumn(Option<Word>);
+
+impl fmt::Display for WordColumn {
+    ghost output = { λ column. Some (word_column column.0) };
+
+    fn fmt<W: fmt::Write>(&self, f: &mut fmt::Formatter<W>) -> fmt::Result {
+        match self.0 {
+            Some(word) => {
+                let word = SixDigits(word);
+                write!(f, "{word}")
+            }
+            None => f.write_str("------"),
+        }
     }
 }
 
-/// The line of images that differ at a location, where they have these words.
-#[tactic(auto, unfolding(ags_program::specs::Text::compared_line))]
-fn differs_line(location: u16, left: Option<Word>, right: Option<Word>) -> [u8; 27]
-    ensures { result ≡ compared_line (Compared.Differs location left right) }
+/// The line of how two images compare, as it is printed.
+#[derive(Clone, Copy)]
+struct ComparedLine(Compared);
+
+impl fmt::Display for ComparedLine {
+    ghost output = { λ line. Some (compared_line line.0) };
+
+    #[tactic(auto, unfolding(ags_program::specs::Text::compared_line))]
+    fn fmt<W: fmt::Write>(&self, f: &mut fmt::Formatter<W>) -> fmt::Result {
+        match self.0 {
+            Compared::Equal => f.write_str("EQUAL\n"),
+            Compared::Differs {
+                location,
+                left,
+                right,
+            } => {
+                let location = FourDigits(location);
+                let left = WordColumn(left);
+                let right = WordColumn(right);
+                write!(f, "DIFFERS {location} {left} {right}\n")
+            }
+        }
+    }
+}
+
+/// The line of how two images compare.
+fn compared_line(alloc: Global, compared: &Compared) -> Result<String, AllocError>
+    ensures { IfOk result (λ line. string_bytes line ≡ compared_line compared.now) }
 {
-    let [p, q, r, s] = octal4(u32::from(location));
-    let [a, b, c, d, e, f] = word_column(left);
-    let [g, h, i, j, k, l] = word_column(right);
-    [
-        b'D', b'I', b'F', b'F', b'E', b'R', b'S', b' ', p, q, r, s, b' ', a, b, c, d, e, f, b' ',
-        g, h, i, j, k, l, b'\n',
-    ]
+    let line = ComparedLine(*compared);
+    format!(in alloc; "{line}")
+}
+
+/// The status of how two images compare.
+fn compared_status(compared: &Compared) -> Status
+    ensures { result ≡ work.compared_status compared.now }
+{
+    match compared {
+        Compared::Equal => Status::Done,
+        Compared::Differs { .. } => Status::No,
+    }
 }
 
 /// Says how the image of a source's words compares with that of a listing.
-#[tactic(auto, unfolding(ags_program::specs::Text::compared_line))]
 pub(crate) fn compare_images<K: Sink>(
+    alloc: Global,
     made: &Assembled,
     listed: &Image,
     out: &mut K,
@@ -55,18 +94,10 @@ pub(crate) fn compare_images<K: Sink>(
     ensures says { Says program (WorkAt (work.CompareImages (card_words made.now) listed.now)) (K.told out.old) (K.told out.new) result }
     ensures faults { HasCause (K.faults out.old) (K.faults out.new) (is_write_fault result) }
 {
-    match compare(&made.image, listed) {
-        Compared::Equal => {
-            send(out, b"EQUAL\n")?;
-            Ok(Status::Done)
-        }
-        Compared::Differs {
-            location,
-            left,
-            right,
-        } => {
-            send(out, &differs_line(location, left, right))?;
-            Ok(Status::No)
-        }
-    }
+    let compared = compare(&made.image, listed);
+    let Ok(line) = compared_line(alloc, &compared) else {
+        return Err(SendError::NoMemory);
+    };
+    send(out, line.as_bytes())?;
+    Ok(compared_status(&compared))
 }

@@ -90,7 +90,7 @@ impl Program for Ags {
         match work {
             Work::NoForm => say_forms(out),
             Work::WriteText { text, source } => write_text(alloc, text, &source, out),
-            Work::CompareImages { made, listed } => compare_images(&made, &listed, out),
+            Work::CompareImages { made, listed } => compare_images(alloc, &made, &listed, out),
             Work::JudgePair { pair, sequel } => judge_pair(alloc, pair, sequel, out),
             Work::PlayScript {
                 machine,
