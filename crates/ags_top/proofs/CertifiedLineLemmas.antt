@@ -30,7 +30,9 @@ use Rattle.ags_top.specs.Outcome.{Call, IsDeclaredOn, IsAcceptedPlayOn, SafeWher
 use Rattle.ags_program.specs.Program.{program, plan_of}
 use Rattle.ags_program.specs.Text.{certificate_fault_line, certified_word, edits_fault_line, fault_line, listing_fault_line, machine_fault_line, scales_fault_line, script_fault_line, times_fault_line, verdict_line}
 use Rattle.ags_program.specs.Work.{Work, Makes}
-use Rattle.ags_top.proofs.DeclaredLemmas.{guarded_told, declared_of}
+use Rattle.ags_top.proofs.DeclaredLemmas.{declared_of}
+use Rattle.ags_top.proofs.ThirdFileLemmas.{judged_with}
+use Rattle.ags_top.specs.ThirdFile.{guarded_script}
 use Rattle.ags_top.proofs.MainLemmas.{way_asked}
 
 -- the text begins as the line of a certificate that is certified does
@@ -153,6 +155,6 @@ safe_where_certified_is_written call ends source script certificate source_bytes
     let (text, status, answer, begins, front) = taken (IsAnswer program call.told (plan_of call.arguments)) call.old call.new held behind holds took (program.cause call.result) call.result ends in
     let (work, found, makes) = certified_work call.told (plan_of call.arguments) status answer.end text answer.ends answer.comes begins in
     let (machine, machine_is, valid, way) = way_asked call ends machine_file (Guard source script certificate) work asked found in
-    let guarded = guarded_told call.told machine source script certificate source_bytes script_bytes certificate_bytes text status work known also too way makes in
+    let guarded = judged_with guarded_script (λ m s c t. refl) call.told machine source certificate script source_bytes certificate_bytes script_bytes text status work known too also way makes in
     let declared = declared_of machine source_bytes script_bytes certificate_bytes text status valid guarded in
     (machine, machine_is, (text, status, safe_of_declared machine source_bytes script_bytes certificate_bytes text status begins declared, front))

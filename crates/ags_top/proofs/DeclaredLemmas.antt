@@ -1,10 +1,5 @@
 -- What is played under a certificate that is certified is a run of it.
-use Rattle.std.proofs.Common.{◌≡◌, ℕ, List, ◌++◌, Option, Some, sym, ap, subst, ◌∙◌, ◌⊎◌, inl, inr}
-use Rattle.ags_command.specs.Command.{Guard}
-use Rattle.ags_outside.specs.ToldFile.{Stored}
-use Rattle.ags_plan.specs.Walk.{Told, Agrees, LeadsTo}
-use Rattle.ags_plan.proofs.WalkLemmas.{told_bytes}
-use Rattle.ags_asm.specs.Source.{Defines}
+use Rattle.std.proofs.Common.{ℕ, List, ◌++◌, Option, Some, ap, subst, ◌∙◌, ◌⊎◌, inl, inr}
 use Rattle.ags_cert.specs.Cert.{Stated, certificate_of}
 use Rattle.ags_certread.proofs.SuitLemmas.{suits}
 use Rattle.ags_cert.specs.Text.{IsCertOf}
@@ -19,7 +14,7 @@ use Rattle.ags_play.proofs.RunOfLemmas.{play_is_run, nothing_is_played}
 use Rattle.ags_play.proofs.SafeLemmas.{safe_where_cut}
 use Rattle.ags_safe.proofs.RunLemmas.{safe}
 use Rattle.ags_script.specs.declared.commands.Command.{Command}
-use Rattle.ags_script.specs.Script.{IsScript, IsReadFor}
+use Rattle.ags_script.specs.Script.{IsReadFor}
 use Rattle.ags_script.proofs.SuitingLaws.{read_suits}
 use Rattle.ags_play.specs.Begun.{AreSettable}
 use Rattle.ags_verdict.specs.Verdict.{IsVerdict}
@@ -27,32 +22,10 @@ use Rattle.ags_verdict.specs.declared.verdicts.Verdict.{Verdict}
 use Rattle.ags_verdict.specs.declared.verdicts.Verdict.TheVariants.{Certified, Refused}
 use Rattle.ags_verdict.proofs.VerdictLemmas.{accepted_of, counted_of}
 use Rattle.ags_program.specs.declared.status.Status.{Status}
-use Rattle.ags_top.specs.Outcome.{IsGuardedOn, IsRefusedFor, IsDeclaredPlay, IsDeclaredOn}
-use Rattle.ags_program.specs.Program.{program, command_plan}
+use Rattle.ags_top.specs.Outcome.{IsRefusedFor, IsDeclaredPlay, IsDeclaredOn}
+use Rattle.ags_top.specs.ThirdFile.{guarded_script, IsJudgedWith}
 use Rattle.ags_program.specs.Text.{met_line, verdict_line}
-use Rattle.ags_program.specs.Work.{Work, PlayBehind, IsGuardedPlay, IsJudgementOf, IsPlayedBy, Makes}
-
--- the play of a told script on a told source under a told certificate
-pub guarded_told : (told : Told) (machine : Machine) (source script certificate source_bytes script_bytes certificate_bytes text : List ℕ) (status : Status) (work : Work)
-    → told source ≡ Stored source_bytes → told script ≡ Stored script_bytes → told certificate ≡ Stored certificate_bytes
-    → LeadsTo program Agrees told (command_plan machine (Guard source script certificate)) work → Makes work text status
-    → IsGuardedOn machine source_bytes script_bytes certificate_bytes text status
-guarded_told told machine source script certificate source_bytes script_bytes certificate_bytes text status work is also too
-    (assembly, (there, agrees, holds), (stated, (read, seen, has), (commands, (found, sight, suit), same))) makes =
-    let here = told_bytes (told source) source_bytes there is agrees in
-    let made : IsJudgementOf (record { machine = machine; assembly = assembly; cert = stated }) (PlayBehind commands) text status =
-    subst (λ (w : Work). Makes w text status) (sym same) makes in
-    record {
-      defined = assembly.defined;
-      defines = subst (λ (b : List ℕ). Defines machine.codes b assembly.defined) here holds.holds.defines;
-      cert = stated;
-      is_cert = subst (λ (b : List ℕ). IsCertOf machine.ports b stated) (told_bytes (told certificate) certificate_bytes read too seen) has.holds;
-      commands = commands;
-      is_script = subst (λ (b : List ℕ). IsScript machine b commands) (told_bytes (told script) script_bytes found also sight) suit.holds;
-      guarded =
-          subst (λ (b : List ℕ). IsJudgementOf (record { machine = machine; assembly = record { bytes = b; defined = assembly.defined }; cert = stated }) (PlayBehind commands) text status)
-          (holds.holds.bytes_are ∙ here) made;
-    }
+use Rattle.ags_program.specs.Work.{IsGuardedPlay, IsPlayedBy}
 
 -- what a script that was read sets and puts are locations and words
 settable : (machine : Machine) (commands : List Command) → IsReadFor machine commands → AreSettable commands
@@ -94,20 +67,20 @@ module _ (machine : Machine) (image : List (Option ℕ)) (certificate : List ℕ
   by_verdict (Refused refusal) refused played = inl (record { refusal = refusal; is_verdict = refused; text_is = played.0; status_is = played.1 })
 
 -- what is guarded is a run of the certificate, or refused
-pub declared_of : (machine : Machine) (source script certificate text : List ℕ) (status : Status) → IsMachine machine → IsGuardedOn machine source script certificate text status
+pub declared_of : (machine : Machine) (source script certificate text : List ℕ) (status : Status) → IsMachine machine → IsJudgedWith guarded_script machine source certificate script text status
     → IsDeclaredOn machine source script certificate text status
 declared_of machine source script certificate text status machine_is is =
-    let guarded = is.guarded in record {
+    let guarded = is.judgement in record {
       defined = is.defined;
       defines = is.defines;
       image = guarded.image;
       image_is = guarded.image_is;
       cert = is.cert;
       is_cert = is.is_cert;
-      commands = is.commands;
-      is_script = is.is_script;
-      comes = by_verdict machine guarded.image certificate is.cert is.commands text status machine_is guarded.image_is.is_image is.is_cert
-          (record { text = script; is_script = is.is_script })
+      commands = is.value;
+      is_script = is.holds;
+      comes = by_verdict machine guarded.image certificate is.cert is.value text status machine_is guarded.image_is.is_image is.is_cert
+          (record { text = script; is_script = is.holds })
           guarded.verdict
           guarded.is_verdict
           guarded.comes;

@@ -2,26 +2,20 @@
 use Rattle.std.proofs.Common.{◌≡◌, ℕ, ◌+◌, List, [], ◌∷◌, ◌++◌, Option, Some, None, refl, sym, ap, subst, ◌∙◌, inl, append_assoc, append-nil}
 use Rattle.std.specs.Prelude.{All, Result, Ok, Err}
 use Rattle.std.proofs.lemmas.List.Elements.{All-nil, All-cons, All-head, All-tail}
-use Rattle.ags_asm.specs.Source.{Defines}
 use Rattle.ags_cert.specs.Cert.{certificate_of}
-use Rattle.ags_cert.specs.Text.{IsCertOf}
 use Rattle.ags_certread.proofs.SuitLemmas.{suits}
 use Rattle.ags_check.specs.Judging.{Judging}
-use Rattle.ags_command.specs.Command.{Edits}
 use Rattle.ags_domain.specs.MeaningLaws.{value_lawful}
 use Rattle.ags_domain.specs.Value.{value_meaning}
 use Rattle.ags_domain.specs.declared.values.Value.{Value}
-use Rattle.ags_edits.specs.Text.{IsEditsOf, IsLawful}
+use Rattle.ags_edits.specs.Text.{IsLawful}
 use Rattle.ags_edits.specs.declared.edits.Edit.{Edit}
 use Rattle.ags_edits.proofs.MeaningLemmas.{lawful_edits}
 use Rattle.ags_image.specs.Image.{IsImage}
 use Rattle.ags_outside.specs.declared.sending.SendError.{SendError}
 use Rattle.ags_outside.specs.Sink.{appended, appended_nothing, appended_twice, WroteFront, front_in_first, front_in_second}
-use Rattle.ags_outside.specs.ToldFile.{Stored}
-use Rattle.ags_plan.proofs.WalkLemmas.{told_bytes}
 use Rattle.ags_plan.specs.Plan.{WorkAt}
 use Rattle.ags_plan.specs.Saying.{Says, SaidInPart}
-use Rattle.ags_plan.specs.Walk.{Told as ToldFiles, Agrees, LeadsTo}
 use Rattle.ags_ports.specs.Machine.{IsMachine}
 use Rattle.ags_ports.specs.declared.machines.Machine.{Machine}
 use Rattle.ags_recheck.specs.Told.{AreTold, IsTold}
@@ -38,11 +32,12 @@ use Rattle.ags_verdict.specs.declared.verdicts.Verdict.TheVariants.{Certified, R
 use Rattle.ags_program.specs.declared.status.Status.{Status}
 use Rattle.ags_program.specs.declared.status.Status.TheVariants.{Done}
 use Rattle.ags_program.specs.declared.works.ReadPair.{ReadPair}
-use Rattle.ags_program.specs.Program.{program, command_plan}
+use Rattle.ags_program.specs.Program.{program}
 use Rattle.ags_program.specs.Text.{edit_line, edit_lines, verdict_line}
 use Rattle.ags_program.specs.Views.{IsReadSource, pair_of}
-use Rattle.ags_program.specs.Work.{Work, JudgePair, EditsBehind, IsJudgementOf, Makes, edits_status, verdict_status}
-use Rattle.ags_top.specs.Outcome.{AreEditsMadeOn, IsEditedOn, IsMade}
+use Rattle.ags_program.specs.Work.{JudgePair, EditsBehind, edits_status, verdict_status}
+use Rattle.ags_top.specs.Outcome.{IsEditedOn, IsMade}
+use Rattle.ags_top.specs.ThirdFile.{text_of_edits, IsJudgedWith}
 use Rattle.ags_top.specs.Telling.{Tells, TellsInPart, TellsWhole, status_from, status_in_the_end, status_with}
 use Rattle.ags_top.proofs.JudgeLemmas.{judged_in_part, judged_whole}
 
@@ -184,28 +179,6 @@ module _ (pair : ReadPair) (edits : List Edit) (old mid new : Option (List ℕ))
 
 -- ---- what it is worth
 
--- what comes of a told text of edits for a told source under a told certificate
-pub edits_told : (told : ToldFiles) (machine : Machine) (source certificate edits source_bytes certificate_bytes edits_bytes text : List ℕ) (status : Status) (work : Work)
-    → told source ≡ Stored source_bytes → told certificate ≡ Stored certificate_bytes → told edits ≡ Stored edits_bytes
-    → LeadsTo program Agrees told (command_plan machine (Edits source certificate edits)) work → Makes work text status
-    → AreEditsMadeOn machine source_bytes certificate_bytes edits_bytes text status
-edits_told told machine source certificate edits source_bytes certificate_bytes edits_bytes text status work is too also
-    (assembly, (there, agrees, holds), (stated, (read, seen, has), (made, (found, sight, fits), same))) makes =
-    let here = told_bytes (told source) source_bytes there is agrees in
-    let done : IsJudgementOf (record { machine = machine; assembly = assembly; cert = stated }) (EditsBehind made) text status =
-    subst (λ (w : Work). Makes w text status) (sym same) makes in
-    record {
-      defined = assembly.defined;
-      defines = subst (λ (b : List ℕ). Defines machine.codes b assembly.defined) here holds.holds.defines;
-      cert = stated;
-      is_cert = subst (λ (b : List ℕ). IsCertOf machine.ports b stated) (told_bytes (told certificate) certificate_bytes read too seen) has.holds;
-      made = made;
-      are_edits = subst (λ (b : List ℕ). IsEditsOf b made) (told_bytes (told edits) edits_bytes found also sight) fits.holds;
-      judged =
-          subst (λ (b : List ℕ). IsJudgementOf (record { machine = machine; assembly = record { bytes = b; defined = assembly.defined }; cert = stated }) (EditsBehind made) text status)
-          (holds.holds.bytes_are ∙ here) done;
-    }
-
 -- What stands in the end, where the status is Done: each edit was made, and what they leave is certified.
 pub record EndsCertified (after : Judging) (told : List Told) : Type 0 where
   pub each_made : All IsMade told
@@ -246,37 +219,37 @@ machines_stay now (e ∷ edits) [] after are = absurd are
 machines_stay now (e ∷ edits) (told ∷ more) after are = machines_stay are.0 edits more after are.2 ∙ told_stays now are.0 e told are.1
 
 -- where it is done, each edit was made, and every run of what they leave is safe
-module _ (machine : Machine) (source certificate edits text : List ℕ) (valid : IsMachine machine) (its : AreEditsMadeOn machine source certificate edits text Done) where
-  ends : EndsCertified its.judged.comes.after its.judged.comes.told
-  ends = ends_certified (record { machine = machine; image = its.judged.image; cert = its.cert }) its.made its.judged.verdict its.judged.comes.told its.judged.comes.after
-      (lawful_edits edits its.made its.are_edits) its.judged.is_verdict
-      (its.is_cert.is_stated.is_cert, suits machine certificate its.cert its.is_cert) its.judged.comes.are_told its.judged.comes.status_is
+module _ (machine : Machine) (source certificate edits text : List ℕ) (valid : IsMachine machine) (its : IsJudgedWith text_of_edits machine source certificate edits text Done) where
+  ends : EndsCertified its.judgement.comes.after its.judgement.comes.told
+  ends = ends_certified (record { machine = machine; image = its.judgement.image; cert = its.cert }) its.value its.judgement.verdict its.judgement.comes.told its.judgement.comes.after
+      (lawful_edits edits its.value its.holds) its.judgement.is_verdict
+      (its.is_cert.is_stated.is_cert, suits machine certificate its.cert its.is_cert) its.judgement.comes.are_told its.judgement.comes.status_is
 
   pub safe_where_done : IsEditedOn machine source certificate edits text
   safe_where_done =
-      let after = its.judged.comes.after in
-      let same : after.machine ≡ machine = machines_stay (record { machine = machine; image = its.judged.image; cert = its.cert }) its.made its.judged.comes.told after
-      its.judged.comes.are_told in
+      let after = its.judgement.comes.after in
+      let same : after.machine ≡ machine = machines_stay (record { machine = machine; image = its.judgement.image; cert = its.cert }) its.value its.judgement.comes.told after
+      its.judgement.comes.are_told in
       let certified = subst (λ (m : Machine). IsVerdict value_meaning m after.image (certificate_of after.cert) (Certified ends.rows ends.cases)) same ends.certified in
       let accepted = accepted_of value_meaning machine after.image (certificate_of after.cert) ends.rows ends.cases certified in
       record {
         valid = valid;
         defined = its.defined;
         defines = its.defines;
-        image = its.judged.image;
-        image_is = its.judged.image_is;
+        image = its.judgement.image;
+        image_is = its.judgement.image_is;
         cert = its.cert;
         is_cert = its.is_cert;
-        made = its.made;
-        are_edits = its.are_edits;
-        told = its.judged.comes.told;
+        made = its.value;
+        are_edits = its.holds;
+        told = its.judgement.comes.told;
         after = after;
-        are_told = its.judged.comes.are_told;
+        are_told = its.judgement.comes.are_told;
         each_made = ends.each_made;
         accepted = accepted;
         safe = safe value_meaning value_lawful machine after.image (certificate_of after.cert) valid ends.stands.0.certificate
             (subst (λ (m : Machine). Suits value_meaning m (certificate_of after.cert)) same ends.stands.1) accepted;
-        verdict = its.judged.verdict;
-        is_verdict = its.judged.is_verdict;
-        text_is = its.judged.comes.text_is;
+        verdict = its.judgement.verdict;
+        is_verdict = its.judgement.is_verdict;
+        text_is = its.judgement.comes.text_is;
       }

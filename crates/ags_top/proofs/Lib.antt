@@ -11,5 +11,6 @@ pub mod MainLemmas
 pub mod PlayLemmas
 pub mod PromiseLemmas
 pub mod ScaledLemmas
+pub mod ThirdFileLemmas
 pub mod WorkloadLemmas
 pub mod WriteLemmas

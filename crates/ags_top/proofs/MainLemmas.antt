@@ -1,7 +1,7 @@
 -- What `ags_main` says, from its content: command by command and status by status.
 use Rattle.std.proofs.Common.{◌≡◌, ℕ, ◌≤◌, List, [], ◌∷◌, ◌++◌, length, ◌⊎◌, Option, Some, None, Ok, refl, sym, ap, subst, ◌∙◌, inl, inr}
 use Rattle.ags_command.specs.declared.source_texts.SourceText.{SourceText}
-use Rattle.ags_command.specs.Command.{Command, Write, Compare, Certify, Run, Guard, Budget, Scales, Edits, CommandLine, line_arguments, Asked, OnMachine, Workload, IsAsked, asked_arguments, asked_of, AreNoForm}
+use Rattle.ags_command.specs.Command.{Command, Write, Compare, Certify, Run, Guard, CommandLine, line_arguments, Asked, OnMachine, Workload, IsAsked, asked_arguments, asked_of, AreNoForm}
 use Rattle.ags_command.proofs.AskedLemmas.{asked_of-asked_arguments, asked_arguments-asked_of}
 use Rattle.ags_load.specs.Workload.{cert_text}
 use Rattle.ags_outside.specs.ToldFile.{Stored}
@@ -46,16 +46,18 @@ use Rattle.ags_script.specs.Script.{IsScript}
 use Rattle.ags_play.specs.Played.{Met, Nothing}
 use Rattle.ags_scale.specs.declared.answers.Scaled.{Scaled}
 use Rattle.ags_scale.specs.declared.answers.Scaled.TheVariants as scaled
-use Rattle.ags_top.proofs.BudgetLemmas.{budget_told, kept_where_done}
-use Rattle.ags_top.proofs.ScaledLemmas.{scales_told, tagged_where_done}
+use Rattle.ags_top.proofs.BudgetLemmas.{kept_where_done}
+use Rattle.ags_top.proofs.ScaledLemmas.{tagged_where_done}
 use Rattle.ags_recheck.specs.declared.telling.Told.{Told as ToldOf}
 use Rattle.ags_recheck.specs.declared.telling.Told.TheVariants.{Made, NotMade}
-use Rattle.ags_top.proofs.EditedLemmas.{edits_told, safe_where_done}
-use Rattle.ags_top.proofs.DeclaredLemmas.{guarded_told, declared_of}
+use Rattle.ags_top.proofs.EditedLemmas.{safe_where_done}
+use Rattle.ags_top.proofs.DeclaredLemmas.{declared_of}
+use Rattle.ags_top.proofs.ThirdFileLemmas.{IsPlanned, judged_with}
+use Rattle.ags_top.specs.ThirdFile.{ThirdFile, guarded_script, text_of_times, text_of_scales, text_of_edits, IsJudgedWith}
 use Rattle.ags_program.specs.declared.status.Status.{Status}
 use Rattle.ags_program.specs.declared.status.Status.TheVariants.{Done, No, BadMachine, BadSource, BadWords, BadCert, BadText}
 use Rattle.ags_program.specs.Files.{Kind, MachineFile, Source, Listing, Certificate, Script, Times, ScaleTags, EditList, limit_of, Refuses, refused_status}
-use Rattle.ags_top.specs.Outcome.{Call, EndsWith, IsMachineOf, WritesWhatIsDefined, IsComparedOn, ComparesWhatIsDefined, IsJudgedOn, JudgesWhatIsDefined, IsCertifiedOn, CertifiesWhatIsSafe, TellsMachine, TellsAccepted, CertifiesAccepted, IsWorkloadJudged, IsWorkloadCertified, JudgesWorkload, CertifiesWorkload, BadCertExactly, IsOneImage, EqualsWhatIsDefined, IsShownOn, PlaysWhatIsDefined, IsGuardedOn, GuardsWhatIsDefined, IsDeclaredOn, PlaysWhatIsDeclared, IsBudgetedOn, JudgesBudget, BoundsOrderTime, IsScaledOn, JudgesScales, KeepsDeclaredScales, AreEditsMadeOn, EditsToWhatIsSafe, JudgesEdits, DoneAlways, NoExactly, BadWordsExactly, FindsFault, BadMachineExactly, BadSourceExactly, BadTextExactly}
+use Rattle.ags_top.specs.Outcome.{Call, EndsWith, IsMachineOf, WritesWhatIsDefined, IsComparedOn, ComparesWhatIsDefined, IsJudgedOn, JudgesWhatIsDefined, IsCertifiedOn, CertifiesWhatIsSafe, TellsMachine, TellsAccepted, CertifiesAccepted, IsWorkloadJudged, IsWorkloadCertified, JudgesWorkload, CertifiesWorkload, BadCertExactly, IsOneImage, EqualsWhatIsDefined, IsShownOn, PlaysWhatIsDefined, GuardsWhatIsDefined, IsDeclaredOn, PlaysWhatIsDeclared, JudgesWith, HoldsWhereDone, JudgesBudget, IsBoundedOn, BoundsOrderTime, JudgesScales, IsTaggedOn, KeepsDeclaredScales, IsEditedOn, EditsToWhatIsSafe, JudgesEdits, DoneAlways, NoExactly, BadWordsExactly, FindsFault, BadMachineExactly, BadSourceExactly, BadTextExactly}
 use Rattle.ags_program.specs.Program.{program, command_plan, plan_on, workload_plan, asked_plan, plan_of}
 use Rattle.ags_top.specs.ProgramLaws.{IsWorkStatus, comes_to_no_form, lawful_program, not_refused_work}
 use Rattle.ags_program.specs.Text.{words_line, certificate_fault_line, fault_line, machine_fault_line, verdict_line, workload_line}
@@ -435,61 +437,60 @@ module _ (call : Call) (ends : Ends program (IsAnswer program call.told (plan_of
         (text, play_told call.told machine source script source_bytes script_bytes text work known too way makes, took held text holds sent),
       )
 
+  -- what a command with a third file says
+  judges_with : (file : ThirdFile) → IsPlanned file → JudgesWith file call
+  judges_with file planned source certificate third source_bytes certificate_bytes third_bytes held machine_file is asked known too also holds =
+      let (machine, machine_is, (text, judged, sent)) =
+      work_of_either machine_file (file.command source certificate third) (λ machine text status. IsJudgedWith file machine source_bytes certificate_bytes third_bytes text status) is asked
+      (λ machine text status work valid way makes.
+      judged_with file planned call.told machine source certificate third source_bytes certificate_bytes third_bytes text status work known too also way makes) in
+      (machine, machine_is, (text, judged, took held text holds sent))
+
+  -- what it is worth where it is done
+  holds_where_done : (file : ThirdFile) (Holds : Machine → (source certificate third text : List ℕ) → Type 0) → IsPlanned file
+      → ((machine : Machine) (source certificate third text : List ℕ) → IsMachine machine → IsJudgedWith file machine source certificate third text Done → Holds machine source certificate third text)
+      → HoldsWhereDone file Holds call
+  unfolding IsWorkStatus
+  holds_where_done file Holds planned worth source certificate third source_bytes certificate_bytes third_bytes machine_file is asked known too also =
+      let (machine, machine_is, valid, (text, work, way, makes, sent)) = work_with Done machine_file (file.command source certificate third) tt is asked in (
+        machine,
+        machine_is,
+        (
+          text,
+          worth machine source_bytes certificate_bytes third_bytes text valid
+              (judged_with file planned call.told machine source certificate third source_bytes certificate_bytes third_bytes text Done work known too also way makes),
+          sent,
+        ),
+      )
+
   pub guards_what_is_defined : GuardsWhatIsDefined call
   guards_what_is_defined source script certificate source_bytes script_bytes certificate_bytes held machine_file is asked known also too holds =
-      let (machine, machine_is, (text, guarded, sent)) =
-      work_of_either machine_file (Guard source script certificate) (λ machine text status. IsGuardedOn machine source_bytes script_bytes certificate_bytes text status) is asked
-      (λ machine text status work valid way makes. guarded_told call.told machine source script certificate source_bytes script_bytes certificate_bytes text status work known also too way makes) in
-      (machine, machine_is, (text, guarded, took held text holds sent))
+      judges_with guarded_script (λ machine source certificate third. refl) source certificate script source_bytes certificate_bytes script_bytes held machine_file is asked known too also holds
 
   pub plays_what_is_declared : PlaysWhatIsDeclared call
   plays_what_is_declared source script certificate source_bytes script_bytes certificate_bytes machine_file is asked known also too =
       work_of_either machine_file (Guard source script certificate) (λ machine text status. IsDeclaredOn machine source_bytes script_bytes certificate_bytes text status) is asked
       (λ machine text status work valid way makes.
       declared_of machine source_bytes script_bytes certificate_bytes text status valid
-      (guarded_told call.told machine source script certificate source_bytes script_bytes certificate_bytes text status work known also too way makes))
+      (judged_with guarded_script (λ machine source certificate third. refl) call.told machine source certificate script source_bytes certificate_bytes script_bytes text status work known too also way makes))
 
   pub judges_budget : JudgesBudget call
-  judges_budget source certificate times source_bytes certificate_bytes times_bytes held machine_file is asked known too also holds =
-      let (machine, machine_is, (text, budgeted, sent)) =
-      work_of_either machine_file (Budget source certificate times) (λ machine text status. IsBudgetedOn machine source_bytes certificate_bytes times_bytes text status) is asked
-      (λ machine text status work valid way makes. budget_told call.told machine source certificate times source_bytes certificate_bytes times_bytes text status work known too also way makes) in
-      (machine, machine_is, (text, budgeted, took held text holds sent))
+  judges_budget = judges_with text_of_times (λ machine source certificate third. refl)
 
   pub bounds_order_time : BoundsOrderTime call
-  unfolding IsWorkStatus
-  bounds_order_time source certificate times source_bytes certificate_bytes times_bytes machine_file is asked known too also =
-      let (machine, machine_is, valid, (text, work, way, makes, sent)) = work_with Done machine_file (Budget source certificate times) tt is asked in
-      let budgeted = budget_told call.told machine source certificate times source_bytes certificate_bytes times_bytes text Done work known too also way makes in
-      (machine, machine_is, (text, kept_where_done machine source_bytes certificate_bytes times_bytes text valid budgeted, sent))
+  bounds_order_time = holds_where_done text_of_times IsBoundedOn (λ machine source certificate third. refl) kept_where_done
 
   pub judges_scales : JudgesScales call
-  judges_scales source certificate scales source_bytes certificate_bytes scales_bytes held machine_file is asked known too also holds =
-      let (machine, machine_is, (text, judged, sent)) =
-      work_of_either machine_file (Scales source certificate scales) (λ machine text status. IsScaledOn machine source_bytes certificate_bytes scales_bytes text status) is asked
-      (λ machine text status work valid way makes. scales_told call.told machine source certificate scales source_bytes certificate_bytes scales_bytes text status work known too also way makes) in
-      (machine, machine_is, (text, judged, took held text holds sent))
+  judges_scales = judges_with text_of_scales (λ machine source certificate third. refl)
 
   pub keeps_declared_scales : KeepsDeclaredScales call
-  unfolding IsWorkStatus
-  keeps_declared_scales source certificate scales source_bytes certificate_bytes scales_bytes machine_file is asked known too also =
-      let (machine, machine_is, valid, (text, work, way, makes, sent)) = work_with Done machine_file (Scales source certificate scales) tt is asked in
-      let judged = scales_told call.told machine source certificate scales source_bytes certificate_bytes scales_bytes text Done work known too also way makes in
-      (machine, machine_is, (text, tagged_where_done machine source_bytes certificate_bytes scales_bytes text valid judged, sent))
+  keeps_declared_scales = holds_where_done text_of_scales IsTaggedOn (λ machine source certificate third. refl) tagged_where_done
 
   pub judges_edits : JudgesEdits call
-  judges_edits source certificate edits source_bytes certificate_bytes edits_bytes held machine_file is asked known too also holds =
-      let (machine, machine_is, (text, judged, sent)) =
-      work_of_either machine_file (Edits source certificate edits) (λ machine text status. AreEditsMadeOn machine source_bytes certificate_bytes edits_bytes text status) is asked
-      (λ machine text status work valid way makes. edits_told call.told machine source certificate edits source_bytes certificate_bytes edits_bytes text status work known too also way makes) in
-      (machine, machine_is, (text, judged, took held text holds sent))
+  judges_edits = judges_with text_of_edits (λ machine source certificate third. refl)
 
   pub edits_to_what_is_safe : EditsToWhatIsSafe call
-  unfolding IsWorkStatus
-  edits_to_what_is_safe source certificate edits source_bytes certificate_bytes edits_bytes machine_file is asked known too also =
-      let (machine, machine_is, valid, (text, work, way, makes, sent)) = work_with Done machine_file (Edits source certificate edits) tt is asked in
-      let judged = edits_told call.told machine source certificate edits source_bytes certificate_bytes edits_bytes text Done work known too also way makes in
-      (machine, machine_is, (text, safe_where_done machine source_bytes certificate_bytes edits_bytes text valid judged, sent))
+  edits_to_what_is_safe = holds_where_done text_of_edits IsEditedOn (λ machine source certificate third. refl) safe_where_done
 
   -- what is exact of a status is so of the run's end
   exactly_with : (text : List ℕ) (status : Status) → EndsExactly program call.old call.new call.result text status → EndsWith call.result status

@@ -2,6 +2,7 @@
 pub mod Listed
 pub mod Outcome
 pub mod Promises
+pub mod ThirdFile
 -- what serves inside
 pub mod Guarding
 pub mod Telling

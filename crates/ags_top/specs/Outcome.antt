@@ -38,10 +38,7 @@ use Rattle.ags_edits.specs.Text.{IsEditsOf}
 use Rattle.ags_recheck.specs.Told.{AreTold}
 use Rattle.ags_recheck.specs.declared.telling.Told.{Told}
 use Rattle.ags_recheck.specs.declared.telling.Told.TheVariants.{Made, NotMade}
-use Rattle.ags_tags.specs.Tag.{Scaling}
-use Rattle.ags_tags.specs.Text.{IsScalesOf}
 use Rattle.ags_times.specs.Budget.{IsGreatest}
-use Rattle.ags_times.specs.Text.{IsBudgetOf}
 use Rattle.ags_verdict.specs.Verdict.{IsVerdict}
 use Rattle.ags_verdict.specs.declared.verdicts.Refusal.{Refusal}
 use Rattle.ags_verdict.specs.declared.verdicts.Verdict.{Verdict}
@@ -58,8 +55,9 @@ use Rattle.ags_program.specs.declared.status.Status.TheVariants.{Done, No, BadMa
 use Rattle.ags_program.specs.Files.{Kind, MachineFile, Source, Certificate, limit_of, Refuses, refused_status}
 use Rattle.ags_program.specs.Program.{program, plan_of}
 use Rattle.ags_program.specs.Text.{certified_word, edit_lines, met_line, scaled_line, timed_line, verdict_line, words_line, workload_line}
-use Rattle.ags_program.specs.Work.{Work, ListingBefore, PlayBehind, CountsInstead, BudgetBehind, ScalesBehind, EditsBehind, IsTextOf, IsComparisonOf, IsJudgementOf, IsShownBy, met_status, Makes}
+use Rattle.ags_program.specs.Work.{Work, ListingBefore, CountsInstead, IsTextOf, IsComparisonOf, IsJudgementOf, IsShownBy, met_status, Makes}
 use Rattle.ags_listing.specs.Listing.{listing}
+use Rattle.ags_top.specs.ThirdFile.{ThirdFile, guarded_script, text_of_times, text_of_scales, text_of_edits, IsJudgedWith, IsKeptWith}
 
 -- One call of `ags_main`: what the shelf tells, the arguments, what the sink told before and after it, and the status.
 pub record Call : Type 0 where
@@ -210,17 +208,6 @@ PlaysWhatIsDefined call = (source script source_bytes script_bytes held : List �
     → call.arguments ≡ line_arguments (record { command = command.Run source script; machine = machine_file }) → call.told source ≡ Stored source_bytes → call.told script ≡ Stored script_bytes → call.old ≡ Some held
     → (machine : Machine) × IsMachineOf call.told machine_file machine × ((text : List ℕ) × IsShownOn machine source_bytes script_bytes text × (call.new ≡ Some (held ++ text)))
 
--- The source defines words, the certificate is one for the machine's registers, the script has commands for the machine, and this is
--- the text and the status of the verdict and of the play under the certificate.
-pub record IsGuardedOn (machine : Machine) (source script certificate text : List ℕ) (status : Status) : Type 0 where
-  pub defined : CardWords
-  pub defines : Defines machine.codes source defined
-  pub cert : Stated
-  pub is_cert : IsCertOf machine.ports certificate cert
-  pub commands : List Command
-  pub is_script : IsScript machine script commands
-  pub guarded : IsJudgementOf (record { machine = machine; assembly = record { bytes = source; defined = defined }; cert = cert }) (PlayBehind commands) text status
-
 -- Where the run of `guard` ends with Done or with No, and the shelf and the sink tell, the sink took the verdict of the certificate for
 -- the words that the source defines, and, where it is certified, what the script's play shows on them with the certificate as its
 -- guard, and what the play met.
@@ -230,7 +217,7 @@ GuardsWhatIsDefined call = (source script certificate source_bytes script_bytes 
     → call.arguments ≡ line_arguments (record { command = command.Guard source script certificate; machine = machine_file }) → call.told source ≡ Stored source_bytes
     → call.told script ≡ Stored script_bytes → call.told certificate ≡ Stored certificate_bytes → call.old ≡ Some held
     → (machine : Machine) × IsMachineOf call.told machine_file machine
-    × ((text : List ℕ) × IsGuardedOn machine source_bytes script_bytes certificate_bytes text call.result × (call.new ≡ Some (held ++ text)))
+    × ((text : List ℕ) × IsJudgedWith guarded_script machine source_bytes certificate_bytes script_bytes text call.result × (call.new ≡ Some (held ++ text)))
 
 -- The certificate is refused by its verdict for the image: the text is the line of that, and the answer is no.
 pub record IsRefusedFor (machine : Machine) (image : List (Option ℕ)) (cert : Stated) (text : List ℕ) (status : Status) : Type 0 where
@@ -343,138 +330,65 @@ abbrev pub CertifiesWorkload : Call → Type 0
 CertifiesWorkload call = (size : ℕ) → (1 ≤ size) × (size ≤ 400) → call.result ≡ Done → call.arguments ≡ asked_arguments (command.Workload size)
     → (text : List ℕ) × IsWorkloadCertified size text × (call.new ≡ appended call.old text)
 
--- The source defines words, the certificate is one for the machine's registers, the text of times gives these bounds, one for each of
--- its rows, and this is the text and the status of the verdict and of what comes of the bounds.
-pub record IsBudgetedOn (machine : Machine) (source certificate times text : List ℕ) (status : Status) : Type 0 where
-  pub defined : CardWords
-  pub defines : Defines machine.codes source defined
-  pub cert : Stated
-  pub is_cert : IsCertOf machine.ports certificate cert
-  pub bounds : List ℕ
-  pub is_budget : IsBudgetOf (length cert.rows) times bounds
-  pub budgeted : IsJudgementOf (record { machine = machine; assembly = record { bytes = source; defined = defined }; cert = cert }) (BudgetBehind bounds) text status
-
--- Where the run of `budget` ends with Done or with No, and the shelf and the sink tell, the sink took the verdict of the certificate for
--- the words that the source defines, and, where it is certified, what comes of the bounds of its rows: the greatest, or the first case
--- that needs more than its row's.
-abbrev pub JudgesBudget : Call → Type 0
-JudgesBudget call = (source certificate times source_bytes certificate_bytes times_bytes held : List ℕ) (machine_file : Option (List ℕ))
+-- Where the run of a command with a third file ends with Done or with No, and the shelf and the sink tell, the sink took the verdict of the
+-- certificate for the words that the source defines, and what stands with it for what the third file holds.
+abbrev pub JudgesWith : ThirdFile → Call → Type 0
+JudgesWith file call = (source certificate third source_bytes certificate_bytes third_bytes held : List ℕ) (machine_file : Option (List ℕ))
     → (call.result ≡ Done) ⊎ (call.result ≡ No)
-    → call.arguments ≡ line_arguments (record { command = command.Budget source certificate times; machine = machine_file }) → call.told source ≡ Stored source_bytes
-    → call.told certificate ≡ Stored certificate_bytes → call.told times ≡ Stored times_bytes → call.old ≡ Some held
+    → call.arguments ≡ line_arguments (record { command = file.command source certificate third; machine = machine_file }) → call.told source ≡ Stored source_bytes
+    → call.told certificate ≡ Stored certificate_bytes → call.told third ≡ Stored third_bytes → call.old ≡ Some held
     → (machine : Machine) × IsMachineOf call.told machine_file machine
-    × ((text : List ℕ) × IsBudgetedOn machine source_bytes certificate_bytes times_bytes text call.result × (call.new ≡ Some (held ++ text)))
+    × ((text : List ℕ) × IsJudgedWith file machine source_bytes certificate_bytes third_bytes text call.result × (call.new ≡ Some (held ++ text)))
 
--- The machine's tables are valid. The source defines words, the certificate is one for the machine's registers, and the text of times
--- gives these bounds, one for each of its rows. The certificate is accepted for the image of exactly these words, so that every run is
--- safe, over every list of events that it declares; and at each state of each such run the order time since the start, or since the
--- last pulse that ended a wait, is within the bound of each row that held the state then, and within 20,000 microseconds. The text
--- says that the certificate is certified, with the numbers of its rows and of its cases, which is its verdict, and behind it which is
--- the greatest bound.
-pub record IsBoundedOn (machine : Machine) (source certificate times text : List ℕ) : Type 0 where
-  pub valid : IsMachine machine
-  pub defined : CardWords
-  pub defines : Defines machine.codes source defined
-  pub image : List (Option ℕ)
-  pub image_is : IsImageOf (placed_words defined) image
-  pub cert : Stated
-  pub is_cert : IsCertOf machine.ports certificate cert
-  pub bounds : List ℕ
-  pub is_budget : IsBudgetOf (length cert.rows) times bounds
-  pub accepted : Accepted value_meaning machine image (certificate_of cert)
-  pub safe : Safe value_meaning machine image (certificate_of cert)
-  pub kept : KeepsBounds value_meaning machine image (certificate_of cert) bounds
-  pub cases : ℕ
-  pub verdict : IsVerdict value_meaning machine image (certificate_of cert) (Certified (length cert.rows) cases)
-  pub greatest : ℕ
-  pub is_greatest : IsGreatest bounds greatest
-  pub text_is : text ≡ verdict_line (Certified (length cert.rows) cases) ++ timed_line (Within (length cert.rows) cases greatest)
+-- Where the run of a command with a third file is done, and the shelf tells, this holds of the machine, of the three files and of a text; and
+-- where the sink tells, it took that text.
+abbrev pub HoldsWhereDone : ThirdFile → (Holds : Machine → (source certificate third text : List ℕ) → Type 0) → Call → Type 0
+HoldsWhereDone file Holds call = (source certificate third source_bytes certificate_bytes third_bytes : List ℕ) (machine_file : Option (List ℕ)) → call.result ≡ Done
+    → call.arguments ≡ line_arguments (record { command = file.command source certificate third; machine = machine_file }) → call.told source ≡ Stored source_bytes
+    → call.told certificate ≡ Stored certificate_bytes → call.told third ≡ Stored third_bytes
+    → (machine : Machine) × IsMachineOf call.told machine_file machine
+    × ((text : List ℕ) × Holds machine source_bytes certificate_bytes third_bytes text × (call.new ≡ appended call.old text))
+
+-- What the sink took of a run of `budget`: the verdict, and, where it is certified, what comes of the bounds of the certificate's rows: the
+-- greatest, or the first case that needs more than its row's.
+abbrev pub JudgesBudget : Call → Type 0
+JudgesBudget = JudgesWith text_of_times
+
+-- The bounds are kept: at each state of each run of the certificate the order time since the start, or since the last pulse that ended a
+-- wait, is within the bound of each row that held the state then, and within 20,000 microseconds. The line says which is the greatest
+-- bound.
+abbrev pub IsBoundedOn : Machine → (source certificate times text : List ℕ) → Type 0
+IsBoundedOn = IsKeptWith text_of_times (λ machine image cert bounds. KeepsBounds value_meaning machine image (certificate_of cert) bounds)
+    (λ machine cert bounds cases line. (greatest : ℕ) × IsGreatest bounds greatest × (line ≡ timed_line (Within (length cert.rows) cases greatest)))
 
 -- The headline of `budget`: where its run is done, and the shelf tells, the order time of each cycle stays within the bounds in every run of
 -- the words that the source defines, and every such run is safe; and where the sink tells, it took that they are certified, and the
 -- greatest bound.
 abbrev pub BoundsOrderTime : Call → Type 0
-BoundsOrderTime call = (source certificate times source_bytes certificate_bytes times_bytes : List ℕ) (machine_file : Option (List ℕ)) → call.result ≡ Done
-    → call.arguments ≡ line_arguments (record { command = command.Budget source certificate times; machine = machine_file }) → call.told source ≡ Stored source_bytes
-    → call.told certificate ≡ Stored certificate_bytes → call.told times ≡ Stored times_bytes
-    → (machine : Machine) × IsMachineOf call.told machine_file machine
-    × ((text : List ℕ) × IsBoundedOn machine source_bytes certificate_bytes times_bytes text × (call.new ≡ appended call.old text))
+BoundsOrderTime = HoldsWhereDone text_of_times IsBoundedOn
 
--- The source defines words, the certificate is one for the machine's registers, the text of scales declares these tags for them and for
--- each of its rows, and this is the text and the status of the verdict and of what comes of the scales.
-pub record IsScaledOn (machine : Machine) (source certificate scales text : List ℕ) (status : Status) : Type 0 where
-  pub defined : CardWords
-  pub defines : Defines machine.codes source defined
-  pub cert : Stated
-  pub is_cert : IsCertOf machine.ports certificate cert
-  pub declared : Scaling
-  pub is_scales : IsScalesOf machine.ports (length cert.rows) scales declared
-  pub scaled : IsJudgementOf (record { machine = machine; assembly = record { bytes = source; defined = defined }; cert = cert }) (ScalesBehind declared) text status
-
--- Where the run of `scales` ends with Done or with No, and the shelf and the sink tell, the sink took the verdict of the certificate for
--- the words that the source defines, and, where it is certified, what comes of the scales: that they agree, that no row holds the start
--- with raw tags, or the first case that mixes tags or loses them.
+-- What the sink took of a run of `scales`: the verdict, and, where it is certified, what comes of the scales: that they agree, that no row
+-- holds the start with raw tags, or the first case that mixes tags or loses them.
 abbrev pub JudgesScales : Call → Type 0
-JudgesScales call = (source certificate scales source_bytes certificate_bytes scales_bytes held : List ℕ) (machine_file : Option (List ℕ))
-    → (call.result ≡ Done) ⊎ (call.result ≡ No)
-    → call.arguments ≡ line_arguments (record { command = command.Scales source certificate scales; machine = machine_file }) → call.told source ≡ Stored source_bytes
-    → call.told certificate ≡ Stored certificate_bytes → call.told scales ≡ Stored scales_bytes → call.old ≡ Some held
-    → (machine : Machine) × IsMachineOf call.told machine_file machine
-    × ((text : List ℕ) × IsScaledOn machine source_bytes certificate_bytes scales_bytes text call.result × (call.new ≡ Some (held ++ text)))
+JudgesScales = JudgesWith text_of_scales
 
--- The machine's tables are valid. The source defines words, the certificate is one for the machine's registers, and the text of scales
--- declares these tags. The certificate is accepted for the image of exactly these words, so that every run is safe, over every list of
--- events that it declares; and no tagged run over such a run faults, so that no sum, store or output ever has two unlike tags meet, and
--- each sum, shift and product stands for what its scales say. The text says that the certificate is certified, with the numbers of its
--- rows and of its cases, which is its verdict, and behind it that the scales agree.
-pub record IsTaggedOn (machine : Machine) (source certificate scales text : List ℕ) : Type 0 where
-  pub valid : IsMachine machine
-  pub defined : CardWords
-  pub defines : Defines machine.codes source defined
-  pub image : List (Option ℕ)
-  pub image_is : IsImageOf (placed_words defined) image
-  pub cert : Stated
-  pub is_cert : IsCertOf machine.ports certificate cert
-  pub declared : Scaling
-  pub is_scales : IsScalesOf machine.ports (length cert.rows) scales declared
-  pub accepted : Accepted value_meaning machine image (certificate_of cert)
-  pub safe : Safe value_meaning machine image (certificate_of cert)
-  pub kept : KeepsScales value_meaning machine image (certificate_of cert) declared
-  pub cases : ℕ
-  pub verdict : IsVerdict value_meaning machine image (certificate_of cert) (Certified (length cert.rows) cases)
-  pub text_is : text ≡ verdict_line (Certified (length cert.rows) cases) ++ scaled_line (Agree (length cert.rows) cases)
+-- The scales are kept: no tagged run over a run of the certificate faults, so that no sum, store or output ever has two unlike tags meet,
+-- and each sum, shift and product stands for what its scales say. The line says that the scales agree.
+abbrev pub IsTaggedOn : Machine → (source certificate scales text : List ℕ) → Type 0
+IsTaggedOn = IsKeptWith text_of_scales (λ machine image cert declared. KeepsScales value_meaning machine image (certificate_of cert) declared)
+    (λ machine cert declared cases line. line ≡ scaled_line (Agree (length cert.rows) cases))
 
 -- The headline of `scales`: where its run is done, and the shelf tells, no run of the words that the source defines adds, stores or gives
 -- words of unlike scales, and every such run is safe; and where the sink tells, it took that they are certified, and that the scales
 -- agree.
 abbrev pub KeepsDeclaredScales : Call → Type 0
-KeepsDeclaredScales call = (source certificate scales source_bytes certificate_bytes scales_bytes : List ℕ) (machine_file : Option (List ℕ)) → call.result ≡ Done
-    → call.arguments ≡ line_arguments (record { command = command.Scales source certificate scales; machine = machine_file }) → call.told source ≡ Stored source_bytes
-    → call.told certificate ≡ Stored certificate_bytes → call.told scales ≡ Stored scales_bytes
-    → (machine : Machine) × IsMachineOf call.told machine_file machine
-    × ((text : List ℕ) × IsTaggedOn machine source_bytes certificate_bytes scales_bytes text × (call.new ≡ appended call.old text))
+KeepsDeclaredScales = HoldsWhereDone text_of_scales IsTaggedOn
 
--- The source defines words, the certificate is one for the machine's registers, the text of edits states these edits, and this is the text
--- and the status of the verdict and of what comes of them.
-pub record AreEditsMadeOn (machine : Machine) (source certificate edits text : List ℕ) (status : Status) : Type 0 where
-  pub defined : CardWords
-  pub defines : Defines machine.codes source defined
-  pub cert : Stated
-  pub is_cert : IsCertOf machine.ports certificate cert
-  pub made : List Edit
-  pub are_edits : IsEditsOf edits made
-  pub judged : IsJudgementOf (record { machine = machine; assembly = record { bytes = source; defined = defined }; cert = cert }) (EditsBehind made) text status
-
--- Where the run of `edits` ends with Done or with No, and the shelf and the sink tell, the sink took the verdict of the certificate for
--- the words that the source defines, and behind it a line for each edit, made one behind the other: the verdict of the edited
--- certificate for the edited words, which is what a check of them from nothing tells; or why it isn't made, and then nothing changed.
+-- What the sink took of a run of `edits`: the verdict, and behind it a line for each edit, made one behind the other: the verdict of the
+-- edited certificate for the edited words, which is what a check of them from nothing tells; or why it isn't made, and then nothing
+-- changed.
 abbrev pub JudgesEdits : Call → Type 0
-JudgesEdits call = (source certificate edits source_bytes certificate_bytes edits_bytes held : List ℕ) (machine_file : Option (List ℕ))
-    → (call.result ≡ Done) ⊎ (call.result ≡ No)
-    → call.arguments ≡ line_arguments (record { command = command.Edits source certificate edits; machine = machine_file }) → call.told source ≡ Stored source_bytes
-    → call.told certificate ≡ Stored certificate_bytes → call.told edits ≡ Stored edits_bytes → call.old ≡ Some held
-    → (machine : Machine) × IsMachineOf call.told machine_file machine
-    × ((text : List ℕ) × AreEditsMadeOn machine source_bytes certificate_bytes edits_bytes text call.result × (call.new ≡ Some (held ++ text)))
+JudgesEdits = JudgesWith text_of_edits
 
 -- the edit was made
 abbrev pub IsMade : Told → Type 0
@@ -508,11 +422,7 @@ pub record IsEditedOn (machine : Machine) (source certificate edits text : List 
 -- The headline of `edits`: where its run is done, and the shelf tells, each edit was made, and every run of the edited words is safe; and
 -- where the sink tells, it took the verdict and the line of each edit.
 abbrev pub EditsToWhatIsSafe : Call → Type 0
-EditsToWhatIsSafe call = (source certificate edits source_bytes certificate_bytes edits_bytes : List ℕ) (machine_file : Option (List ℕ)) → call.result ≡ Done
-    → call.arguments ≡ line_arguments (record { command = command.Edits source certificate edits; machine = machine_file }) → call.told source ≡ Stored source_bytes
-    → call.told certificate ≡ Stored certificate_bytes → call.told edits ≡ Stored edits_bytes
-    → (machine : Machine) × IsMachineOf call.told machine_file machine
-    × ((text : List ℕ) × IsEditedOn machine source_bytes certificate_bytes edits_bytes text × (call.new ≡ appended call.old text))
+EditsToWhatIsSafe = HoldsWhereDone text_of_edits IsEditedOn
 
 -- Where the walk over told files comes to a work that is done with Done, the run ends so, unless it stops: each file on the way
 -- is there, within its limit and without a fault.
