@@ -18,7 +18,8 @@ use Rattle.ags_top.specs.ThirdFile.{text_of_times, IsJudgedWith}
 use Rattle.ags_top.proofs.ThirdFileLemmas.{kept_with}
 
 -- where it is done, the bounds are kept
-module _ (machine : Machine) (source certificate times text : List ℕ) (valid : IsMachine machine) (its : IsJudgedWith text_of_times machine source certificate times text Done) where
+module _ (machine : Machine) (source certificate times text : List ℕ) (valid : IsMachine machine)
+    (its : IsJudgedWith text_of_times machine source certificate times text Done) where
   within : (rows cases greatest : ℕ) → IsTimed machine its.judgement.image (certificate_of its.cert) its.value (Within rows cases greatest)
       → text ≡ verdict_line its.judgement.verdict ++ timed_line (Within rows cases greatest) → IsBoundedOn machine source certificate times text
   within rows cases greatest is text_is =

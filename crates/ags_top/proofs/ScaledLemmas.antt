@@ -18,7 +18,8 @@ use Rattle.ags_top.specs.ThirdFile.{text_of_scales, IsJudgedWith}
 use Rattle.ags_top.proofs.ThirdFileLemmas.{kept_with}
 
 -- where it is done, the scales are kept
-module _ (machine : Machine) (source certificate scales text : List ℕ) (valid : IsMachine machine) (its : IsJudgedWith text_of_scales machine source certificate scales text Done) where
+module _ (machine : Machine) (source certificate scales text : List ℕ) (valid : IsMachine machine)
+    (its : IsJudgedWith text_of_scales machine source certificate scales text Done) where
   agree : (rows cases : ℕ) → IsScaled machine its.judgement.image (certificate_of its.cert) its.value (Agree rows cases)
       → text ≡ verdict_line its.judgement.verdict ++ scaled_line (Agree rows cases) → IsTaggedOn machine source certificate scales text
   agree rows cases is text_is =

@@ -30,10 +30,12 @@ use Rattle.ags_verdict.specs.declared.verdicts.Verdict.TheVariants.{Certified}
 
 -- the plan of its command is the one that reads it
 abbrev pub IsPlanned : ThirdFile → Type 0
-IsPlanned file = (machine : Machine) (source certificate third : List ℕ) → command_plan machine (file.command source certificate third) ≡ third_plan file machine source certificate third
+IsPlanned file = (machine : Machine) (source certificate third : List ℕ)
+    → command_plan machine (file.command source certificate third) ≡ third_plan file machine source certificate third
 
 -- what comes of a told third file for a told source under a told certificate, by the way to its work
-judged_on_way : (file : ThirdFile) (told : Told) (machine : Machine) (source certificate third source_bytes certificate_bytes third_bytes text : List ℕ) (status : Status) (work : Work)
+judged_on_way : (file : ThirdFile) (told : Told) (machine : Machine) (source certificate third source_bytes certificate_bytes third_bytes text : List ℕ)
+    (status : Status) (work : Work)
     → told source ≡ Stored source_bytes → told certificate ≡ Stored certificate_bytes → told third ≡ Stored third_bytes
     → LeadsTo program Agrees told (third_plan file machine source certificate third) work → Makes work text status
     → IsJudgedWith file machine source_bytes certificate_bytes third_bytes text status
@@ -51,8 +53,9 @@ judged_on_way file told machine source certificate third source_bytes certificat
       value = value;
       holds = subst (λ (b : List ℕ). Holds (file.kind machine rows) b value) (told_bytes (told third) third_bytes found also sight) fits.holds;
       judgement =
-          subst (λ (b : List ℕ). IsJudgementOf (record { machine = machine; assembly = record { bytes = b; defined = assembly.defined }; cert = stated }) (file.sequel machine rows value) text status)
-          (holds.holds.bytes_are ∙ here) made;
+          subst
+          (λ (b : List ℕ). IsJudgementOf (record { machine = machine; assembly = record { bytes = b; defined = assembly.defined }; cert = stated })
+          (file.sequel machine rows value) text status) (holds.holds.bytes_are ∙ here) made;
     }
 
 -- the same by the plan of its command
@@ -66,12 +69,14 @@ judged_with file planned told machine source certificate third source_bytes cert
     (subst (λ (p : Plan program). LeadsTo program Agrees told p work) (planned machine source certificate third) leads) makes
 
 -- where it is done, the certificate is accepted, every run is safe, and what follows of that for the value is kept
-pub kept_with : (file : ThirdFile) (Keeps : (machine : Machine) (image : List (Option ℕ)) (cert : Stated) → Value (file.kind machine (length cert.rows)) → Type 0)
+pub kept_with : (file : ThirdFile)
+    (Keeps : (machine : Machine) (image : List (Option ℕ)) (cert : Stated) → Value (file.kind machine (length cert.rows)) → Type 0)
     (IsLine : (machine : Machine) (cert : Stated) → Value (file.kind machine (length cert.rows)) → (cases : ℕ) (line : List ℕ) → Type 0)
-    (machine : Machine) (source certificate third text : List ℕ) → IsMachine machine → (its : IsJudgedWith file machine source certificate third text Done) (rows cases : ℕ) (line : List ℕ)
+    (machine : Machine) (source certificate third text : List ℕ) → IsMachine machine
+    → (its : IsJudgedWith file machine source certificate third text Done) (rows cases : ℕ) (line : List ℕ)
     → IsVerdict value_meaning machine its.judgement.image (certificate_of its.cert) (Certified rows cases)
-    → (Accepted value_meaning machine its.judgement.image (certificate_of its.cert) → Safe value_meaning machine its.judgement.image (certificate_of its.cert)
-    → Keeps machine its.judgement.image its.cert its.value)
+    → (Accepted value_meaning machine its.judgement.image (certificate_of its.cert)
+    → Safe value_meaning machine its.judgement.image (certificate_of its.cert) → Keeps machine its.judgement.image its.cert its.value)
     → (rows ≡ length its.cert.rows → IsLine machine its.cert its.value cases line)
     → text ≡ verdict_line its.judgement.verdict ++ line → IsKeptWith file Keeps IsLine machine source certificate third text
 kept_with file Keeps IsLine machine source certificate third text valid its rows cases line is keeps line_is text_is =
@@ -79,7 +84,8 @@ kept_with file Keeps IsLine machine source certificate third text valid its rows
     let cert = certificate_of its.cert in
     let counted = counted_of value_meaning machine image cert rows cases is in
     let accepted = accepted_of value_meaning machine image cert rows cases is in
-    let all_safe = safe value_meaning value_lawful machine image cert valid its.is_cert.is_stated.is_cert.certificate (suits machine certificate its.cert its.is_cert) accepted in
+    let all_safe = safe value_meaning value_lawful machine image cert valid its.is_cert.is_stated.is_cert.certificate
+    (suits machine certificate its.cert its.is_cert) accepted in
     let one = verdict_one value_meaning machine image cert value_lawful valid its.judgement.verdict (Certified rows cases) its.judgement.is_verdict is in
     record {
       valid = valid;

@@ -335,17 +335,18 @@ CertifiesWorkload call = (size : ℕ) → (1 ≤ size) × (size ≤ 400) → cal
 abbrev pub JudgesWith : ThirdFile → Call → Type 0
 JudgesWith file call = (source certificate third source_bytes certificate_bytes third_bytes held : List ℕ) (machine_file : Option (List ℕ))
     → (call.result ≡ Done) ⊎ (call.result ≡ No)
-    → call.arguments ≡ line_arguments (record { command = file.command source certificate third; machine = machine_file }) → call.told source ≡ Stored source_bytes
-    → call.told certificate ≡ Stored certificate_bytes → call.told third ≡ Stored third_bytes → call.old ≡ Some held
+    → call.arguments ≡ line_arguments (record { command = file.command source certificate third; machine = machine_file })
+    → call.told source ≡ Stored source_bytes → call.told certificate ≡ Stored certificate_bytes → call.told third ≡ Stored third_bytes → call.old ≡ Some held
     → (machine : Machine) × IsMachineOf call.told machine_file machine
     × ((text : List ℕ) × IsJudgedWith file machine source_bytes certificate_bytes third_bytes text call.result × (call.new ≡ Some (held ++ text)))
 
 -- Where the run of a command with a third file is done, and the shelf tells, this holds of the machine, of the three files and of a text; and
 -- where the sink tells, it took that text.
 abbrev pub HoldsWhereDone : ThirdFile → (Holds : Machine → (source certificate third text : List ℕ) → Type 0) → Call → Type 0
-HoldsWhereDone file Holds call = (source certificate third source_bytes certificate_bytes third_bytes : List ℕ) (machine_file : Option (List ℕ)) → call.result ≡ Done
-    → call.arguments ≡ line_arguments (record { command = file.command source certificate third; machine = machine_file }) → call.told source ≡ Stored source_bytes
-    → call.told certificate ≡ Stored certificate_bytes → call.told third ≡ Stored third_bytes
+HoldsWhereDone file Holds call = (source certificate third source_bytes certificate_bytes third_bytes : List ℕ) (machine_file : Option (List ℕ))
+    → call.result ≡ Done
+    → call.arguments ≡ line_arguments (record { command = file.command source certificate third; machine = machine_file })
+    → call.told source ≡ Stored source_bytes → call.told certificate ≡ Stored certificate_bytes → call.told third ≡ Stored third_bytes
     → (machine : Machine) × IsMachineOf call.told machine_file machine
     × ((text : List ℕ) × Holds machine source_bytes certificate_bytes third_bytes text × (call.new ≡ appended call.old text))
 

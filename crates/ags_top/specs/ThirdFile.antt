@@ -50,7 +50,8 @@ text_of_edits = record { command = Edits; kind = λ machine rows. EditList; sequ
 abbrev pub third_plan : ThirdFile → Machine → (source certificate third : List ℕ) → Plan program
 third_plan file machine source certificate third =
     pair_plan machine source certificate
-    (λ pair. Read (file.kind pair.machine (length pair.cert.rows)) third (λ value. Do (JudgePair pair (file.sequel pair.machine (length pair.cert.rows) value))))
+    (λ pair. Read (file.kind pair.machine (length pair.cert.rows)) third
+    (λ value. Do (JudgePair pair (file.sequel pair.machine (length pair.cert.rows) value))))
 
 -- The source defines words, the certificate is one for the machine's registers, the third file holds this value for the machine and the
 -- certificate's rows, and this is the text and the status of the verdict and of what stands with it.

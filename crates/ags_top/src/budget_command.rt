@@ -1,15 +1,13 @@
 //! The command `budget`: the verdict of a certificate for a source's words, and, where it is certified, what comes of the bounds of its
 //! rows on order time. The bounds are judged with a counter of their own, of which no command tells.
 
-ghost use Rattle.std.specs.Prelude.{◌≡◌, ◌<◌, ◌++◌, IfOk, OnOk, OnErr, length, codes};
+ghost use Rattle.std.specs.Prelude.{◌≡◌, ◌<◌, IfOk, length};
 ghost use Rattle.std.specs.String.{string_bytes};
 ghost use Rattle.ags_budget.specs.Timed.{IsTimed};
-ghost use Rattle.ags_budget.specs.TimedText.{timed_text};
 ghost use Rattle.ags_cert.specs.Cert.{certificate_of};
 ghost use Rattle.ags_domain.specs.Value.{value_meaning};
 ghost use Rattle.ags_outside.specs.Count.{HasCause};
 ghost use Rattle.ags_outside.specs.Send.{is_write_fault};
-ghost use Rattle.ags_outside.specs.Sink.{WroteFront, appended};
 ghost use Rattle.ags_plan.specs.Plan.{WorkAt};
 ghost use Rattle.ags_plan.specs.Saying.{Says};
 ghost use Rattle.ags_program.specs.Program.{program};
@@ -18,12 +16,12 @@ ghost use Rattle.ags_program.specs.Views.{IsReadSource, pair_of};
 ghost use Rattle.ags_program.specs.Work as work;
 ghost use Rattle.ags_verdict.specs.Verdict.{IsVerdict};
 
-use crate::verdicts::verdict_line;
+use crate::sending::send_verdict_and;
 use ags_budget::{Budget, Timed, judge};
 use ags_cert::Cert;
 use ags_check::Verdict;
 use ags_image::Image;
-use ags_outside::{SendError, Sink, send};
+use ags_outside::{SendError, Sink};
 use ags_ports::Machine;
 use ags_program::{ReadPair, Status};
 use ags_steps::Steps;
@@ -57,42 +55,24 @@ fn timed_of(machine: &Machine, image: &Image, cert: &Cert, budget: &Budget) -> T
     timed_from::<Brand>(machine, image, cert, budget, Blank::new(1))
 }
 
-/// The line of what comes of a budget.
+/// The line of what comes of a budget, which is empty where the certificate isn't certified.
 fn timed_line(alloc: Global, timed: &Timed) -> Result<String, AllocError>
-    ensures { IfOk result (λ line. string_bytes line ≡ timed_text timed.now ++ codes "\n") }
-{
-    format!(in alloc; "{timed}\n")
-}
-
-/// Says the line of what comes of a budget.
-fn say_line<K: Sink>(alloc: Global, timed: &Timed, out: &mut K) -> Result<(), SendError>
-    ensures sent { OnOk result (K.told out.new ≡ appended (K.told out.old) (timed_text timed.now ++ codes "\n")) }
-    ensures front { OnErr result (WroteFront (K.told out.old) (K.told out.new) (timed_text timed.now ++ codes "\n")) }
-    ensures faults { HasCause (K.faults out.old) (K.faults out.new) (is_write_fault result) }
-{
-    let Ok(line) = timed_line(alloc, timed) else {
-        return Err(SendError::NoMemory);
-    };
-    send(out, line.as_bytes())
-}
-
-/// Says what comes of a budget, where that has a line, and answers its status.
-fn say_timed<K: Sink>(alloc: Global, timed: &Timed, out: &mut K) -> Result<Status, SendError>
-    ensures ended { IfOk result (λ status. status ≡ work.timed_status timed.now) }
-    ensures sent { OnOk result (K.told out.new ≡ appended (K.told out.old) (timed_line timed.now)) }
-    ensures front { OnErr result (WroteFront (K.told out.old) (K.told out.new) (timed_line timed.now)) }
-    ensures faults { HasCause (K.faults out.old) (K.faults out.new) (is_write_fault result) }
+    ensures { IfOk result (λ line. string_bytes line ≡ timed_line timed.now) }
 {
     match timed {
-        Timed::Within { .. } => {
-            say_line(alloc, timed, out)?;
-            Ok(Status::Done)
-        }
-        Timed::Over { .. } => {
-            say_line(alloc, timed, out)?;
-            Ok(Status::No)
-        }
-        Timed::Unsafe(_) => Ok(Status::No),
+        Timed::Unsafe(_) => Ok(String::new(alloc)),
+        _ => format!(in alloc; "{timed}\n"),
+    }
+}
+
+/// The status of what comes of a budget.
+fn timed_status(timed: &Timed) -> Status
+    ensures { result ≡ work.timed_status timed.now }
+{
+    match timed {
+        Timed::Within { .. } => Status::Done,
+        Timed::Over { .. } => Status::No,
+        Timed::Unsafe(_) => Status::No,
     }
 }
 
@@ -111,9 +91,6 @@ pub(crate) fn judge_budget<K: Sink>(
     ensures faults { HasCause (K.faults out.old) (K.faults out.new) (is_write_fault result) }
 {
     let timed = timed_of(&pair.machine, &pair.source.made.image, &pair.cert, budget);
-    let Ok(line) = verdict_line(alloc, verdict) else {
-        return Err(SendError::NoMemory);
-    };
-    send(out, line.as_bytes())?;
-    say_timed(alloc, &timed, out)
+    send_verdict_and(alloc, verdict, timed_line(alloc, &timed), out)?;
+    Ok(timed_status(&timed))
 }

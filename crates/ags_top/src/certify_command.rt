@@ -11,10 +11,11 @@ ghost use Rattle.ags_program.specs.Views.{IsReadSource, pair_of};
 ghost use Rattle.ags_program.specs.Work as work;
 ghost use Rattle.ags_verdict.specs.Verdict.{IsVerdict};
 
+use crate::sending::send_line;
 use crate::verdicts::{verdict_line, verdict_status};
 use ags_check::Verdict;
 use ags_listing::send_listing;
-use ags_outside::{SendError, Sink, send};
+use ags_outside::{SendError, Sink};
 use ags_program::{ReadPair, Status};
 use std::alloc::Global;
 
@@ -30,10 +31,7 @@ pub(crate) fn write_judged<K: Sink>(
     ensures says { Says program (WorkAt (work.JudgePair (pair_of pair.now) work.ListingBefore)) (K.told out.old) (K.told out.new) result }
     ensures faults { HasCause (K.faults out.old) (K.faults out.new) (is_write_fault result) }
 {
-    let Ok(line) = verdict_line(alloc, verdict) else {
-        return Err(SendError::NoMemory);
-    };
     send_listing(alloc, &pair.source.bytes, &pair.source.made, out)?;
-    send(out, line.as_bytes())?;
+    send_line(verdict_line(alloc, verdict), out)?;
     Ok(verdict_status(verdict))
 }

@@ -12,10 +12,11 @@ ghost use Rattle.ags_program.specs.Text.{compared_line, word_column};
 ghost use Rattle.ags_program.specs.Views.{HasImage};
 ghost use Rattle.ags_program.specs.Work as work;
 
+use crate::sending::send_line;
 use ags_asm::Assembled;
 use ags_compare::{Compared, compare};
 use ags_image::Image;
-use ags_outside::{SendError, Sink, send};
+use ags_outside::{SendError, Sink};
 use ags_program::Status;
 use ags_text::FourDigits;
 use ags_word::{SixDigits, Word};
@@ -95,9 +96,6 @@ pub(crate) fn compare_images<K: Sink>(
     ensures faults { HasCause (K.faults out.old) (K.faults out.new) (is_write_fault result) }
 {
     let compared = compare(&made.image, listed);
-    let Ok(line) = compared_line(alloc, &compared) else {
-        return Err(SendError::NoMemory);
-    };
-    send(out, line.as_bytes())?;
+    send_line(compared_line(alloc, &compared), out)?;
     Ok(compared_status(&compared))
 }

@@ -21,9 +21,10 @@ ghost use Rattle.ags_recheck.specs.Told.{IsTold};
 ghost use Rattle.ags_recheck.specs.ToldText.{told_text};
 ghost use Rattle.ags_top.specs.Telling.{Tells, status_with, status_in_the_end};
 
+use crate::sending::send_line;
 use crate::verdicts::{verdict_line, verdict_status};
 use ags_edits::Edit;
-use ags_outside::{SendError, Sink, send};
+use ags_outside::{SendError, Sink};
 use ags_ports::laws::machine_is_made_of_tables;
 use ags_program::{ReadPair, Status};
 use ags_recheck::{Book, Told};
@@ -61,10 +62,7 @@ fn say_told<K: Sink>(
     ensures front { OnErr result (WroteFront (K.told out.old) (K.told out.new) (edit_line number told.now)) }
     ensures faults { HasCause (K.faults out.old) (K.faults out.new) (is_write_fault result) }
 {
-    let Ok(line) = edit_line(alloc, number, told) else {
-        return Err(SendError::NoMemory);
-    };
-    send(out, line.as_bytes())
+    send_line(edit_line(alloc, number, told), out)
 }
 
 /// The status after a further edit, and nothing where one wasn't made.
@@ -141,10 +139,7 @@ fn tell_from<L: Ledger, K: Sink>(
         return Err(SendError::NoMemory);
     };
     let verdict = book.verdict();
-    let Ok(line) = verdict_line(alloc, &verdict) else {
-        return Err(SendError::NoMemory);
-    };
-    send(out, line.as_bytes())?;
+    send_line(verdict_line(alloc, &verdict), out)?;
     tell_each(
         alloc,
         &mut book,

@@ -18,11 +18,12 @@ ghost use Rattle.ags_program.specs.Views.{IsReadSource, pair_of};
 ghost use Rattle.ags_program.specs.Work as work;
 ghost use Rattle.ags_verdict.specs.Verdict.{IsVerdict};
 
+use crate::sending::send_line;
 use crate::verdicts::verdict_line;
 use ags_cert::Cert;
 use ags_check::Verdict;
 use ags_image::Image;
-use ags_outside::{SendError, Sink, send};
+use ags_outside::{SendError, Sink};
 use ags_ports::Machine;
 use ags_ports::laws::machine_is_made_of_tables;
 use ags_program::{ReadPair, Status};
@@ -44,10 +45,7 @@ fn say_met<K: Sink>(alloc: Global, error: PlayError, out: &mut K) -> Result<Stat
     ensures front { OnErr result (WroteFront (K.told out.old) (K.told out.new) (error_text error ++ codes "\n")) }
     ensures faults { HasCause (K.faults out.old) (K.faults out.new) (is_write_fault result) }
 {
-    let Ok(line) = met_line(alloc, error) else {
-        return Err(SendError::NoMemory);
-    };
-    send(out, line.as_bytes())?;
+    send_line(met_line(alloc, error), out)?;
     Ok(Status::No)
 }
 
@@ -92,10 +90,7 @@ pub(crate) fn guard_script<K: Sink>(
 {
     let machine = &pair.machine;
     machine_is_made_of_tables(machine);
-    let Ok(line) = verdict_line(alloc, verdict) else {
-        return Err(SendError::NoMemory);
-    };
-    send(out, line.as_bytes())?;
+    send_line(verdict_line(alloc, verdict), out)?;
     match verdict {
         Verdict::Certified { .. } => {
             play_guarded(

@@ -1,15 +1,13 @@
 //! The command `scales`: the verdict of a certificate for a source's words, and, where it is certified, what comes of scales for it. They
 //! are judged with a counter of their own, of which no command tells.
 
-ghost use Rattle.std.specs.Prelude.{◌≡◌, ◌<◌, ◌++◌, IfOk, OnOk, OnErr, length, codes};
+ghost use Rattle.std.specs.Prelude.{◌≡◌, ◌<◌, IfOk, length};
 ghost use Rattle.std.specs.String.{string_bytes};
 ghost use Rattle.ags_scale.specs.Scaled.{IsScaled};
-ghost use Rattle.ags_scale.specs.ScaledText.{scaled_text};
 ghost use Rattle.ags_cert.specs.Cert.{certificate_of};
 ghost use Rattle.ags_domain.specs.Value.{value_meaning};
 ghost use Rattle.ags_outside.specs.Count.{HasCause};
 ghost use Rattle.ags_outside.specs.Send.{is_write_fault};
-ghost use Rattle.ags_outside.specs.Sink.{WroteFront, appended};
 ghost use Rattle.ags_plan.specs.Plan.{WorkAt};
 ghost use Rattle.ags_plan.specs.Saying.{Says};
 ghost use Rattle.ags_program.specs.Program.{program};
@@ -18,11 +16,11 @@ ghost use Rattle.ags_program.specs.Views.{IsReadSource, pair_of};
 ghost use Rattle.ags_program.specs.Work as work;
 ghost use Rattle.ags_verdict.specs.Verdict.{IsVerdict};
 
-use crate::verdicts::verdict_line;
+use crate::sending::send_verdict_and;
 use ags_cert::Cert;
 use ags_check::Verdict;
 use ags_image::Image;
-use ags_outside::{SendError, Sink, send};
+use ags_outside::{SendError, Sink};
 use ags_ports::Machine;
 use ags_program::{ReadPair, Status};
 use ags_scale::{Scaled, Scales, judge};
@@ -57,42 +55,23 @@ fn scaled_of(machine: &Machine, image: &Image, cert: &Cert, scales: &Scales) -> 
     scaled_from::<Brand>(machine, image, cert, scales, Blank::new(1))
 }
 
-/// The line of what comes of scales.
+/// The line of what comes of scales, which is empty where the certificate isn't certified.
 fn scaled_line(alloc: Global, answer: &Scaled) -> Result<String, AllocError>
-    ensures { IfOk result (λ line. string_bytes line ≡ scaled_text answer.now ++ codes "\n") }
-{
-    format!(in alloc; "{answer}\n")
-}
-
-/// Says the line of what comes of scales.
-fn say_line<K: Sink>(alloc: Global, answer: &Scaled, out: &mut K) -> Result<(), SendError>
-    ensures sent { OnOk result (K.told out.new ≡ appended (K.told out.old) (scaled_text answer.now ++ codes "\n")) }
-    ensures front { OnErr result (WroteFront (K.told out.old) (K.told out.new) (scaled_text answer.now ++ codes "\n")) }
-    ensures faults { HasCause (K.faults out.old) (K.faults out.new) (is_write_fault result) }
-{
-    let Ok(line) = scaled_line(alloc, answer) else {
-        return Err(SendError::NoMemory);
-    };
-    send(out, line.as_bytes())
-}
-
-/// Says what comes of scales, where that has a line, and answers its status.
-fn say_scaled<K: Sink>(alloc: Global, answer: &Scaled, out: &mut K) -> Result<Status, SendError>
-    ensures ended { IfOk result (λ status. status ≡ work.scaled_status answer.now) }
-    ensures sent { OnOk result (K.told out.new ≡ appended (K.told out.old) (scaled_line answer.now)) }
-    ensures front { OnErr result (WroteFront (K.told out.old) (K.told out.new) (scaled_line answer.now)) }
-    ensures faults { HasCause (K.faults out.old) (K.faults out.new) (is_write_fault result) }
+    ensures { IfOk result (λ line. string_bytes line ≡ scaled_line answer.now) }
 {
     match answer {
-        Scaled::Agree { .. } => {
-            say_line(alloc, answer, out)?;
-            Ok(Status::Done)
-        }
-        Scaled::Unsafe(_) => Ok(Status::No),
-        _ => {
-            say_line(alloc, answer, out)?;
-            Ok(Status::No)
-        }
+        Scaled::Unsafe(_) => Ok(String::new(alloc)),
+        _ => format!(in alloc; "{answer}\n"),
+    }
+}
+
+/// The status of what comes of scales.
+fn scaled_status(answer: &Scaled) -> Status
+    ensures { result ≡ work.scaled_status answer.now }
+{
+    match answer {
+        Scaled::Agree { .. } => Status::Done,
+        _ => Status::No,
     }
 }
 
@@ -111,9 +90,6 @@ pub(crate) fn judge_scales<K: Sink>(
     ensures faults { HasCause (K.faults out.old) (K.faults out.new) (is_write_fault result) }
 {
     let answer = scaled_of(&pair.machine, &pair.source.made.image, &pair.cert, scales);
-    let Ok(line) = verdict_line(alloc, verdict) else {
-        return Err(SendError::NoMemory);
-    };
-    send(out, line.as_bytes())?;
-    say_scaled(alloc, &answer, out)
+    send_verdict_and(alloc, verdict, scaled_line(alloc, &answer), out)?;
+    Ok(scaled_status(&answer))
 }

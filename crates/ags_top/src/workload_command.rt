@@ -15,10 +15,11 @@ ghost use Rattle.ags_program.specs.Views.{IsReadSource, pair_of};
 ghost use Rattle.ags_program.specs.Work as work;
 ghost use Rattle.ags_verdict.specs.Verdict.{IsVerdict};
 
+use crate::sending::send_line;
 use crate::verdicts::{verdict_line, verdict_status};
 use ags_asm::Assembled;
 use ags_check::Verdict;
-use ags_outside::{SendError, Sink, send};
+use ags_outside::{SendError, Sink};
 use ags_places::Placed;
 use ags_program::{ReadPair, Status};
 use std::alloc::{AllocError, Global};
@@ -98,9 +99,7 @@ pub(crate) fn write_counts<K: Sink>(
     ensures says { Says program (WorkAt (work.JudgePair (pair_of pair.now) (work.CountsInstead size))) (K.told out.old) (K.told out.new) result }
     ensures faults { HasCause (K.faults out.old) (K.faults out.new) (is_write_fault result) }
 {
-    let Ok(line) = counts_line(alloc, size, &pair.source.made, verdict) else {
-        return Err(SendError::NoMemory);
-    };
-    send(out, line.as_bytes())?;
+    let line = counts_line(alloc, size, &pair.source.made, verdict);
+    send_line(line, out)?;
     Ok(verdict_status(verdict))
 }
