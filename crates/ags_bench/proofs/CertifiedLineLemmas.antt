@@ -22,7 +22,7 @@ use Rattle.ags_script.specs.declared.script_errors.ScriptError.TheVariants.{At}
 use Rattle.ags_verdict.specs.Verdict.{IsVerdict}
 use Rattle.ags_verdict.specs.declared.verdicts.Verdict.{Verdict}
 use Rattle.ags_verdict.specs.declared.verdicts.Verdict.TheVariants.{Certified, Refused}
-use Rattle.ags_bench.specs.declared.status.Status.{Status}
+use Rattle.ags_program.specs.declared.status.Status.{Status}
 use Rattle.ags_bench.specs.Files.{Kind, MachineFile, Source, Certificate, Script, Refuses}
 use Rattle.ags_bench.specs.Outcome.{Call, EndsSo, IsCertified, CertifiedWhereWritten}
 use Rattle.ags_bench.specs.Program.{program, plan_of}

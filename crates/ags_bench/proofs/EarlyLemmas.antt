@@ -10,7 +10,7 @@ use Rattle.ags_plan.specs.Saying.{Says, SaidInPart, SaysEarly, IsEarly, settled}
 use Rattle.ags_plan.specs.Walk.{Agrees, EndsAt}
 use Rattle.ags_plan.proofs.RunLemmas.{said_ends}
 use Rattle.ags_plan.proofs.WalkLemmas.{some_end, way_to_refused}
-use Rattle.ags_bench.specs.declared.status.Status.{Status}
+use Rattle.ags_program.specs.declared.status.Status.{Status}
 use Rattle.ags_bench.specs.Files.{Kind, MachineFile, Source, Certificate, Script, refused_status}
 use Rattle.ags_bench.specs.Outcome.{Call, EndsSo, Undriven, Leaves}
 use Rattle.ags_bench.specs.Program.{program, plan_of}

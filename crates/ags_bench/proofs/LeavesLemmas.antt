@@ -28,8 +28,8 @@ use Rattle.ags_program.specs.Text.{verdict_line}
 use Rattle.ags_verdict.specs.Verdict.{IsVerdict}
 use Rattle.ags_verdict.specs.declared.verdicts.Verdict.{Verdict}
 use Rattle.ags_verdict.specs.declared.verdicts.Verdict.TheVariants.{Certified, Refused}
-use Rattle.ags_bench.specs.declared.status.Status.{Status}
-use Rattle.ags_bench.specs.declared.status.Status.TheVariants.{No}
+use Rattle.ags_program.specs.declared.status.Status.{Status}
+use Rattle.ags_program.specs.declared.status.Status.TheVariants.{No}
 use Rattle.ags_bench.specs.Driving.{RunMet, MetInPart, Runs, AfterVerdict, StoppedBefore, Benches}
 use Rattle.ags_bench.specs.Outcome.{Call, EndsSo, IsCertified, DroveTo, IsSent, IsSentInPart, DroveInPart, IsOpening, Undriven, Leaves}
 use Rattle.ags_bench.specs.Program.{program}

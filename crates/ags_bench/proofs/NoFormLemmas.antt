@@ -7,7 +7,7 @@ use Rattle.ags_outside.specs.declared.sending.SendError.TheVariants as send
 use Rattle.ags_plan.specs.Plan.{WorkAt}
 use Rattle.ags_plan.specs.Saying.{Says, SaidInPart, settled}
 use Rattle.ags_plan.specs.Walk.{Agrees}
-use Rattle.ags_bench.specs.declared.status.Status.{Status}
+use Rattle.ags_program.specs.declared.status.Status.{Status}
 use Rattle.ags_bench.specs.Outcome.{Call, EndsSo, Undriven, Leaves}
 use Rattle.ags_bench.specs.Program.{program}
 use Rattle.ags_bench.specs.Work.{NoForm}

@@ -9,7 +9,7 @@ use Rattle.ags_plan.specs.Outcome.{CountsOnShelf, ShelfStaysBy, StoppedAtAbsence
 use Rattle.ags_plan.specs.Plan.{Plan, End, Do, Read, Take, AbsentAt, LongAt, RefusedAt, WorkAt}
 use Rattle.ags_plan.specs.Saying.{Says, IsEarly}
 use Rattle.ags_plan.specs.Walk.{Told, Sight, Agrees, HoldsWithin, EndsAtBytes, EndsAt}
-use Rattle.ags_bench.specs.declared.status.Status.{Status}
+use Rattle.ags_program.specs.declared.status.Status.{Status}
 use Rattle.ags_bench.specs.Files.{Kind, Value}
 use Rattle.ags_bench.specs.Program.{program, plan_on, files_plan, asked_plan, plan_of}
 use Rattle.ags_bench.specs.Words.{Asked, asked_of}

@@ -11,13 +11,13 @@ use Rattle.ags_plan.specs.Saying.{Says, SaysEarly, settled}
 use Rattle.ags_plan.specs.Walk.{Agrees, EndsAt}
 use Rattle.ags_plan.proofs.RunLemmas.{said_ends, content_on_shelf, said_on_sink}
 use Rattle.ags_plan.proofs.StatusLemmas.{absent_exactly, long_exactly, ends_exactly}
-use Rattle.ags_bench.specs.declared.status.Status.{Status}
+use Rattle.ags_program.specs.declared.status.Status.{Status}
 use Rattle.ags_bench.specs.Doing.{Does}
 use Rattle.ags_bench.specs.Outcome.{Call, EndsSo, Leaves}
 use Rattle.ags_bench.specs.Program.{program, plan_of}
 use Rattle.ags_bench.specs.ProgramLaws.{lawful_program}
 use Rattle.ags_bench.specs.Promises.{Counts, Promises}
-use Rattle.ags_bench.specs.Status.{cause_of}
+use Rattle.ags_program.specs.Status.{cause_of}
 use Rattle.ags_bench.specs.Work.{Work, NoForm, DrivePair}
 use Rattle.ags_bench.proofs.CertifiedLineLemmas.{certified_where_written}
 use Rattle.ags_bench.proofs.EarlyLemmas.{early_ends, early_leaves}

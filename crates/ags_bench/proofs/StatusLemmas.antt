@@ -16,8 +16,8 @@ use Rattle.ags_program.specs.Text.{certificate_fault_line, fault_line, machine_f
 use Rattle.ags_script.specs.declared.script_errors.ScriptError.TheVariants.{At}
 use Rattle.ags_verdict.specs.declared.verdicts.Verdict.{Verdict}
 use Rattle.ags_verdict.specs.declared.verdicts.Verdict.TheVariants.{Certified, Refused}
-use Rattle.ags_bench.specs.declared.status.Status.{Status}
-use Rattle.ags_bench.specs.declared.status.Status.TheVariants.{Done, No, BadMachine, BadSource, BadWords, BadCert, BadText}
+use Rattle.ags_program.specs.declared.status.Status.{Status}
+use Rattle.ags_program.specs.declared.status.Status.TheVariants.{Done, No, BadMachine, BadSource, BadWords, BadCert, BadText}
 use Rattle.ags_bench.specs.Files.{Kind, MachineFile, Source, Certificate, Script, limit_of, Refuses, refused_status}
 use Rattle.ags_bench.specs.Outcome.{Call, EndsSo, EndsWith, DoneAlways, NoExactly, BadWordsExactly, Gives, FindsFault, BadMachineExactly, BadSourceExactly, BadCertExactly, BadTextExactly}
 use Rattle.ags_bench.specs.Program.{program, asked_plan, plan_of}

@@ -19,8 +19,8 @@ use Rattle.ags_program.specs.Text.{verdict_line}
 use Rattle.ags_run.specs.Play.{outside_of}
 use Rattle.ags_verdict.specs.declared.verdicts.Verdict.{Verdict}
 use Rattle.ags_verdict.specs.declared.verdicts.Verdict.TheVariants.{Certified, Refused}
-use Rattle.ags_bench.specs.declared.status.Status.{Status}
-use Rattle.ags_bench.specs.declared.status.Status.TheVariants.{No}
+use Rattle.ags_program.specs.declared.status.Status.{Status}
+use Rattle.ags_program.specs.declared.status.Status.TheVariants.{No}
 use Rattle.ags_bench.specs.Text.{met_line}
 use Rattle.ags_bench.specs.Work.{met_status}
 

@@ -15,8 +15,8 @@ use Rattle.ags_script.specs.declared.script_errors.ScriptKind.{ScriptKind}
 use Rattle.ags_script.specs.declared.script_errors.ScriptError.TheVariants.{At}
 use Rattle.ags_benchscript.specs.declared.commands.BenchCommand.{BenchCommand}
 use Rattle.ags_benchscript.specs.Script.{IsScript, IsFaultyScript}
-use Rattle.ags_bench.specs.declared.status.Status.{Status}
-use Rattle.ags_bench.specs.declared.status.Status.TheVariants.{BadMachine, BadSource, BadCert, BadText}
+use Rattle.ags_program.specs.declared.status.Status.{Status}
+use Rattle.ags_program.specs.declared.status.Status.TheVariants.{BadMachine, BadSource, BadCert, BadText}
 
 -- a machine file; or a source, a certificate or a bench script for a machine
 pub data Kind : Type 0 where

@@ -1,6 +1,5 @@
 -- what the public contracts cite
 pub mod Words
-pub mod Status
 pub mod Text
 pub mod Files
 pub mod Work

@@ -43,8 +43,8 @@ use Rattle.ags_verdict.specs.Verdict.{IsVerdict}
 use Rattle.ags_verdict.specs.declared.verdicts.Refusal.{Refusal}
 use Rattle.ags_verdict.specs.declared.verdicts.Verdict.{Verdict}
 use Rattle.ags_verdict.specs.declared.verdicts.Verdict.TheVariants.{Certified, Refused}
-use Rattle.ags_bench.specs.declared.status.Status.{Status}
-use Rattle.ags_bench.specs.declared.status.Status.TheVariants.{Done, No, WriteFault, BadMachine, BadSource, BadWords, BadCert, BadText, NoMemory}
+use Rattle.ags_program.specs.declared.status.Status.{Status}
+use Rattle.ags_program.specs.declared.status.Status.TheVariants.{Done, No, WriteFault, BadMachine, BadSource, BadWords, BadCert, BadText, NoMemory}
 use Rattle.ags_bench.specs.Files.{Kind, MachineFile, Source, Certificate, Script, limit_of, Refuses}
 use Rattle.ags_bench.specs.Program.{program, plan_of}
 use Rattle.ags_bench.specs.Text.{met_line}

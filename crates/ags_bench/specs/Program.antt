@@ -4,9 +4,9 @@ use Rattle.ags_device.specs.Record.{DeviceRecord}
 use Rattle.ags_plan.specs.Plan.{Definition, Plan, Do, Read}
 use Rattle.ags_ports.specs.declared.machines.Machine.{Machine}
 use Rattle.ags_ports.specs.Machine.{standard_machine}
-use Rattle.ags_bench.specs.declared.status.Status.{Status}
+use Rattle.ags_program.specs.declared.status.Status.{Status}
 use Rattle.ags_bench.specs.Files.{Kind, MachineFile, Source, Certificate, Script, Value, limit_of, Holds, Refuses, refused_status}
-use Rattle.ags_bench.specs.Status.{cause_of, stop_status}
+use Rattle.ags_program.specs.Status.{cause_of, stop_status}
 use Rattle.ags_bench.specs.Words.{Asked, asked_of}
 use Rattle.ags_bench.specs.Work.{Work, NoForm, DrivePair, Makes}
 

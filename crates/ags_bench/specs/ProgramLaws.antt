@@ -42,11 +42,11 @@ use Rattle.ags_verdict.specs.Verdict.{IsVerdict}
 use Rattle.ags_verdict.specs.declared.verdicts.Verdict.{Verdict}
 use Rattle.ags_verdict.specs.declared.verdicts.Verdict.TheVariants.{Certified, Refused}
 use Rattle.ags_verdict.proofs.VerdictLemmas.{verdict_one}
-use Rattle.ags_bench.specs.declared.status.Status.{Status}
-use Rattle.ags_bench.specs.declared.status.Status.TheVariants.{Done, No, BadWords, LongFile}
+use Rattle.ags_program.specs.declared.status.Status.{Status}
+use Rattle.ags_program.specs.declared.status.Status.TheVariants.{Done, No, BadWords, LongFile}
 use Rattle.ags_bench.specs.Files.{Kind, MachineFile, Source, Certificate, Script, Value, Holds, Refuses, refused_status}
 use Rattle.ags_bench.specs.Program.{program, files_plan, plan_on, asked_plan, plan_of}
-use Rattle.ags_bench.specs.Status.{cause_of}
+use Rattle.ags_program.specs.Status.{cause_of}
 use Rattle.ags_bench.specs.Text.{met_line}
 use Rattle.ags_bench.specs.Words.{Asked, asked_of}
 use Rattle.ags_bench.specs.Work.{Work, NoForm, DrivePair, ComesOfVerdict, met_status, Makes}

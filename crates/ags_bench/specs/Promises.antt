@@ -3,8 +3,8 @@ use Rattle.std.specs.Prelude.{◌≡◌, ℕ, List}
 use Rattle.ags_outside.specs.Count.{Rose}
 use Rattle.ags_plan.specs.Answer.{IsAnswer, TellsFiles}
 use Rattle.ags_plan.specs.Outcome.{AbsentExactly, Ends, EndsExactly, IsCleanOnShelf, IsCleanOnSink, LongExactly}
-use Rattle.ags_bench.specs.declared.status.Status.{Status}
-use Rattle.ags_bench.specs.declared.status.Status.TheVariants.{AbsentFile, ReadFault, WriteFault}
+use Rattle.ags_program.specs.declared.status.Status.{Status}
+use Rattle.ags_program.specs.declared.status.Status.TheVariants.{AbsentFile, ReadFault, WriteFault}
 use Rattle.ags_bench.specs.Outcome.{Call, BadCertExactly, BadMachineExactly, BadSourceExactly, BadTextExactly, BadWordsExactly, CertifiedWhereWritten, DoneAlways, Leaves, NoExactly}
 use Rattle.ags_bench.specs.Program.{plan_of, program}
 

@@ -5,8 +5,8 @@ use Rattle.ags_program.specs.Text.{certificate_fault_line, fault_line, machine_f
 use Rattle.ags_program.specs.Views.{IsReadSource, pair_of}
 use Rattle.ags_bench.specs.declared.refusal.Refusal.{Refusal}
 use Rattle.ags_bench.specs.declared.refusal.Refusal.TheVariants as refusal
-use Rattle.ags_bench.specs.declared.status.Status.{Status}
-use Rattle.ags_bench.specs.declared.status.Status.TheVariants.{BadMachine, BadSource, BadCert, BadText}
+use Rattle.ags_program.specs.declared.status.Status.{Status}
+use Rattle.ags_program.specs.declared.status.Status.TheVariants.{BadMachine, BadSource, BadCert, BadText}
 use Rattle.ags_bench.specs.declared.works.Work.{Work}
 use Rattle.ags_bench.specs.declared.works.Work.TheVariants as loaded
 use Rattle.ags_bench.specs.Work as work

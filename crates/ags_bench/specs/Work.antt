@@ -15,8 +15,8 @@ use Rattle.ags_program.specs.Text.{verdict_line, words_line}
 use Rattle.ags_verdict.specs.Verdict.{IsVerdict}
 use Rattle.ags_verdict.specs.declared.verdicts.Verdict.{Verdict}
 use Rattle.ags_verdict.specs.declared.verdicts.Verdict.TheVariants.{Certified, Refused}
-use Rattle.ags_bench.specs.declared.status.Status.{Status}
-use Rattle.ags_bench.specs.declared.status.Status.TheVariants.{Done, No, BadWords}
+use Rattle.ags_program.specs.declared.status.Status.{Status}
+use Rattle.ags_program.specs.declared.status.Status.TheVariants.{Done, No, BadWords}
 use Rattle.ags_bench.specs.Text.{met_line}
 
 -- it is said that the words are none of the forms; or a certificate is judged for a source's words, and, where it is certified, the

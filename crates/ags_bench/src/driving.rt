@@ -10,7 +10,6 @@ ghost use Rattle.ags_outside.specs.Count.{HasCause};
 ghost use Rattle.ags_outside.specs.Send.{is_write_fault};
 ghost use Rattle.ags_outside.specs.Sink.{WroteFront, appended};
 
-use crate::status::Status;
 use crate::verdicts::verdict_line;
 use ags_benchscript::BenchScript;
 use ags_cert::Cert;
@@ -20,7 +19,7 @@ use ags_drive::{DriveError, drive};
 use ags_image::Image;
 use ags_outside::{SendError, Sink, send};
 use ags_ports::Machine;
-use ags_program::ReadPair;
+use ags_program::{ReadPair, Status};
 use ags_run::PlayError;
 use std::alloc::{AllocError, Global};
 

@@ -3,16 +3,16 @@
 
 ghost use Rattle.std.specs.Prelude.{◌≡◌, []};
 ghost use Rattle.ags_bench.specs.Program as definition;
-ghost use Rattle.ags_bench.specs.Status.{stop_status};
+ghost use Rattle.ags_program.specs.Status.{stop_status};
 ghost use Rattle.ags_bench.specs.Views as views;
 
 use crate::loading::load_asked;
 use crate::refusal::Refusal;
-use crate::status::Status;
 use crate::words::read_words;
 use crate::works::Work;
 use ags_outside::Shelf;
 use ags_plan::{Loader, Stop, Unloaded};
+use ags_program::Status;
 use std::alloc::{AllocError, Global};
 
 /// The bench.

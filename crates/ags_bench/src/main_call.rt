@@ -14,12 +14,12 @@ ghost use Rattle.ags_plan.specs.Saying.{Says, settled};
 
 use crate::driving::drive_pair;
 use crate::loader::Bench;
-use crate::status::Status;
 use crate::verdicts::verdict_of;
 use crate::works::Work;
 use ags_device::Device;
 use ags_outside::{SendError, Shelf, Sink, send};
 use ags_plan::load_or_say;
+use ags_program::Status;
 use std::alloc::Global;
 
 /// Says that the words are none of the forms.

@@ -4,11 +4,11 @@ ghost use Rattle.std.specs.Prelude.{◌≡◌, IfOk};
 ghost use Rattle.std.specs.String.{string_bytes};
 ghost use Rattle.ags_bench.specs.Views.{line_of, status_of};
 
-use crate::status::Status;
 use ags_asm::SourceError;
 use ags_cert::CertError;
 use ags_files::RefusesBy;
 use ags_machfile::MachError;
+use ags_program::Status;
 use ags_script::ScriptError;
 use std::alloc::{AllocError, Global};
 

@@ -1,8 +1,8 @@
 -- What a run of the program comes to: the bench with the program's three devices, and the end of its output.
 use Rattle.std.specs.Prelude.{◌≡◌, ◌⊎◌, ℕ, List, ◌∷◌, Option, Some, None}
 use Rattle.ags_bench.specs.Promises.{Counts, Promises}
-use Rattle.ags_bench.specs.declared.status.Status.{Status}
-use Rattle.ags_bench.specs.declared.status.Status.TheVariants.{WriteFault, NoMemory}
+use Rattle.ags_program.specs.declared.status.Status.{Status}
+use Rattle.ags_program.specs.declared.status.Status.TheVariants.{WriteFault, NoMemory}
 use Rattle.ags_device.specs.Record.{DeviceRecord}
 use Rattle.ags_outside.specs.Count.{Rose}
 use Rattle.ags_plan.specs.Walk.{Told}
