@@ -16,5 +16,6 @@ pub(crate) struct Bench {
     pub(crate) carry: u64,
     /// How many words were put, modulo 2 ^ 64.
     pub(crate) puts: u64,
+    // so that the proofs know its range wherever a bench is named
     pub(crate) ghost counted: { puts < 2 ^ 64 },
 }

@@ -15,6 +15,7 @@ pub(crate) struct Listener {
     pub(crate) address: Option<u16>,
     /// How many steps it was told of, modulo 2 ^ 64.
     pub(crate) steps: u64,
+    // so that the proofs know its range wherever a listener is named
     pub(crate) ghost counted: { steps < 2 ^ 64 },
 }
 

@@ -56,6 +56,7 @@ fn plays_are_sound(machine: &Machine, image: &Image, script: &Script, guard: Opt
 {
     machine_is_made_of_tables(machine);
     scripts_suit_their_machine();
+    // each is read for what its type promises
     let _image = image.get(0);
     let _count = script.len();
     let _location = usual_location(guard);
