@@ -1,5 +1,5 @@
 -- What each kind of fault wants, in the words of docs/.
-use Rattle.std.specs.Prelude.{ℕ, List, [], ◌∷◌, ◌++◌, codes, if◌then◌else◌}
+use Rattle.std.specs.Prelude.{ℕ, List, [], ◌∷◌, codes, if◌then◌else◌}
 use Rattle.std.specs.Str.{bytes_eq}
 
 -- What a kind wants.
@@ -62,7 +62,7 @@ machine = record {
 abbrev pub certificate : Hints
 certificate = record {
   kinds =
-      record { kind = codes "BadLine"; wanted = codes "a line is one of the forms, their kinds in order, END last; an address has 4 octal digits and a word 6, RANGE n m is decimal; CELL, INIT, AT and LINK name erasable cells, IN and OUT registers" }
+      record { kind = codes "BadLine"; wanted = codes "in capitals and in this order come START p, CELL c value, INIT c value, IN p value, OUT p value, MAY p, then ROW p A value Q value X digits V digits with AT c value and in version 2 LINK c k behind it, and END; a value is ANY, RANGE n m or WORDS w ..; p and c have 4 octal digits, w has 6, n and m are decimal, -131072 to 131071; c is erasable, IN and OUT name registers; a comment has # in column 1" }
       ∷ record { kind = codes "Version"; wanted = codes "line 1 is AGSCERT 1 or AGSCERT 2, and there is no other version" }
       ∷ record { kind = codes "Twice"; wanted = codes "START stands once, an address once in one kind, AT once for a cell of a row, and LINK once in a row" }
       ∷ record { kind = codes "EmptyRange"; wanted = codes "RANGE n m has the lesser value first: n is m or less" }
@@ -89,7 +89,7 @@ listing = record {
 abbrev pub script : Hints
 script = record {
   kinds =
-      record { kind = codes "BadLine"; wanted = codes "START p, CELL c w and PORT p w come first, then STEP n, PULSE, SET p w, KEY k .., FEED, CYCLE n, SHOW REG, SHOW CELL c, SHOW OUT p and SHOW DEDA; p and c have 4 octal digits, w has 6, n is decimal" }
+      record { kind = codes "BadLine"; wanted = codes "START p, CELL c w and PORT p w come first, then STEP n, PULSE, SET p w, KEY k .., FEED, CYCLE n, SHOW REG, SHOW CELL c, SHOW OUT p and SHOW DEDA; p and c have 4 octal digits, w has 6, n is decimal; the c of CELL is 0000 to 3777; a comment has # in column 1" }
       ∷ record { kind = codes "NoPort"; wanted = codes "PORT and SET name an input register of the machine, SHOW OUT an output one, and FEED needs the panel's" }
       ∷ record { kind = codes "TooManySteps"; wanted = codes "the counts of all STEP lines, and 20,000 times those of all CYCLE lines, come to at most 100,000,000" }
       ∷ [];
@@ -173,7 +173,7 @@ bench_outside = record {
 abbrev pub items : List Hint
 items =
     record { kind = codes "InitRange"; wanted = codes "a cell begins as a word of its CELL line: widen that, mend the card, or write INIT where no card has a word there" }
-    ∷ record { kind = codes "StartUncovered"; wanted = codes "a row at the start has to hold 0 in A, Q, X and V, and the first word of each cell of its AT lines" }
+    ∷ record { kind = codes "StartUncovered"; wanted = codes "a row at the location of START, or at 4000 without it, has to hold 0 in A, Q, X and V, and the first word of each cell of its AT lines" }
     ∷ record { kind = codes "CodeUnknown"; wanted = codes "at an erasable cell at most 16 words may be run: name them by WORDS in an AT line of the row, or in CELL" }
     ∷ record { kind = codes "NoOrder"; wanted = codes "each word that is run has to be an order: let no way lead to another word, or state fewer words of the cell" }
     ∷ record { kind = codes "BadPort"; wanted = codes "INP names an input register of the machine, and OUT an output register; /2001 is octal, and 2001 decimal" }

@@ -80,7 +80,7 @@ pub(crate) fn certificate(kind: &str) -> &'static str
 {
     match kind {
         "BadLine" => {
-            "a line is one of the forms, their kinds in order, END last; an address has 4 octal digits and a word 6, RANGE n m is decimal; CELL, INIT, AT and LINK name erasable cells, IN and OUT registers"
+            "in capitals and in this order come START p, CELL c value, INIT c value, IN p value, OUT p value, MAY p, then ROW p A value Q value X digits V digits with AT c value and in version 2 LINK c k behind it, and END; a value is ANY, RANGE n m or WORDS w ..; p and c have 4 octal digits, w has 6, n and m are decimal, -131072 to 131071; c is erasable, IN and OUT name registers; a comment has # in column 1"
         }
         "Version" => "line 1 is AGSCERT 1 or AGSCERT 2, and there is no other version",
         "Twice" => {
@@ -119,7 +119,7 @@ pub(crate) fn script(kind: &str) -> &'static str
 {
     match kind {
         "BadLine" => {
-            "START p, CELL c w and PORT p w come first, then STEP n, PULSE, SET p w, KEY k .., FEED, CYCLE n, SHOW REG, SHOW CELL c, SHOW OUT p and SHOW DEDA; p and c have 4 octal digits, w has 6, n is decimal"
+            "START p, CELL c w and PORT p w come first, then STEP n, PULSE, SET p w, KEY k .., FEED, CYCLE n, SHOW REG, SHOW CELL c, SHOW OUT p and SHOW DEDA; p and c have 4 octal digits, w has 6, n is decimal; the c of CELL is 0000 to 3777; a comment has # in column 1"
         }
         "NoPort" => {
             "PORT and SET name an input register of the machine, SHOW OUT an output one, and FEED needs the panel's"
@@ -241,7 +241,7 @@ fn item_or(otherwise: &'static str, kind: &str) -> &'static str
             "a cell begins as a word of its CELL line: widen that, mend the card, or write INIT where no card has a word there"
         }
         "StartUncovered" => {
-            "a row at the start has to hold 0 in A, Q, X and V, and the first word of each cell of its AT lines"
+            "a row at the location of START, or at 4000 without it, has to hold 0 in A, Q, X and V, and the first word of each cell of its AT lines"
         }
         "CodeUnknown" => {
             "at an erasable cell at most 16 words may be run: name them by WORDS in an AT line of the row, or in CELL"

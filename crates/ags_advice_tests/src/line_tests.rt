@@ -71,7 +71,7 @@ const LINES: [(&str, &str); 80] = [
     ),
     (
         "CERTIFICATE LINE 7 ERROR 1 BadLine\n",
-        "F:7: BadLine: a line is one of the forms, their kinds in order, END last; an address has 4 octal digits and a word 6, RANGE n m is decimal; CELL, INIT, AT and LINK name erasable cells, IN and OUT registers",
+        "F:7: BadLine: in capitals and in this order come START p, CELL c value, INIT c value, IN p value, OUT p value, MAY p, then ROW p A value Q value X digits V digits with AT c value and in version 2 LINK c k behind it, and END; a value is ANY, RANGE n m or WORDS w ..; p and c have 4 octal digits, w has 6, n and m are decimal, -131072 to 131071; c is erasable, IN and OUT name registers; a comment has # in column 1",
     ),
     (
         "CERTIFICATE LINE 8 ERROR 2 Version\n",
@@ -115,7 +115,7 @@ const LINES: [(&str, &str); 80] = [
     ),
     (
         "SCRIPT LINE 7 ERROR 1 BadLine\n",
-        "F:7: BadLine: START p, CELL c w and PORT p w come first, then STEP n, PULSE, SET p w, KEY k .., FEED, CYCLE n, SHOW REG, SHOW CELL c, SHOW OUT p and SHOW DEDA; p and c have 4 octal digits, w has 6, n is decimal",
+        "F:7: BadLine: START p, CELL c w and PORT p w come first, then STEP n, PULSE, SET p w, KEY k .., FEED, CYCLE n, SHOW REG, SHOW CELL c, SHOW OUT p and SHOW DEDA; p and c have 4 octal digits, w has 6, n is decimal; the c of CELL is 0000 to 3777; a comment has # in column 1",
     ),
     (
         "SCRIPT LINE 8 ERROR 2 NoPort\n",
@@ -211,7 +211,7 @@ const LINES: [(&str, &str); 80] = [
     ),
     (
         "REFUSED 2 StartUncovered\n",
-        "C: StartUncovered: a row at the start has to hold 0 in A, Q, X and V, and the first word of each cell of its AT lines (docs/CHECKER.md, The verdict)",
+        "C: StartUncovered: a row at the location of START, or at 4000 without it, has to hold 0 in A, Q, X and V, and the first word of each cell of its AT lines (docs/CHECKER.md, The verdict)",
     ),
     (
         "REFUSED 3 CodeUnknown ROW 5\n",
