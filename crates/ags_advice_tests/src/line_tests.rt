@@ -1,10 +1,23 @@
-//! What is said of each line that tells how a run ended: one row a kind.
+//! What is said of each line that tells how a run ended: one row a kind, in tables of a few rows, since the proof of a test grows with
+//! the table that it reads.
 
 use crate::common::{expect_said, seen_of};
 use ags_advice::Program;
+use std::alloc::Global;
+use std::process::Abort;
 
-/// The last line of an output of `ags`, where the file looked for last is F, and what is said of it.
-const LINES: [(&str, &str); 80] = [
+/// The last line of an output, where the certificate is C and the file looked for last is F, and what is said of it.
+type Row = (&'static str, &'static str);
+
+/// Expects what is said of each line.
+fn expect_lines(rt: &impl Abort, alloc: Global, program: Program, rows: &[Row]) {
+    for &(line, said) in rows {
+        expect_said(rt, alloc, program, 1, seen_of(line), Some(said));
+    }
+}
+
+/// Faults of a source, the first eight kinds.
+const SOURCE_1: [Row; 8] = [
     (
         "SOURCE CARD 0000029 ERROR 1 BadByte\n",
         "F:29: BadByte: a card, a comment too, has tabs and the characters from the space to the tilde, and no other byte",
@@ -37,6 +50,15 @@ const LINES: [(&str, &str); 80] = [
         "SOURCE CARD 0000036 ERROR 8 BadDecimal\n",
         "F:36: BadDecimal: a number of DEC is as -1.5E2B10: 1 to 10 digits, E and B or none, net power of ten -12 to 12, scale -30 to 60; no blank stands behind a comma",
     ),
+];
+
+#[test]
+fn source_1_lines_say_what_is_wanted(rt: HostRuntime) {
+    expect_lines(&rt, rt.alloc(), Program::Ags, &SOURCE_1);
+}
+
+/// Faults of a source, the other kinds.
+const SOURCE_2: [Row; 8] = [
     (
         "SOURCE CARD 0000037 ERROR 9 BadOctal\n",
         "F:37: BadOctal: each number of OCT is an optional sign and 1 to 6 octal digits, with a comma between each two",
@@ -69,6 +91,15 @@ const LINES: [(&str, &str); 80] = [
         "SOURCE CARD 0000044 ERROR 16 PlaceTwice 0000007\n",
         "F:44: PlaceTwice 0000007: a place has the word of one card alone",
     ),
+];
+
+#[test]
+fn source_2_lines_say_what_is_wanted(rt: HostRuntime) {
+    expect_lines(&rt, rt.alloc(), Program::Ags, &SOURCE_2);
+}
+
+/// Faults of a certificate, the first kinds.
+const CERTIFICATE_1: [Row; 5] = [
     (
         "CERTIFICATE LINE 7 ERROR 1 BadLine\n",
         "F:7: BadLine: in capitals and in this order come START p, CELL c value, INIT c value, IN p value, OUT p value, MAY p, then ROW p A value Q value X digits V digits with AT c value and in version 2 LINK c k behind it, and END; a value is ANY, RANGE n m or WORDS w ..; p and c have 4 octal digits, w has 6, n and m are decimal, -131072 to 131071; c is erasable, IN and OUT name registers; a comment has # in column 1",
@@ -89,6 +120,15 @@ const LINES: [(&str, &str); 80] = [
         "CERTIFICATE LINE 11 ERROR 5 OutsideGlobal\n",
         "F:11: OutsideGlobal: each word that INIT or AT states of a cell is one of its CELL line: narrow the one, or widen the other",
     ),
+];
+
+#[test]
+fn certificate_1_lines_say_what_is_wanted(rt: HostRuntime) {
+    expect_lines(&rt, rt.alloc(), Program::Ags, &CERTIFICATE_1);
+}
+
+/// Faults of a certificate, the other kinds, and its first line.
+const CERTIFICATE_2: [Row; 5] = [
     (
         "CERTIFICATE LINE 12 ERROR 6 NoZero\n",
         "F:12: NoZero: an input register that holds its word once is 0 when it was read, so the value of its IN line holds 0",
@@ -105,6 +145,19 @@ const LINES: [(&str, &str); 80] = [
         "CERTIFICATE LINE 15 ERROR 9 NoRows\n",
         "F:15: NoRows: a certificate has a ROW line before END, one at least",
     ),
+    (
+        "CERTIFICATE LINE 1 ERROR 1 BadLine\n",
+        "F:1: BadLine: this is read as a certificate, whose line 1 is AGSCERT 1 or AGSCERT 2",
+    ),
+];
+
+#[test]
+fn certificate_2_lines_say_what_is_wanted(rt: HostRuntime) {
+    expect_lines(&rt, rt.alloc(), Program::Ags, &CERTIFICATE_2);
+}
+
+/// Faults of a listing and of a script.
+const TEXT: [Row; 5] = [
     (
         "LISTING LINE 7 ERROR 1 BadLine\n",
         "F:7: BadLine: columns 1-7 are digits, 9-12 and 14-19 octal digits in both or spaces in both, 8, 13 and 20 spaces",
@@ -125,6 +178,15 @@ const LINES: [(&str, &str); 80] = [
         "SCRIPT LINE 9 ERROR 3 TooManySteps\n",
         "F:9: TooManySteps: the counts of all STEP lines, and 20,000 times those of all CYCLE lines, come to at most 100,000,000",
     ),
+];
+
+#[test]
+fn text_lines_say_what_is_wanted(rt: HostRuntime) {
+    expect_lines(&rt, rt.alloc(), Program::Ags, &TEXT);
+}
+
+/// Faults of a text of times, and of one of scales.
+const TIMES_AND_SCALES_1: [Row; 6] = [
     (
         "TIMES LINE 7 ERROR 1 BadLine\n",
         "F:7: BadLine: a line is TIME r n, both of 1 to 5 digits, and END is last",
@@ -149,6 +211,15 @@ const LINES: [(&str, &str); 80] = [
         "SCALES LINE 7 ERROR 1 BadLine\n",
         "F:7: BadLine: a line is CELL c n, IN p n, OUT p n or ROW r a q, and END is last; c and p have 4 octal digits, n is -128 to 127, a and q are ANY, RAW or as n; IN and OUT name registers",
     ),
+];
+
+#[test]
+fn times_and_scales_1_lines_say_what_is_wanted(rt: HostRuntime) {
+    expect_lines(&rt, rt.alloc(), Program::Ags, &TIMES_AND_SCALES_1);
+}
+
+/// The same, further kinds, and their first lines.
+const TIMES_AND_SCALES_2: [Row; 5] = [
     (
         "SCALES LINE 8 ERROR 2 Version\n",
         "F:8: Version: line 1 is AGSSCALE 1, and there is no other version",
@@ -161,6 +232,23 @@ const LINES: [(&str, &str); 80] = [
         "SCALES LINE 10 ERROR 4 NoRow\n",
         "F:10: NoRow: the r of ROW r a q is the number of a row of the certificate, counted from 1",
     ),
+    (
+        "TIMES LINE 1 ERROR 1 BadLine\n",
+        "F:1: BadLine: this is read as a text of times, whose line 1 is AGSTIME 1",
+    ),
+    (
+        "SCALES LINE 1 ERROR 1 BadLine\n",
+        "F:1: BadLine: this is read as a text of scales, whose line 1 is AGSSCALE 1",
+    ),
+];
+
+#[test]
+fn times_and_scales_2_lines_say_what_is_wanted(rt: HostRuntime) {
+    expect_lines(&rt, rt.alloc(), Program::Ags, &TIMES_AND_SCALES_2);
+}
+
+/// Faults of a text of edits, and its first line.
+const EDITS: [Row; 7] = [
     (
         "EDITS LINE 7 ERROR 1 BadLine\n",
         "F:7: BadLine: a line is WORD p w, CELL c value or ROW r p A .. (the row's number, then its location), with its AT and LINK lines behind it, and END is last; CELL, AT and LINK name erasable cells",
@@ -186,6 +274,19 @@ const LINES: [(&str, &str); 80] = [
         "F:12: TooManyEdits: a text of edits has at most 10,000 edits",
     ),
     (
+        "EDITS LINE 1 ERROR 1 BadLine\n",
+        "F:1: BadLine: this is read as a text of edits, whose line 1 is AGSEDIT 1",
+    ),
+];
+
+#[test]
+fn edits_lines_say_what_is_wanted(rt: HostRuntime) {
+    expect_lines(&rt, rt.alloc(), Program::Ags, &EDITS);
+}
+
+/// Faults of a machine file.
+const MACHINE: [Row; 5] = [
+    (
         "MACHINE ERROR 1 NotToml\n",
         "F: NotToml: a machine file is one TOML document in UTF-8; an empty one gives the standard machine",
     ),
@@ -205,6 +306,15 @@ const LINES: [(&str, &str); 80] = [
         "MACHINE ERROR 5 SamePort 2001\n",
         "F: SamePort 2001: no two registers of one direction have one address; an input and an output register may",
     ),
+];
+
+#[test]
+fn machine_lines_say_what_is_wanted(rt: HostRuntime) {
+    expect_lines(&rt, rt.alloc(), Program::Ags, &MACHINE);
+}
+
+/// Items of the verdict, the first five.
+const REFUSAL_1: [Row; 5] = [
     (
         "REFUSED 1 InitRange 0017 000000\n",
         "C: InitRange 0017 000000: a cell begins as a word of its CELL line: widen that, mend the card, or write INIT where no card has a word there (docs/CHECKER.md, The verdict)",
@@ -225,6 +335,15 @@ const LINES: [(&str, &str); 80] = [
         "REFUSED 5 BadPort ROW 1 WORD 642003\n",
         "C: BadPort ROW 1 WORD 642003: INP names an input register of the machine, and OUT an output register; /2001 is octal, and 2001 decimal (docs/CHECKER.md, The verdict)",
     ),
+];
+
+#[test]
+fn refusal_1_lines_say_what_is_wanted(rt: HostRuntime) {
+    expect_lines(&rt, rt.alloc(), Program::Ags, &REFUSAL_1);
+}
+
+/// Items of the verdict, the other five.
+const REFUSAL_2: [Row; 5] = [
     (
         "REFUSED 6 FixedWrite ROW 1 WORD 304000 AT 4000\n",
         "C: FixedWrite ROW 1 WORD 304000 AT 4000: a store goes to an erasable cell, 0000 to 3777: mend the address, or allow fewer words of a cell that is run (docs/CHECKER.md, The verdict)",
@@ -245,6 +364,15 @@ const LINES: [(&str, &str); 80] = [
         "REFUSED 10 NotCovered ROW 4 WORD 400017 X 0 V 0 NEXT 0017\n",
         "C: NotCovered ROW 4 WORD 400017 X 0 V 0 NEXT 0017: a row at NEXT has to hold all that this order leaves: in A, Q, X, V and the cells of its AT lines, and its LINK; bin/ags-explain shows the rows there (docs/CHECKER.md, The verdict)",
     ),
+];
+
+#[test]
+fn refusal_2_lines_say_what_is_wanted(rt: HostRuntime) {
+    expect_lines(&rt, rt.alloc(), Program::Ags, &REFUSAL_2);
+}
+
+/// What comes of an edit.
+const EDIT: [Row; 6] = [
     (
         "EDIT 3 NOTMADE 1 NoRow\n",
         "F: EDIT 3 NOTMADE 1 NoRow: the r of ROW r is the number of a row of the certificate, counted from 1",
@@ -269,6 +397,15 @@ const LINES: [(&str, &str); 80] = [
         "EDIT 4 CERTIFIED ROWS 5 CASES 5\n",
         "F: EDIT 4 CERTIFIED ROWS 5 CASES 5: an edit before this one isn't made: its line has NOTMADE",
     ),
+];
+
+#[test]
+fn edit_lines_say_what_is_wanted(rt: HostRuntime) {
+    expect_lines(&rt, rt.alloc(), Program::Ags, &EDIT);
+}
+
+/// What a certificate does not declare.
+const OUTSIDE: [Row; 4] = [
     (
         "OUTSIDE START 4000 4001\n",
         "F: OUTSIDE START 4000 4001: the script starts where the certificate does: its START names that location, or it has none",
@@ -285,6 +422,15 @@ const LINES: [(&str, &str); 80] = [
         "OUTSIDE IN 2001 001751\n",
         "F: OUTSIDE IN 2001 001751: a word that is put into an input register is one of its IN line: put another, or widen that",
     ),
+];
+
+#[test]
+fn outside_lines_say_what_is_wanted(rt: HostRuntime) {
+    expect_lines(&rt, rt.alloc(), Program::Ags, &OUTSIDE);
+}
+
+/// What comes of bounds and of scales.
+const ORDER: [Row; 4] = [
     (
         "OVER ROW 3 WORD 224005 X 0 V 0 NEXT ---- NEEDS 10 BOUND 9\n",
         "F: OVER ROW 3 WORD 224005 X 0 V 0 NEXT ---- NEEDS 10 BOUND 9: a row needs its order's time and, but at DLY, the least bound of a row that covers what is next; a row without a TIME line has 20,000",
@@ -301,31 +447,29 @@ const LINES: [(&str, &str); 80] = [
         "NOTHELD ROW 3 WORD 224005 X 0 V 0 NEXT 4006\n",
         "F: NOTHELD ROW 3 WORD 224005 X 0 V 0 NEXT 4006: a row at NEXT that covers what this order leaves has to have its tags or ANY: mend the tags there, or of this row; a cell without a CELL line is raw",
     ),
+];
+
+#[test]
+fn order_lines_say_what_is_wanted(rt: HostRuntime) {
+    expect_lines(&rt, rt.alloc(), Program::Ags, &ORDER);
+}
+
+/// A file that is absent, or too long.
+const FILE: [Row; 2] = [
     ("ABSENT G H\n", "G H: there is no file of this name"),
-    (
-        "CERTIFICATE LINE 1 ERROR 1 BadLine\n",
-        "F:1: BadLine: this is read as a certificate, whose line 1 is AGSCERT 1 or AGSCERT 2",
-    ),
-    (
-        "TIMES LINE 1 ERROR 1 BadLine\n",
-        "F:1: BadLine: this is read as a text of times, whose line 1 is AGSTIME 1",
-    ),
-    (
-        "SCALES LINE 1 ERROR 1 BadLine\n",
-        "F:1: BadLine: this is read as a text of scales, whose line 1 is AGSSCALE 1",
-    ),
-    (
-        "EDITS LINE 1 ERROR 1 BadLine\n",
-        "F:1: BadLine: this is read as a text of edits, whose line 1 is AGSEDIT 1",
-    ),
     (
         "LONG F 4194304\n",
         "F: it is longer than is read: at most 65,536 bytes of a machine file, 67,108,864 of a certificate, 134,217,728 of a listing, 4,194,304 of any other",
     ),
 ];
 
-/// The same of `agsbench`, where it says another thing.
-const BENCH_LINES: [(&str, &str); 8] = [
+#[test]
+fn file_lines_say_what_is_wanted(rt: HostRuntime) {
+    expect_lines(&rt, rt.alloc(), Program::Ags, &FILE);
+}
+
+/// What `agsbench` says of lines of its own.
+const BENCH: [Row; 8] = [
     (
         "SCRIPT LINE 7 ERROR 1 BadLine\n",
         "F:7: BadLine: a line is STEP n, PULSE, CYCLE n, FEED i, DETACH i, SHOW REG, SHOW CELL c or SHOW OUT p, and no other",
@@ -361,24 +505,8 @@ const BENCH_LINES: [(&str, &str); 8] = [
 ];
 
 #[test]
-fn each_kind_says_what_is_wanted(rt: HostRuntime) {
-    for &(line, said) in &LINES {
-        expect_said(&rt, rt.alloc(), Program::Ags, 1, seen_of(line), Some(said));
-    }
-}
-
-#[test]
-fn kinds_of_the_bench_say_what_is_wanted(rt: HostRuntime) {
-    for &(line, said) in &BENCH_LINES {
-        expect_said(
-            &rt,
-            rt.alloc(),
-            Program::AgsBench,
-            1,
-            seen_of(line),
-            Some(said),
-        );
-    }
+fn bench_lines_say_what_is_wanted(rt: HostRuntime) {
+    expect_lines(&rt, rt.alloc(), Program::AgsBench, &BENCH);
 }
 
 #[test]
