@@ -18,8 +18,8 @@ use Rattle.ags_answered.proofs.CodeLemmas.{some_code}
 pub all_answered : (machine : Machine) (image : List (Option ℕ)) (cert : Certificate Value) → IsMachine machine → IsImage image
     → AreAnswered value_meaning machine image cert
 all_answered machine image cert is_machine is_image = record {
-  codes = λ place d inside. some_code image cert.limits (get_or cert.rows place d) is_image;
-  cases = λ place d inside word index indicator judged.
-      some_posts (case_of machine image cert.limits (get_or cert.rows place d) word index indicator) is_machine is_image
+  codes = λ position d inside. some_code image cert.limits (get_or cert.rows position d) is_image;
+  cases = λ position d inside word index indicator judged.
+      some_posts (case_of machine image cert.limits (get_or cert.rows position d) word index indicator) is_machine is_image
       (lists_word 0 judged.code.list word judged.code.ascending judged.listed);
 }

@@ -22,7 +22,7 @@ use Rattle.ags_posts.specs.Case.{Case, case_of, IsCode}
 use Rattle.ags_posts.specs.Posts.{Outcome, IsPostsOfCase}
 use Rattle.ags_safe.specs.Certificate.{Certificate}
 use Rattle.ags_safe.specs.Accepted.{IsCaseAccepted, IsRowAccepted}
-use Rattle.ags_safe.specs.Failing.{Item, CellItem, StartItem, CodeItem, CaseItem, Fault, InitRange, StartUncovered, CodeUnknown, Stopped, NotCovered, Precedes, place_of_item, StandsAt, IsJudged, CaseFails, Fails, IsFirstFault, IsUncovered as IsToldPost}
+use Rattle.ags_safe.specs.Failing.{Item, CellItem, StartItem, CodeItem, CaseItem, Fault, InitRange, StartUncovered, CodeUnknown, Stopped, NotCovered, Precedes, position_of_item, StandsAt, IsJudged, CaseFails, Fails, IsFirstFault, IsUncovered as IsToldPost}
 use Rattle.ags_safe.proofs.FaultLemmas.{accepted_none, one_first}
 use Rattle.ags_verdict.specs.RowCase.{RowCase, numbers_of, cases_in, case_in}
 use Rattle.ags_verdict.specs.Fault.{refusal_of, IsUncovered, IsFaultOfAnswer}
@@ -68,7 +68,7 @@ module _ {D : Type 0} (meaning : Meaning D) (lawful : IsMeaning D meaning) (mach
     is.is,
   )
     where
-      earlier : (item : Item) (other : Fault D) → Precedes (place_of_item item) (0 ∷ is.address ∷ []) → ¬ Fails meaning machine image cert item other
+      earlier : (item : Item) (other : Fault D) → Precedes (position_of_item item) (0 ∷ is.address ∷ []) → ¬ Fails meaning machine image cert item other
       earlier (CellItem address) other (inl less) fails = omega (arith, less)
       earlier (CellItem address) other (inr (same, inl less)) fails = fails.1 (is.first address less)
       earlier (CellItem address) other (inr (same, inr never)) fails = absurd never.1
@@ -79,7 +79,7 @@ module _ {D : Type 0} (meaning : Meaning D) (lawful : IsMeaning D meaning) (mach
   start_first : (told : Refusal D) → IsStartRefused meaning machine image cert told → HasFirst told
   start_first told is = (StartUncovered, record { item = StartItem; fails = (is.fails, refl); first = earlier }, is.is)
     where
-      earlier : (item : Item) (other : Fault D) → Precedes (place_of_item item) (1 ∷ []) → ¬ Fails meaning machine image cert item other
+      earlier : (item : Item) (other : Fault D) → Precedes (position_of_item item) (1 ∷ []) → ¬ Fails meaning machine image cert item other
       earlier (CellItem address) other before fails = fails.1 (is.first_words address fails.0)
       earlier StartItem other (inl less) fails = omega (arith, less)
       earlier StartItem other (inr never) fails = absurd never.1
@@ -90,26 +90,27 @@ module _ {D : Type 0} (meaning : Meaning D) (lawful : IsMeaning D meaning) (mach
 
   -- ---- a case
 
-  uncovered_told : (place : ℕ) (c : Case D) (post : Option (Post D)) (next : ℕ) → IsUncovered meaning cert c.row post next
-      → IsToldPost meaning machine image cert place c post (NotCovered (place + 1) c.word c.index c.indicator next)
-  uncovered_told place c None next is = is
-  uncovered_told place c (Some post) next is = (is.0, ap (λ (n : ℕ). NotCovered (place + 1) c.word c.index c.indicator n) is.1)
+  uncovered_told : (position : ℕ) (c : Case D) (post : Option (Post D)) (next : ℕ) → IsUncovered meaning cert c.row post next
+      → IsToldPost meaning machine image cert position c post (NotCovered (position + 1) c.word c.index c.indicator next)
+  uncovered_told position c None next is = is
+  uncovered_told position c (Some post) next is = (is.0, ap (λ (n : ℕ). NotCovered (position + 1) c.word c.index c.indicator n) is.1)
 
   -- a fault of a case, and the refusal that tells it
   abbrev IsToldCase : ℕ → Case D → Outcome D → RowFault D → Type 0
-  IsToldCase place c outcome told = (fault : Fault D) × CaseFails meaning machine image cert place c outcome fault × (refusal_of (place + 1) told ≡ refusal_of_fault fault)
+  IsToldCase position c outcome told = (fault : Fault D) × CaseFails meaning machine image cert position c outcome fault × (refusal_of (position + 1) told ≡ refusal_of_fault fault)
 
-  case_told : (place : ℕ) (c : Case D) (outcome : Outcome D) (told : RowFault D) → IsFaultOfAnswer meaning cert c outcome told → IsToldCase place c outcome told
-  case_told place c (Err why) told is = (Stopped (place + 1) c.word why, refl, ap (λ (f : RowFault D). refusal_of (place + 1) f) is)
-  case_told place c (Ok pair) told (next, inl is, same) = (
-    NotCovered (place + 1) c.word c.index c.indicator next,
-    inl (uncovered_told place c pair.first next is),
-    ap (λ (f : RowFault D). refusal_of (place + 1) f) same,
+  case_told : (position : ℕ) (c : Case D) (outcome : Outcome D) (told : RowFault D) → IsFaultOfAnswer meaning cert c outcome told
+      → IsToldCase position c outcome told
+  case_told position c (Err why) told is = (Stopped (position + 1) c.word why, refl, ap (λ (f : RowFault D). refusal_of (position + 1) f) is)
+  case_told position c (Ok pair) told (next, inl is, same) = (
+    NotCovered (position + 1) c.word c.index c.indicator next,
+    inl (uncovered_told position c pair.first next is),
+    ap (λ (f : RowFault D). refusal_of (position + 1) f) same,
   )
-  case_told place c (Ok pair) told (next, inr (first, is), same) = (
-    NotCovered (place + 1) c.word c.index c.indicator next,
-    inr (first, uncovered_told place c pair.second next is),
-    ap (λ (f : RowFault D). refusal_of (place + 1) f) same,
+  case_told position c (Ok pair) told (next, inr (first, is), same) = (
+    NotCovered (position + 1) c.word c.index c.indicator next,
+    inr (first, uncovered_told position c pair.second next is),
+    ap (λ (f : RowFault D). refusal_of (position + 1) f) same,
   )
 
   abbrev InRow : Row D → List ℕ → RowCase → Type 0
@@ -121,35 +122,35 @@ module _ {D : Type 0} (meaning : Meaning D) (lawful : IsMeaning D meaning) (mach
   -- ---- a row
 
   module _ (told : Refusal D) (is : IsFirstRow meaning machine image cert told) where
-    abbrev place : ℕ
-    place = length is.before
+    abbrev position : ℕ
+    position = length is.before
 
-    stands : StandsAt cert place is.fails
-    stands = subst (λ (rows : List (Row D)). (place < length rows) × (get_or rows place is.fails ≡ is.fails)) (sym is.splits)
+    stands : StandsAt cert position is.fails
+    stands = subst (λ (rows : List (Row D)). (position < length rows) × (get_or rows position is.fails ≡ is.fails)) (sym is.splits)
         (stands_inside is.before is.behind is.fails is.fails)
 
     -- each row before it is accepted
-    earlier_row : (other : ℕ) (row : Row D) → other < place → StandsAt cert other row → IsRowAccepted meaning machine image cert row
+    earlier_row : (other : ℕ) (row : Row D) → other < position → StandsAt cert other row → IsRowAccepted meaning machine image cert row
     earlier_row other row less at =
         let same : get_or is.before other row ≡ row = sym (get_or_append_left is.before (is.fails ∷ is.behind) row other less)
         ∙ sym (ap (λ (rows : List (Row D)). get_or rows other row) is.splits) ∙ at.1 in
         subst (λ (r : Row D). IsRowAccepted meaning machine image cert r) same (is.accepted other row less)
 
-    no_code : (other : ℕ) (fault : Fault D) → other < place → Fails meaning machine image cert (CodeItem other) fault → ⊥
+    no_code : (other : ℕ) (fault : Fault D) → other < position → Fails meaning machine image cert (CodeItem other) fault → ⊥
     no_code other fault less fails =
         let accepted = earlier_row other fails.0 less fails.1 in
         some_or_none meaning lawful machine image cert machine_is fails.0 accepted.code accepted.is_code fails.2
 
-    no_case : (other word index : ℕ) (indicator : Bool) (fault : Fault D) → other < place → Fails meaning machine image cert (CaseItem other word index indicator) fault → ⊥
+    no_case : (other word index : ℕ) (indicator : Bool) (fault : Fault D) → other < position → Fails meaning machine image cert (CaseItem other word index indicator) fault → ⊥
     no_case other word index indicator fault less fails =
         row_or_case meaning lawful machine image cert machine_is other fails.0 word index indicator fails.3 fault (earlier_row other fails.0 less fails.1) fails.2 fails.4 fails.5
 
     -- ---- without a code
 
-    code_first : IsCode meaning image cert.limits is.fails None → told ≡ refusal_of_fault {D = D} (CodeUnknown (place + 1)) → HasFirst told
-    code_first none same = (CodeUnknown (place + 1), record { item = CodeItem place; fails = (is.fails, stands, none, refl); first = earlier }, same)
+    code_first : IsCode meaning image cert.limits is.fails None → told ≡ refusal_of_fault {D = D} (CodeUnknown (position + 1)) → HasFirst told
+    code_first none same = (CodeUnknown (position + 1), record { item = CodeItem position; fails = (is.fails, stands, none, refl); first = earlier }, same)
       where
-        earlier : (item : Item) (other : Fault D) → Precedes (place_of_item item) (2 ∷ place ∷ []) → ¬ Fails meaning machine image cert item other
+        earlier : (item : Item) (other : Fault D) → Precedes (position_of_item item) (2 ∷ position ∷ []) → ¬ Fails meaning machine image cert item other
         earlier (CellItem address) other before fails = fails.1 (is.first_words address fails.0)
         earlier StartItem other before fails = fails.0 is.start
         earlier (CodeItem row) other (inl less) fails = omega (arith, less)
@@ -189,34 +190,35 @@ module _ {D : Type 0} (meaning : Meaning D) (lawful : IsMeaning D meaning) (mach
           (subst (λ (set : WordSet). lists set.list word ≡ true) (one_code meaning lawful machine image cert machine_is is.fails j.code code j.is_code is_code) j.listed)
           j.index_may_stand j.indicator_may_stand before
 
-      -- the row that stands at its place is the row
-      same_code : (row : Row D) → StandsAt cert place row → IsCode meaning image cert.limits row None → ⊥
+      -- the row that stands at its position is the row
+      same_code : (row : Row D) → StandsAt cert position row → IsCode meaning image cert.limits row None → ⊥
       same_code row at none = some_or_none meaning lawful machine image cert machine_is is.fails code is_code
-          (subst (λ (r : Row D). IsCode meaning image cert.limits r None) (one_row meaning lawful machine image cert machine_is place row is.fails at stands) none)
+          (subst (λ (r : Row D). IsCode meaning image cert.limits r None) (one_row meaning lawful machine image cert machine_is position row is.fails at stands) none)
 
       same_row : (word index : ℕ) (indicator : Bool) (other : Fault D) → StandsBefore (record { word = word; index = index; indicator = indicator }) c
-          → Fails meaning machine image cert (CaseItem place word index indicator) other → ⊥
+          → Fails meaning machine image cert (CaseItem position word index indicator) other → ⊥
       same_row word index indicator other before fails =
-          let same = one_row meaning lawful machine image cert machine_is place fails.0 is.fails fails.1 stands in
-          accepted_or_fails meaning lawful machine image cert machine_is place is.fails word index indicator fails.3 other
+          let same = one_row meaning lawful machine image cert machine_is position fails.0 is.fails fails.1 stands in
+          accepted_or_fails meaning lawful machine image cert machine_is position is.fails word index indicator fails.3 other
           (earlier_case word index indicator (subst (λ (r : Row D). IsJudged meaning machine image cert r word index indicator) same fails.2) before)
           (subst (λ (r : Row D). IsPostsOfCase meaning (case_of machine image cert.limits r word index indicator) fails.3) same fails.4)
-          (subst (λ (r : Row D). CaseFails meaning machine image cert place (case_of machine image cert.limits r word index indicator) fails.3 other) same fails.5)
+          (subst (λ (r : Row D). CaseFails meaning machine image cert position (case_of machine image cert.limits r word index indicator) fails.3 other) same fails.5)
 
-      case_first : told ≡ refusal_of (place + 1) fault → HasFirst told
+      case_first : told ≡ refusal_of (position + 1) fault → HasFirst told
       case_first same =
           let answer = first.fault in
-          let found = case_told place (case_in machine image cert.limits is.fails c) answer.0 fault answer.2 in (
+          let found = case_told position (case_in machine image cert.limits is.fails c) answer.0 fault answer.2 in (
             found.0,
             record {
-              item = CaseItem place c.word c.index c.indicator;
+              item = CaseItem position c.word c.index c.indicator;
               fails = (is.fails, stands, judged, answer.0, answer.1, found.1);
               first = earlier;
             },
             same ∙ found.2,
           )
         where
-          earlier : (item : Item) (other : Fault D) → Precedes (place_of_item item) (2 ∷ place ∷ numbers_of c) → ¬ Fails meaning machine image cert item other
+          earlier : (item : Item) (other : Fault D) → Precedes (position_of_item item) (2 ∷ position ∷ numbers_of c)
+              → ¬ Fails meaning machine image cert item other
           earlier (CellItem address) other before fails = fails.1 (is.first_words address fails.0)
           earlier StartItem other before fails = fails.0 is.start
           earlier (CodeItem row) other (inl less) fails = omega (arith, less)
@@ -230,8 +232,8 @@ module _ {D : Type 0} (meaning : Meaning D) (lawful : IsMeaning D meaning) (mach
               same_row word index indicator other before (subst (λ (n : ℕ). Fails meaning machine image cert (CaseItem n word index indicator) other) at fails)
 
     row_by : (code : Option WordSet) → IsCode meaning image cert.limits is.fails code → (fault : RowFault D)
-        → IsFirstInRow meaning machine image cert is.fails code fault → told ≡ refusal_of (place + 1) fault → HasFirst told
-    row_by None none fault first same = code_first none (same ∙ ap (λ (f : RowFault D). refusal_of (place + 1) f) first)
+        → IsFirstInRow meaning machine image cert is.fails code fault → told ≡ refusal_of (position + 1) fault → HasFirst told
+    row_by None none fault first same = code_first none (same ∙ ap (λ (f : RowFault D). refusal_of (position + 1) f) first)
     row_by (Some code) is_code fault first same = case_first code is_code fault first same
 
     row_first : HasFirst told

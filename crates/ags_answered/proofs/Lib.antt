@@ -1,4 +1,4 @@
--- What the crate promises: the five laws. Behind them are
+-- What the crate promises: the five laws. After them are
 --     each_case_has_an_answer           some_posts of PostsLemmas
 --     each_row_has_a_code               some_code of CodeLemmas
 --     each_certificate_has_a_verdict    some_verdict of VerdictLemmas

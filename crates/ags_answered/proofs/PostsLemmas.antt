@@ -13,9 +13,9 @@ use Rattle.ags_isa.proofs.CodeLemmas.{order_of-found, order_of-code}
 use Rattle.ags_isa.proofs.WordLemmas.{code_over, code_names, order_word-below}
 use Rattle.ags_ports.specs.Effect.{effective_at}
 use Rattle.ags_ports.specs.Machine.{IsMachine}
-use Rattle.ags_ports.specs.Port.{place_of}
+use Rattle.ags_ports.specs.Port.{position_of}
 use Rattle.ags_image.specs.Image.{IsImage, word_at}
-use Rattle.ags_domain.specs.Domain.{Ends, IsPart, IsWithin, is_negative, is_not_negative, has_value_between}
+use Rattle.ags_domain.specs.Domain.{Ends, IsPart, IsWithin, is_negative, is_not_negative}
 use Rattle.ags_domain.specs.Hull.{no_cell}
 use Rattle.ags_domain.specs.Candidates.{sum_candidates, difference_candidates, sign_candidates, left_shift_candidates, product_candidates, long_left_candidates, quotient_candidates}
 use Rattle.ags_domain.specs.Value.{value_meaning, value_ends}
@@ -145,9 +145,9 @@ module _ (c : Case Value) (is_machine : IsMachine c.machine) (is_image : IsImage
 
   -- ---- stops
 
-  with_port : (place : Option ℕ) (follows : Outcome Value → Type 0) → HasOutcome follows → HasOutcome (HasPort value_meaning c place follows)
+  with_port : (position : Option ℕ) (follows : Outcome Value → Type 0) → HasOutcome follows → HasOutcome (HasPort value_meaning c position follows)
   with_port None follows found = (Err BadPort, refl)
-  with_port (Some place) follows found = found
+  with_port (Some position) follows found = found
 
   matched : (b : Bool) (follows : Outcome Value → Type 0) (stop : Stop Value) → HasOutcome follows
       → HasOutcome (λ outcome. MatchBool b (follows outcome) (outcome ≡ Err stop))
@@ -254,9 +254,9 @@ module _ (c : Case Value) (is_machine : IsMachine c.machine) (is_image : IsImage
   of_order Tix e y = single_if (nat_eq c.index 0) (moves_on c) (record (moves_on c) { next = y; x = c.index - 1 }) moves_can (tt, tt, tt, tt)
   of_order Axt e y = single (record (moves_on c) { x = y % 8 }) (tt, tt, tt, tt)
   of_order Tsq e y = single (record (moves_on c) { next = e; q = OneWord (order_word c.machine.codes Tra false (next_of_row c.row)) }) (tt, tsq_below, tt, tt)
-  of_order Inp e y = with_port (place_of c.machine.ports.inputs y) (IsSingle value_meaning c (record (unlinks value_meaning c) { a = These (input_limit c.limits y) }))
+  of_order Inp e y = with_port (position_of c.machine.ports.inputs y) (IsSingle value_meaning c (record (unlinks value_meaning c) { a = These (input_limit c.limits y) }))
       (single (record (unlinks value_meaning c) { a = These (input_limit c.limits y) }) (tt, tt, tt, tt))
-  of_order Out e y = with_port (place_of c.machine.ports.outputs y) (IsGiven value_meaning c y (moves_on c)) (given y (moves_on c) moves_can)
+  of_order Out e y = with_port (position_of c.machine.ports.outputs y) (IsGiven value_meaning c y (moves_on c)) (given y (moves_on c) moves_can)
   of_order Dly e y = single (record (moves_on c) { next = y }) (tt, tt, tt, tt)
 
   of_word : (named : Option Decoded) → HasOutcome (IsPostsOfWord value_meaning c named)

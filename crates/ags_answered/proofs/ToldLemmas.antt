@@ -1,6 +1,6 @@
 -- Each set that a line tells is there, each set has its parts by sign or none, and inclusion is decided.
 use Rattle.std.proofs.Common.{◌≡◌, ℕ, zero, suc, ◌<◌, ◌-◌, ◌^◌, Bool, true, false, refl, sym, ap, subst, ◌∙◌, ⊎_elim, arith, List, [], ◌∷◌, length, pos, negsuc, ℤ, ◌≤ℤ◌}
-use Rattle.std.specs.Prelude.{◌&&◌, ◌||◌, eqb, Option, Some, None, ⊤}
+use Rattle.std.specs.Prelude.{◌||◌, eqb, Option, Some, None, ⊤}
 use Rattle.std.specs.Int.{int_max, int_min}
 use Rattle.std.specs.Int.RustNames.{int_le}
 use Rattle.std.specs.List.{filter}
@@ -10,7 +10,7 @@ use Rattle.ags_word.specs.Word.{val, wrap, fits}
 use Rattle.ags_word.proofs.WordLaws.{val_least, val_most, val-wrap, wrap_below, fits_in}
 use Rattle.ags_domain.specs.LowBits.{all_ones}
 use Rattle.ags_domain.specs.WordSet.{ascends_from, lists}
-use Rattle.ags_domain.specs.Domain.{Ends, Ranged, IsAlone, IsPart, IsWithin, is_negative, is_not_negative, has_value_between}
+use Rattle.ags_domain.specs.Domain.{Ranged, IsAlone, IsPart, IsWithin, is_negative, is_not_negative, has_value_between}
 use Rattle.ags_domain.specs.Range.{range_meaning, IsRangeOf}
 use Rattle.ags_domain.specs.Value.{value_meaning}
 use Rattle.ags_domain.specs.ListLaws.{ascends_cons, ascends_filter, length_filter}

@@ -38,21 +38,21 @@ use Rattle.ags_answered.proofs.CodeLemmas.{some_code}
 -- ---- things that are judged in order
 
 module _ {X F : Type 0} (judged : ℕ → X → Result ℕ F → Type 0) where
-  -- something comes of it, at each place
+  -- something comes of it, at each position
   abbrev IsJudged : X → Type 0
-  IsJudged x = (place : ℕ) → (result : Result ℕ F) × judged place x result
+  IsJudged x = (position : ℕ) → (result : Result ℕ F) × judged position x result
 
   abbrev HasSum : ℕ → List X → Type 0
-  HasSum place xs = (result : Result ℕ F) × InOrder judged place xs result
+  HasSum position xs = (result : Result ℕ F) × InOrder judged position xs result
 
-  summed : (place : ℕ) (x : X) (xs : List X) → (result : Result ℕ F) × judged place x result → HasSum (place + 1) xs → HasSum place (x ∷ xs)
-  summed place x xs (Err told, fails) later = (Err told, inl fails)
-  summed place x xs (Ok one, is) (Err told, fails) = (Err told, inr (one, is, fails))
-  summed place x xs (Ok one, is) (Ok rest, are) = (Ok (one + rest), (one, rest, is, are, refl))
+  summed : (position : ℕ) (x : X) (xs : List X) → (result : Result ℕ F) × judged position x result → HasSum (position + 1) xs → HasSum position (x ∷ xs)
+  summed position x xs (Err told, fails) later = (Err told, inl fails)
+  summed position x xs (Ok one, is) (Err told, fails) = (Err told, inr (one, is, fails))
+  summed position x xs (Ok one, is) (Ok rest, are) = (Ok (one + rest), (one, rest, is, are, refl))
 
-  in_order : (place : ℕ) (xs : List X) → AllByRecursion IsJudged xs → HasSum place xs
-  in_order place [] each = (Ok 0, refl)
-  in_order place (x ∷ xs) each = summed place x xs (each.0 place) (in_order (place + 1) xs each.1)
+  in_order : (position : ℕ) (xs : List X) → AllByRecursion IsJudged xs → HasSum position xs
+  in_order position [] each = (Ok 0, refl)
+  in_order position (x ∷ xs) each = summed position x xs (each.0 position) (in_order (position + 1) xs each.1)
 
 module _ (machine : Machine) (image : List (Option ℕ)) (cert : Certificate Value) (is_machine : IsMachine machine) (is_image : IsImage image) where
   -- ---- a case
@@ -86,7 +86,7 @@ module _ (machine : Machine) (image : List (Option ℕ)) (cert : Certificate Val
   -- ---- a row
 
   abbrev IsJudgedIn : Row Value → ℕ → RowCase → Result ℕ (RowFault Value) → Type 0
-  IsJudgedIn row place c result = IsCaseJudged value_meaning cert (case_in machine image cert.limits row c) result
+  IsJudgedIn row position c result = IsCaseJudged value_meaning cert (case_in machine image cert.limits row c) result
 
   row_by : (row : Row Value) (code : Option WordSet) → IsCode value_meaning image cert.limits row code
       → (result : Result ℕ (RowFault Value)) × IsRowJudged value_meaning cert machine image row result
@@ -94,7 +94,7 @@ module _ (machine : Machine) (image : List (Option ℕ)) (cert : Certificate Val
   row_by row (Some code) is =
       let sum = in_order (IsJudgedIn row) 0 (cases_in row code.list)
       (cases_each row (IsJudged (IsJudgedIn row)) code.list
-      (λ word index indicator listed index_set may place.
+      (λ word index indicator listed index_set may position.
       let c = case_in machine image cert.limits row (record { word = word; index = index; indicator = indicator }) in
       case_judged c (some_posts c is_machine is_image (lists_word 0 code.list word code.ascending listed)))) in
       (sum.0, (Some code, is, sum.1))

@@ -7,19 +7,21 @@ use Rattle.std.proofs.lemmas.Bool.{true≢false, le-leb, lt-ltb}
 use Rattle.std.proofs.lemmas.List.Elements.{All-append, Contains-append_cases, Contains-get_or}
 use Rattle.std.proofs.lemmas.List.{length-map}
 use Rattle.std.proofs.lemmas.List.Kept.{AllPairs-cons}
-use Rattle.ags_text.specs.Fault.{or_later, first_fault}
+use Rattle.ags_text.specs.Fault.{first_fault}
 use Rattle.ags_image.specs.Image.{PlacedWord, EachPlaceOnce}
 use Rattle.ags_card.specs.declared.cards.Body.{Body}
 use Rattle.ags_card.specs.declared.cards.Body.TheVariants.{Comment, Order, Org, Equ, Bss, Bes, Dec, Oct, End}
 use Rattle.ags_card.specs.declared.cards.Card.{Card}
 use Rattle.ags_symbol.specs.Symbol.{Entry}
 use Rattle.ags_symbol.proofs.FoundLemmas.{Contains-cons, Contains-first, Contains-later}
-use Rattle.ags_places.specs.declared.source_error.SourceKind.{SourceKind}
-use Rattle.ags_places.specs.declared.source_error.SourceKind.TheVariants.{PlaceTwice}
+use Rattle.ags_places.specs.declared.source_error.WordFault.{WordFault}
+use Rattle.ags_places.specs.declared.source_error.WordFault.TheVariants.{PlaceTwice}
+use Rattle.ags_places.specs.declared.source_error.SourceKind.TheVariants as kind
 use Rattle.ags_places.specs.Deck.{cards}
-use Rattle.ags_places.specs.Fault.{or_else, early_fault}
+use Rattle.ags_places.specs.Fault.{early_fault, first_card_fault, first_place_fault, told_as}
 use Rattle.ags_places.specs.Place.{count, place}
-use Rattle.ags_asm.specs.Source.{Defines, placed_words}
+use Rattle.ags_places.proofs.FirstLemmas.{both_none, early_faultless, none_later, none_told}
+use Rattle.ags_asm.specs.Source.{Defines, placed_words, source_fault}
 use Rattle.ags_asm.specs.Word.{CardWords, definition, definitions, definitions_after, first_word_fault, is_among, owner, placed_from, taken, taken_from, word_fault, word_fault_at, word_of_decimal, words_at}
 
 -- ---- words at places
@@ -51,19 +53,14 @@ words_counted codes S at End = refl
 
 -- ---- no place has two words in a source without a fault of the phase of words
 
-pub none_later : (number : ℕ) (head : Option SourceKind) (later : Option (ℕ × SourceKind)) → or_later number head later ≡ None → (head ≡ None) × (later ≡ None)
-none_later number None later none = (refl, none)
-none_later number (Some kind) later none = absurd cc
+-- a source without a fault has none of any phase
+pub source_faultless : (S : List Entry) (text : List ℕ) → source_fault S text ≡ None → (first_card_fault text ≡ None) × (first_place_fault S text ≡ None) × (first_word_fault S text ≡ None)
+source_faultless S text none =
+    let (early, word) = both_none (early_fault S text) (told_as kind.Word (first_word_fault S text)) none in
+    let (misread, misplaced) = early_faultless text S early in
+    (misread, misplaced, none_told kind.Word (first_word_fault S text) word)
 
-pub second_none : {F : Type 0} (first later : Option F) → or_else first later ≡ None → later ≡ None
-second_none None later none = none
-second_none (Some fault) later none = absurd cc
-
-pub first_none : {F : Type 0} (first later : Option F) → or_else first later ≡ None → first ≡ None
-first_none None later none = refl
-first_none (Some fault) later none = absurd cc
-
-not_taken : (owned : Option ℕ) → ◌≡◌ {A = Option SourceKind} (option_map PlaceTwice owned) None → owned ≡ None
+not_taken : (owned : Option ℕ) → ◌≡◌ {A = Option WordFault} (option_map PlaceTwice owned) None → owned ≡ None
 not_taken None none = refl
 not_taken (Some number) none = absurd cc
 
@@ -71,11 +68,11 @@ not_taken (Some number) none = absurd cc
 pub unowned_from : (owned : ℕ → Option ℕ) (at many : ℕ) (i : ℕ) → taken_from owned at many ≡ None → i < many → owned (at + i) ≡ None
 unowned_from owned at zero i none within = absurd (omega (arith, within))
 unowned_from owned at (suc many) zero none within =
-    let here = not_taken (owned at) (first_none (option_map PlaceTwice (owned at)) (taken_from owned (at + 1) many) none) in
+    let here = not_taken (owned at) (both_none (option_map PlaceTwice (owned at)) (taken_from owned (at + 1) many) none).0 in
     let same : at + 0 ≡ at = omega arith in
     rw same here
 unowned_from owned at (suc many) (suc i) none within =
-    let later = unowned_from owned (at + 1) many i (second_none (option_map PlaceTwice (owned at)) (taken_from owned (at + 1) many) none) (omega arith) in
+    let later = unowned_from owned (at + 1) many i (both_none (option_map PlaceTwice (owned at)) (taken_from owned (at + 1) many) none).1 (omega arith) in
     let same : at + suc i ≡ at + 1 + i = omega arith in
     rw same later
 
@@ -97,7 +94,7 @@ unowned codes S before (card ∷ cards) one none among =
     elim (Contains-append_cases (definition codes S before card) (placed_words (definitions_after codes S (card ∷ before) cards)) one among) [
       | inl here ↦
           let so = in_from at (words_at codes S at card.body) one here in
-          let free = second_none (word_fault_at S at card.body) (taken S before card) parts.0 in
+          let free = (both_none (word_fault_at S at card.body) (taken S before card) parts.0).1 in
           subst (λ (q : ℕ). owner S q before ≡ None) (sym so.2) (unowned_from (λ (q : ℕ). owner S q before) at (count card.body) so.0 free (rw (← words_counted codes S at card.body) so.1))
       | inr later ↦ (not_here (is_among one.place at (count card.body)) (length before + 1) (owner S one.place before) (unowned codes S (card ∷ before) cards one parts.1 later)).1
     ]
@@ -106,7 +103,7 @@ unowned codes S before (card ∷ cards) one none among =
 abbrev pub OneWord : List PlacedWord → Type 0
 OneWord all = (one other : PlacedWord) → Contains all one → Contains all other → one.place ≡ other.place → one.word ≡ other.word
 
--- a card's own place is owned behind it
+-- a card's own place is owned after it
 pub held : (codes : List ℕ) (S : List Entry) (before : List Card) (card : Card) (one : PlacedWord) → Contains (definition codes S before card) one → owner S one.place (card ∷ before) ≡ None → ⊥
 unfolding owner
 held codes S before card one here none =
@@ -173,4 +170,4 @@ words_once codes text S none = once_along codes S [] (cards text) none
 
 pub each_place_once : (codes text : List ℕ) (defined : CardWords) → Defines codes text defined → EachPlaceOnce (placed_words defined)
 each_place_once codes text defined so =
-    rw so.words (words_once codes text so.symbols (second_none (early_fault so.symbols text) (first_word_fault so.symbols text) so.faultless))
+    rw so.words (words_once codes text so.symbols (source_faultless so.symbols text so.faultless).2)

@@ -3,7 +3,8 @@ use Rattle.std.proofs.Common.{◌≡◌, ℕ, zero, suc, ◌<◌, true, cond, Li
 use Rattle.std.specs.Prelude.{All, nat_lt, Result, Ok, Err, IfSome, IfOk}
 use Rattle.std.proofs.lemmas.Bool.{lt-ltb}
 use Rattle.std.proofs.lemmas.List.Elements.{All-cons, All-head, All-tail}
-use Rattle.ags_places.specs.Fault.{or_else, early_fault}
+use Rattle.ags_places.specs.Fault.{early_fault, told_as}
+use Rattle.ags_places.proofs.FirstLemmas.{both_none}
 use Rattle.ags_places.proofs.PlacingLemmas.{words_within}
 use Rattle.std.specs.List.{Contains}
 use Rattle.ags_text.specs.Line.{LineAt}
@@ -15,6 +16,7 @@ use Rattle.ags_card.specs.Reading.{reading}
 use Rattle.ags_symbol.specs.Symbol.{Entry}
 use Rattle.ags_places.specs.declared.placed.Placed.{Placed}
 use Rattle.ags_places.specs.declared.source_error.AssembleError.{AssembleError}
+use Rattle.ags_places.specs.declared.source_error.SourceKind.TheVariants as kind
 use Rattle.ags_places.specs.Deck.{card_lines, card_of, cards_in}
 use Rattle.ags_places.specs.Place.{count, counts, place, place_of_word, places_after}
 use Rattle.ags_places.specs.Source as early
@@ -76,13 +78,9 @@ within_along S before (line ∷ lines) within =
     (All-head (λ at. IfSome at (λ place. place < 4096)) stands (places_after S (card ∷ before) (cards_in lines)) within)
     (within_along S (card ∷ before) lines (All-tail (λ at. IfSome at (λ place. place < 4096)) stands (places_after S (card ∷ before) (cards_in lines)) within))
 
-first_none : {F : Type 0} (first later : Option F) → or_else first later ≡ None → first ≡ None
-first_none None later none = refl
-first_none (Some fault) later none = absurd cc
-
 pub within_memory : (codes text : List ℕ) (placed : List Placed) (S : List Entry) (image : List (Option ℕ)) → IsClosed codes text placed S image → All early.IsInMemory placed
 within_memory codes text placed S image so =
-    rw so.cards_are (within_along S [] (card_lines text) (words_within text S so.fits (first_none (early_fault S text) (first_word_fault S text) so.faultless)))
+    rw so.cards_are (within_along S [] (card_lines text) (words_within text S so.fits (both_none (early_fault S text) (told_as kind.Word (first_word_fault S text)) so.faultless).0))
 
 -- ---- the answer
 

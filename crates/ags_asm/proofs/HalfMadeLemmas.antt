@@ -5,15 +5,16 @@ use Rattle.std.proofs.lemmas.Bool.{cases_eq}
 use Rattle.std.proofs.lemmas.List.{map-append}
 use Rattle.std.specs.Prelude.{All}
 use Rattle.std.proofs.lemmas.List.Elements.{All-head, All-tail, Contains-append_left, Contains-append_right, Contains-append_cases}
+use Rattle.std.specs.Option.{option_or}
 use Rattle.ags_text.specs.Fault.{first_fault}
 use Rattle.ags_image.specs.Image.{no_words, entry_at, with_word, IsImage, PlacedWord, IsImageOf}
 use Rattle.ags_image.proofs.ImageLaws.{entry_at-no_words, entry_at-set, entry_at-other, length-with_word}
 use Rattle.ags_card.specs.declared.cards.Card.{Card}
 use Rattle.ags_symbol.specs.Symbol.{Entry}
 use Rattle.ags_symbol.proofs.FoundLemmas.{Contains-cons, Contains-first, Contains-later}
-use Rattle.ags_places.specs.declared.source_error.SourceKind.{SourceKind}
+use Rattle.ags_places.specs.declared.source_error.WordFault.{WordFault}
 use Rattle.ags_places.specs.Place.{place}
-use Rattle.ags_places.specs.Fault.{or_else}
+use Rattle.ags_places.proofs.FirstLemmas.{both_none}
 use Rattle.ags_asm.specs.Source.{placed_words}
 use Rattle.ags_asm.specs.Word.{placed_from, definitions_after, definitions, word_fault_at, taken, word_fault}
 use Rattle.ags_asm.specs.Waiting.{Waiting, closed_word, closed_words, closing_fault, numbered, IsMade}
@@ -94,48 +95,44 @@ part_all all image is so = record {
 pub half_made_none : (codes : List ℕ) (S : List Entry) (cards : List Card) → HalfMade codes S cards [] cards no_words [] None
 half_made_none codes S cards = record { fault = refl; part = λ none. part_none (placed_words (definitions codes S cards)) }
 
-none_met : (known : Option (ℕ × SourceKind)) (n : ℕ) (kind : SourceKind) (later : Option (ℕ × SourceKind)) → or_else known (or_else (Some (n, kind)) later) ≡ None → ⊥
-none_met None n kind later none = cc
-none_met (Some known) n kind later none = cc
+none_met : (known : Option (ℕ × WordFault)) (n : ℕ) (fault : WordFault) (later : Option (ℕ × WordFault)) → option_or known (option_or (Some (n, fault)) later) ≡ None → ⊥
+none_met None n fault later none = cc
+none_met (Some known) n fault later none = cc
 
 module _ (codes : List ℕ) (S : List Entry) (cards before : List Card) (card : Card) (left : List Card) (image : List (Option ℕ)) (waiting : List Waiting) where
-  -- behind a fault of the phase of words no later card matters
-  pub half_made_past : (fault : ℕ × SourceKind) → HalfMade codes S cards before (card ∷ left) image waiting (Some fault) → HalfMade codes S cards (card ∷ before) left image waiting (Some fault)
+  -- after a fault of the phase of words no later card matters
+  pub half_made_past : (fault : ℕ × WordFault) → HalfMade codes S cards before (card ∷ left) image waiting (Some fault) → HalfMade codes S cards (card ∷ before) left image waiting (Some fault)
   half_made_past fault so = record {
     fault = so.fault;
     part = λ none. absurd (none_met (closing_fault S waiting) fault.0 fault.1 (first_fault (word_fault S) before (card ∷ left)) (sym so.fault ∙ none));
   }
 
-  module _ (own : Option SourceKind) (words : List ℕ) (new : List Waiting) (so : HalfMade codes S cards before (card ∷ left) image waiting None) (made : IsMade codes S (length before + 1) (place S before) card.body own words new) where
-    fault_there : first_fault (word_fault S) [] cards ≡ or_else (closing_fault S (waiting ++ new)) (or_else (numbered (length before + 1) (or_else own (taken S before card))) (first_fault (word_fault S) (card ∷ before) left))
+  module _ (own : Option WordFault) (words : List ℕ) (new : List Waiting) (so : HalfMade codes S cards before (card ∷ left) image waiting None) (made : IsMade codes S (length before + 1) (place S before) card.body own words new) where
+    fault_there : first_fault (word_fault S) [] cards ≡ option_or (closing_fault S (waiting ++ new)) (option_or (numbered (length before + 1) (option_or own (taken S before card))) (first_fault (word_fault S) (card ∷ before) left))
     unfolding first_fault
     fault_there =
         so.fault
         ∙ fault_added (length before + 1) (word_fault_at S (place S before) card.body) (taken S before card) own (closing_fault S waiting) (closing_fault S new) (first_fault (word_fault S) (card ∷ before) left) made.fault
-        ∙ ap (λ (known : Option (ℕ × SourceKind)). or_else known (or_else (numbered (length before + 1) (or_else own (taken S before card))) (first_fault (word_fault S) (card ∷ before) left))) (sym (closing_more S waiting new))
+        ∙ ap (λ (known : Option (ℕ × WordFault)). option_or known (option_or (numbered (length before + 1) (option_or own (taken S before card))) (first_fault (word_fault S) (card ∷ before) left))) (sym (closing_more S waiting new))
 
     -- a card with a fault that is known at once; the order of it that waits may still come to a lesser one
-    pub half_made_fault : (kind : SourceKind) (other : List (Option ℕ)) → or_else own (taken S before card) ≡ Some kind → HalfMade codes S cards (card ∷ before) left other (waiting ++ new) (Some (length before + 1, kind))
-    half_made_fault kind other is =
-        let whole = fault_there ∙ ap (λ (known : Option SourceKind). or_else (closing_fault S (waiting ++ new)) (or_else (numbered (length before + 1) known) (first_fault (word_fault S) (card ∷ before) left))) is in
+    pub half_made_fault : (fault : WordFault) (other : List (Option ℕ)) → option_or own (taken S before card) ≡ Some fault → HalfMade codes S cards (card ∷ before) left other (waiting ++ new) (Some (length before + 1, fault))
+    half_made_fault fault other is =
+        let whole = fault_there ∙ ap (λ (known : Option WordFault). option_or (closing_fault S (waiting ++ new)) (option_or (numbered (length before + 1) known) (first_fault (word_fault S) (card ∷ before) left))) is in
         record {
           fault = whole;
-          part = λ none. absurd (none_met (closing_fault S (waiting ++ new)) (length before + 1) kind (first_fault (word_fault S) (card ∷ before) left) (sym whole ∙ none));
+          part = λ none. absurd (none_met (closing_fault S (waiting ++ new)) (length before + 1) fault (first_fault (word_fault S) (card ∷ before) left) (sym whole ∙ none));
         }
 
-    own_none : or_else own (taken S before card) ≡ None → own ≡ None
-    own_none = by own
-      where
-        by : (own : Option SourceKind) → or_else own (taken S before card) ≡ None → own ≡ None
-        by None none = refl
-        by (Some kind) none = absurd cc
+    own_none : option_or own (taken S before card) ≡ None → own ≡ None
+    own_none none = (both_none own (taken S before card) none).0
 
     pending_so : own ≡ None → placed_words (definitions_after codes S before (card ∷ left)) ≡ (placed_from (place S before) words ++ closed_words codes S new) ++ placed_words (definitions_after codes S (card ∷ before) left)
     unfolding definitions_after
     pending_so none = ap (λ (mine : List PlacedWord). mine ++ placed_words (definitions_after codes S (card ∷ before) left)) (made.words_are none)
 
     -- a card without
-    pub half_made_more : or_else own (taken S before card) ≡ None → place S before + length words ≤ length image → HalfMade codes S cards (card ∷ before) left (filled image (place S before) words) (waiting ++ new) None
+    pub half_made_more : option_or own (taken S before card) ≡ None → place S before + length words ≤ length image → HalfMade codes S cards (card ∷ before) left (filled image (place S before) words) (waiting ++ new) None
     half_made_more none small =
         let all = placed_words (definitions codes S cards) in
         let known = closed_words codes S waiting in
@@ -143,7 +140,7 @@ module _ (codes : List ℕ) (S : List Entry) (cards before : List Card) (card : 
         let waits = closed_words codes S new in
         let rest = placed_words (definitions_after codes S (card ∷ before) left) in
         record {
-          fault = fault_there ∙ ap (λ (met : Option SourceKind). or_else (closing_fault S (waiting ++ new)) (or_else (numbered (length before + 1) met) (first_fault (word_fault S) (card ∷ before) left))) none;
+          fault = fault_there ∙ ap (λ (met : Option WordFault). option_or (closing_fault S (waiting ++ new)) (option_or (numbered (length before + 1) met) (first_fault (word_fault S) (card ∷ before) left))) none;
           part = λ faultless.
               let was = rw (pending_so (own_none none)) at (so.part faultless) in
               part_filled all (closed_words codes S (waiting ++ new) ++ rest) image (place S before) words (one_word_along codes S [] cards faultless) small
@@ -196,11 +193,11 @@ half_made_closed codes S cards before image waiting so none whole within is =
     let part = rw (append-nil (closed_words codes S waiting)) at (so.part faultless) in
     part_all all (closed_into codes S image waiting) is (part_closed codes S all image waiting (one_word_along codes S [] cards faultless) whole within part)
 
-pub half_made_end : (codes : List ℕ) (S : List Entry) (cards before : List Card) (image : List (Option ℕ)) (waiting : List Waiting) (met : Option (ℕ × SourceKind)) → HalfMade codes S cards before [] image waiting met
-    → first_fault (word_fault S) [] cards ≡ or_else (closing_fault S waiting) met
+pub half_made_end : (codes : List ℕ) (S : List Entry) (cards before : List Card) (image : List (Option ℕ)) (waiting : List Waiting) (met : Option (ℕ × WordFault)) → HalfMade codes S cards before [] image waiting met
+    → first_fault (word_fault S) [] cards ≡ option_or (closing_fault S waiting) met
 unfolding first_fault
-half_made_end codes S cards before image waiting met so = so.fault ∙ ap (or_else (closing_fault S waiting)) (or_none met)
+half_made_end codes S cards before image waiting met so = so.fault ∙ ap (option_or (closing_fault S waiting)) (or_none met)
   where
-    or_none : (met : Option (ℕ × SourceKind)) → or_else met None ≡ met
+    or_none : (met : Option (ℕ × WordFault)) → option_or met None ≡ met
     or_none None = refl
     or_none (Some fault) = refl

@@ -1,11 +1,12 @@
 -- What is kept of the words while cards are read, one card further.
-use Rattle.std.proofs.Common.{◌≡◌, ℕ, ◌+◌, ◌<◌, ◌≤◌, List, [], ◌∷◌, ◌++◌, length, Option, Some, None, option_map, refl, sym, ap, subst, ◌∙◌, append-nil, arith}
+use Rattle.std.proofs.Common.{◌≡◌, ℕ, ◌+◌, ◌<◌, ◌≤◌, List, [], ◌∷◌, ◌++◌, length, Option, Some, None, refl, sym, ap, subst, ◌∙◌, append-nil, arith}
 use Rattle.std.specs.Prelude.{All, Bool, false, is_some}
 use Rattle.std.proofs.lemmas.Bool.{true≢false}
 use Rattle.std.specs.Global.{Vec}
 use Rattle.std.specs.Vec.{with_items}
 use Rattle.std.proofs.lemmas.List.{with_items_is}
 use Rattle.std.proofs.lemmas.List.Elements.{All-append, All-cons}
+use Rattle.std.specs.Option.{option_or}
 use Rattle.ags_image.specs.Image.{IsImage, IsImageOf}
 use Rattle.ags_text.specs.Fault.{first_fault}
 use Rattle.ags_isa.specs.declared.orders.Order.{Order}
@@ -15,51 +16,49 @@ use Rattle.ags_card.specs.declared.cards.Body.TheVariants as of
 use Rattle.ags_card.specs.declared.terms.Term.{Term}
 use Rattle.ags_card.specs.declared.cards.Card.{Card}
 use Rattle.ags_symbol.specs.Symbol.{Entry}
-use Rattle.ags_places.specs.declared.source_error.SourceError.{SourceError}
-use Rattle.ags_places.specs.declared.source_error.SourceKind.{SourceKind}
+use Rattle.ags_places.specs.declared.source_error.WordFault.{WordFault}
 use Rattle.ags_places.specs.Place.{place}
-use Rattle.ags_places.specs.Fault.{or_else}
 use Rattle.ags_asm.specs.declared.half_words.HalfWords.{HalfWords}
 use Rattle.ags_places.specs.Place.{count}
 use Rattle.ags_asm.specs.Source.{placed_words}
 use Rattle.ags_asm.specs.Word.{taken, taken_from, word_fault, definitions}
 use Rattle.ags_asm.specs.Waiting.{Waiting, IsMade, closing_fault}
-use Rattle.ags_asm.specs.HalfMade.{HalfMade, IsHalfMade, StandsNext, filled, owned_from, owners_of, told, closed_into}
+use Rattle.ags_asm.specs.HalfMade.{HalfMade, IsHalfMade, StandsNext, filled, owned_from, owners_of, closed_into}
 use Rattle.ags_asm.proofs.HalfMadeLemmas.{half_made_more, half_made_fault, half_made_past, half_made_end, half_made_closed}
 use Rattle.ags_asm.proofs.OwnedLemmas.{owned_so, taken_so, made_count, length-owned_from, wordless}
 
-made_there : (codes : List ℕ) (S : List Entry) (before : List Card) (card : Card) (number at : ℕ) (own : Option SourceKind) (words : List ℕ) (new : List Waiting) → StandsNext S before number at
+made_there : (codes : List ℕ) (S : List Entry) (before : List Card) (card : Card) (number at : ℕ) (own : Option WordFault) (words : List ℕ) (new : List Waiting) → StandsNext S before number at
     → IsMade codes S number at card.body own words new → IsMade codes S (length before + 1) (place S before) card.body own words new
 made_there codes S before card number at own words new next made =
     subst (λ (n : ℕ). IsMade codes S n (place S before) card.body own words new) next.number_is (subst (λ (a : ℕ). IsMade codes S number a card.body own words new) next.at_is made)
 
 module _ (codes : List ℕ) (S : List Entry) (cards before left : List Card) (card : Card) (was now : HalfWords) (so : IsHalfMade codes S cards before (card ∷ left) was) where
   half_there : was.met ≡ None → HalfMade codes S cards before (card ∷ left) was.image was.waiting.items None
-  half_there none = subst (λ (met : Option SourceError). HalfMade codes S cards before (card ∷ left) was.image was.waiting.items (option_map told met)) none so.half
+  half_there none = subst (λ (met : Option (ℕ × WordFault)). HalfMade codes S cards before (card ∷ left) was.image was.waiting.items met) none so.half
 
-  pub keep_past : (error : SourceError) → was.met ≡ Some error → IsHalfMade codes S cards (card ∷ before) left was
-  keep_past error is =
-      let half : HalfMade codes S cards before (card ∷ left) was.image was.waiting.items (Some (told error)) =
-      subst (λ (met : Option SourceError). HalfMade codes S cards before (card ∷ left) was.image was.waiting.items (option_map told met)) is so.half in
+  pub keep_past : (found : ℕ × WordFault) → was.met ≡ Some found → IsHalfMade codes S cards (card ∷ before) left was
+  keep_past found is =
+      let half : HalfMade codes S cards before (card ∷ left) was.image was.waiting.items (Some found) =
+      subst (λ (met : Option (ℕ × WordFault)). HalfMade codes S cards before (card ∷ left) was.image was.waiting.items met) is so.half in
       record {
-        half = rw is (half_made_past codes S cards before card left was.image was.waiting.items (told error) half);
+        half = rw is (half_made_past codes S cards before card left was.image was.waiting.items found half);
         owned = λ none. absurd cc;
         whole = so.whole;
         within = so.within;
       }
 
-  module _ (number at : ℕ) (own : Option SourceKind) (words : List ℕ) (new : List Waiting) (none : was.met ≡ None) (next : StandsNext S before number at) (made : IsMade codes S number at card.body own words new)
+  module _ (number at : ℕ) (own : Option WordFault) (words : List ℕ) (new : List Waiting) (none : was.met ≡ None) (next : StandsNext S before number at) (made : IsMade codes S number at card.body own words new)
       (waits : now.waiting.items ≡ was.waiting.items ++ new) (small : All (λ w. w.place < 4096) new) where
-    pub keep_fault : (kind : SourceKind) → or_else own (taken S before card) ≡ Some kind → IsImage now.image → now.met ≡ Some (record { card = number; kind = kind }) → IsHalfMade codes S cards (card ∷ before) left now
-    keep_fault kind is whole met = record {
+    pub keep_fault : (fault : WordFault) → option_or own (taken S before card) ≡ Some fault → IsImage now.image → now.met ≡ Some (number, fault) → IsHalfMade codes S cards (card ∷ before) left now
+    keep_fault fault is whole met = record {
       half = rw (waits, met, next.number_is)
-          (half_made_fault codes S cards before card left was.image was.waiting.items own words new (half_there none) (made_there codes S before card number at own words new next made) kind now.image is);
+          (half_made_fault codes S cards before card left was.image was.waiting.items own words new (half_there none) (made_there codes S before card number at own words new next made) fault now.image is);
       owned = λ other. absurd cc;
       whole = whole;
       within = rw waits (All-append (λ w. w.place < 4096) was.waiting.items new so.within small);
     }
 
-    pub keep_more : or_else own (taken S before card) ≡ None → at + length words ≤ 4096 → at + count card.body ≤ 4096 → length was.owners.items ≡ 4096 → now.image ≡ filled was.image at words → IsImage now.image
+    pub keep_more : option_or own (taken S before card) ≡ None → at + length words ≤ 4096 → at + count card.body ≤ 4096 → length was.owners.items ≡ 4096 → now.image ≡ filled was.image at words → IsImage now.image
         → now.owners.items ≡ owned_from was.owners.items at (count card.body) number → now.met ≡ None → IsHalfMade codes S cards (card ∷ before) left now
     keep_more is room wide whole image is_image owners met =
         let inside : place S before + length words ≤ length was.image = omega (arith, so.whole.whole, next.at_is, room) in
@@ -81,9 +80,9 @@ module _ (codes : List ℕ) (S : List Entry) (cards before left : List Card) (ca
   found_so : taken_from (owners_of was.owners.items) at many ≡ taken S before card
   found_so = taken_so S before card was.owners.items number at many next count_so (so.owned none) room
 
-  pub keep_taken : (kind : SourceKind) → taken_from (owners_of was.owners.items) at many ≡ Some kind → IsImage now.image → now.met ≡ Some (record { card = number; kind = kind }) → IsHalfMade codes S cards (card ∷ before) left now
-  keep_taken kind found whole met =
-      keep_fault codes S cards before left card was now so number at None words new none next made waits small kind (sym found_so ∙ found) whole met
+  pub keep_taken : (fault : WordFault) → taken_from (owners_of was.owners.items) at many ≡ Some fault → IsImage now.image → now.met ≡ Some (number, fault) → IsHalfMade codes S cards (card ∷ before) left now
+  keep_taken fault found whole met =
+      keep_fault codes S cards before left card was now so number at None words new none next made waits small fault (sym found_so ∙ found) whole met
 
   pub keep_free : taken_from (owners_of was.owners.items) at many ≡ None → length was.owners.items ≡ 4096 → now.image ≡ filled was.image at words → IsImage now.image → now.owners.items ≡ owned_from was.owners.items at many number → now.met ≡ None
       → IsHalfMade codes S cards (card ∷ before) left now
@@ -97,11 +96,11 @@ none_small = λ k d lt. absurd (omega (arith, lt))
 pub one_small : (waiting : Waiting) (at : ℕ) → waiting.place ≡ at → at < 4096 → All (λ (w : Waiting). w.place < 4096) (waiting ∷ [])
 one_small waiting at is small = All-cons (λ (w : Waiting). w.place < 4096) waiting [] (omega (arith, is, small)) none_small
 
-pub not_some : (found : Option SourceKind) → ((kind : SourceKind) → found ≡ Some kind → ⊥) → found ≡ None
+pub not_some : (found : Option WordFault) → ((fault : WordFault) → found ≡ Some fault → ⊥) → found ≡ None
 not_some None other = refl
-not_some (Some kind) other = absurd (other kind refl)
+not_some (Some fault) other = absurd (other fault refl)
 
-pub found_there : (owners items : List ℕ) (at many : ℕ) (result found : Option SourceKind) → owners ≡ items → result ≡ taken_from (owners_of owners) at many → result ≡ found → taken_from (owners_of items) at many ≡ found
+pub found_there : (owners items : List ℕ) (at many : ℕ) (result found : Option WordFault) → owners ≡ items → result ≡ taken_from (owners_of owners) at many → result ≡ found → taken_from (owners_of items) at many ≡ found
 found_there owners items at many result found same is so = ap (λ (o : List ℕ). taken_from (owners_of o) at many) (sym same) ∙ sym is ∙ so
 
 -- the owners as they are written through their slice
@@ -114,21 +113,21 @@ owned_there held new owners at many number same is =
 -- ---- the end
 
 module _ (codes : List ℕ) (S : List Entry) (cards before : List Card) (was : HalfWords) (so : IsHalfMade codes S cards before [] was) where
-  pub ended : closing_fault S was.waiting.items ≡ None → first_fault (word_fault S) [] cards ≡ option_map told was.met
-  ended none = half_made_end codes S cards before was.image was.waiting.items (option_map told was.met) so.half ∙ rw none refl
+  pub ended : closing_fault S was.waiting.items ≡ None → first_fault (word_fault S) [] cards ≡ was.met
+  ended none = half_made_end codes S cards before was.image was.waiting.items was.met so.half ∙ rw none refl
 
   pub closed_so : was.met ≡ None → closing_fault S was.waiting.items ≡ None → (image : List (Option ℕ)) → image ≡ closed_into codes S was.image was.waiting.items → IsImage image
       → IsImageOf (placed_words (definitions codes S cards)) image
   closed_so met none image is is_image =
       let half : HalfMade codes S cards before [] was.image was.waiting.items None =
-      subst (λ (met : Option SourceError). HalfMade codes S cards before [] was.image was.waiting.items (option_map told met)) met so.half in
+      subst (λ (met : Option (ℕ × WordFault)). HalfMade codes S cards before [] was.image was.waiting.items met) met so.half in
       rw is (half_made_closed codes S cards before was.image was.waiting.items half none so.whole.whole so.within (rw is at is_image))
 
 -- ---- a card without words
 
-pub none_of : (met : Option SourceError) (b : Bool) → b ≡ is_some met → b ≡ false → met ≡ None
+pub none_of : {F : Type 0} (met : Option F) (b : Bool) → b ≡ is_some met → b ≡ false → met ≡ None
 none_of None b is so = refl
-none_of (Some error) b is so = absurd (true≢false (sym is ∙ so))
+none_of (Some found) b is so = absurd (true≢false (sym is ∙ so))
 
 -- what is no order, no DEC and no OCT has no word
 pub count_of_others : (body : Body) → ((order : Order) (terms : List Term) (indexed : Bool) → body ≡ of.Order order terms indexed → ⊥) → ((numbers : List Parts) → body ≡ of.Dec numbers → ⊥)

@@ -1,158 +1,88 @@
 -- The fault that is told of a source is the least of all that its cards are faulty by.
-use Rattle.std.proofs.Common.{◌≡◌, ℕ, ◌<◌, List, [], Option, Some, None, refl, sym, ap, subst, ◌∙◌, inl, inr, arith}
-use Rattle.ags_card.specs.declared.cards.Card.{Card}
+use Rattle.std.proofs.Common.{◌≡◌, ℕ, ◌<◌, List, [], Option, Some, None, refl, subst, inl, inr, arith}
+use Rattle.std.specs.Option.{option_or}
 use Rattle.ags_card.specs.declared.cards.CardFault.{CardFault}
-use Rattle.ags_card.specs.declared.cards.CardFault.TheVariants as card
+use Rattle.ags_card.specs.Spelling.{fault_number}
 use Rattle.ags_symbol.specs.Symbol.{Entry}
+use Rattle.ags_places.specs.declared.source_error.PlaceFault.{PlaceFault}
 use Rattle.ags_places.specs.declared.source_error.SourceError.{SourceError}
 use Rattle.ags_places.specs.declared.source_error.SourceKind.{SourceKind}
-use Rattle.ags_places.specs.declared.source_error.SourceKind.TheVariants.{BadByte, LongCard, BadSymbol, UnknownOperation, MissingOperand, ExtraOperand, BadExpression, BadDecimal, BadOctal, SymbolTwice, UndefinedEarly, PlaceRange, Undefined, AddressRange, ValueRange, PlaceTwice}
+use Rattle.ags_places.specs.declared.source_error.SourceKind.TheVariants.{Card, Place, Word}
+use Rattle.ags_places.specs.declared.source_error.WordFault.{WordFault}
 use Rattle.ags_places.specs.Deck.{cards}
-use Rattle.ags_places.specs.Fault.{kind_of, or_else, early_fault, first_card_fault, first_place_fault}
-use Rattle.ags_places.specs.Faulty.{HasCardFault, HasPlaceFault, IsMisplacedBy, kind_number}
+use Rattle.ags_places.specs.Fault.{first_card_fault, first_place_fault, told_as}
+use Rattle.ags_places.specs.Faulty.{kind_number, place_fault_number, word_fault_number}
 use Rattle.ags_places.specs.Place.{Fits}
 use Rattle.ags_places.proofs.CardFaultLemmas.{card_fault_holds, card_fault_least, card_faultless}
 use Rattle.ags_places.proofs.FirstLemmas.{NoLater}
 use Rattle.ags_places.proofs.PlaceFaultLemmas.{place_fault_holds, place_fault_least, place_faultless}
-use Rattle.ags_asm.specs.Faulty.{ArePlacedBefore, HasWordFault, IsFaultyCard, IsLeastFaulty, IsMismadeBy, NoneBefore, Phase, phase_number, phase_of}
-use Rattle.ags_asm.specs.Faulty.Phase.{Cards, Places, Words}
+use Rattle.ags_asm.specs.Faulty.{ArePlacedBefore, IsFaultyCard, IsLeastFaulty, NoneBefore, phase_of}
 use Rattle.ags_asm.specs.Source.{Defines, IsFaulty}
 use Rattle.ags_asm.specs.Word.{CardWords, first_word_fault}
+use Rattle.ags_asm.proofs.ApartLemmas.{source_faultless}
 use Rattle.ags_asm.proofs.MeaningLemmas.{each_means}
 use Rattle.ags_asm.proofs.WordFaultLemmas.{word_fault_holds, word_fault_least, word_faultless}
 
--- ---- the phase of a kind
-
-misread_phase : (fault : CardFault) → phase_of (kind_of fault) ≡ Cards
-misread_phase card.BadByte = refl
-misread_phase card.LongCard = refl
-misread_phase card.BadSymbol = refl
-misread_phase card.UnknownOperation = refl
-misread_phase card.MissingOperand = refl
-misread_phase card.ExtraOperand = refl
-misread_phase card.BadExpression = refl
-misread_phase card.BadDecimal = refl
-misread_phase card.BadOctal = refl
-
-misplaced_phase : (S : List Entry) (kind : SourceKind) (before : List Card) (card : Card) → IsMisplacedBy S kind before card → phase_of kind ≡ Places
-misplaced_phase S BadByte before card is = absurd is
-misplaced_phase S LongCard before card is = absurd is
-misplaced_phase S BadSymbol before card is = absurd is
-misplaced_phase S UnknownOperation before card is = absurd is
-misplaced_phase S MissingOperand before card is = absurd is
-misplaced_phase S ExtraOperand before card is = absurd is
-misplaced_phase S BadExpression before card is = absurd is
-misplaced_phase S BadDecimal before card is = absurd is
-misplaced_phase S BadOctal before card is = absurd is
-misplaced_phase S (SymbolTwice first) before card is = refl
-misplaced_phase S UndefinedEarly before card is = refl
-misplaced_phase S PlaceRange before card is = refl
-misplaced_phase S Undefined before card is = absurd is
-misplaced_phase S (AddressRange value) before card is = absurd is
-misplaced_phase S ValueRange before card is = absurd is
-misplaced_phase S (PlaceTwice first) before card is = absurd is
-
-mismade_phase : (S : List Entry) (all : List Card) (kind : SourceKind) (before : List Card) (card : Card) → IsMismadeBy S all kind before card → phase_of kind ≡ Words
-mismade_phase S all BadByte before card is = absurd is
-mismade_phase S all LongCard before card is = absurd is
-mismade_phase S all BadSymbol before card is = absurd is
-mismade_phase S all UnknownOperation before card is = absurd is
-mismade_phase S all MissingOperand before card is = absurd is
-mismade_phase S all ExtraOperand before card is = absurd is
-mismade_phase S all BadExpression before card is = absurd is
-mismade_phase S all BadDecimal before card is = absurd is
-mismade_phase S all BadOctal before card is = absurd is
-mismade_phase S all (SymbolTwice first) before card is = absurd is
-mismade_phase S all UndefinedEarly before card is = absurd is
-mismade_phase S all PlaceRange before card is = absurd is
-mismade_phase S all Undefined before card is = refl
-mismade_phase S all (AddressRange value) before card is = refl
-mismade_phase S all ValueRange before card is = refl
-mismade_phase S all (PlaceTwice first) before card is = refl
-
-card_phase : (text : List ℕ) (number : ℕ) (kind : SourceKind) → HasCardFault text number kind → phase_of kind ≡ Cards
-card_phase text number kind held = let (fault, has, kind_is) = held.is in ap phase_of kind_is ∙ misread_phase fault
-
-place_phase : (text : List ℕ) (number : ℕ) (kind : SourceKind) → HasPlaceFault text number kind → phase_of kind ≡ Places
-place_phase text number kind (S, fits, held) = misplaced_phase S kind _ held.x held.is
-
-word_phase : (text : List ℕ) (number : ℕ) (kind : SourceKind) → HasWordFault text number kind → phase_of kind ≡ Words
-word_phase text number kind (S, fits, held) = mismade_phase S (cards text) kind _ held.x held.is
-
 -- ---- the least
-
--- of one phase
-in_phase : (phase : ℕ) (card number other more : ℕ) → NoLater card number other more → NoneBefore phase card number phase other more
-in_phase phase card number other more so = inr (refl, so)
 
 not_earlier : (card number other more : ℕ) → NoLater card number other more → other < card → ⊥
 not_earlier card number other more (inl before) less = omega (arith, before, less)
 not_earlier card number other more (inr (same, at)) less = omega (arith, same, less)
 
-module _ (S : List Entry) (text : List ℕ) (fits : Fits S (cards text)) (card : ℕ) (kind : SourceKind) where
-  least_card : first_card_fault text ≡ Some (card, kind) → IsLeastFaulty text (phase_of kind) card kind
-  least_card is =
-      let held = card_fault_holds text card kind is in
-      subst (λ (phase : Phase). IsLeastFaulty text phase card kind) (sym (card_phase text card kind held)) (record { faulty = held; least = least })
+module _ (S : List Entry) (text : List ℕ) (fits : Fits S (cards text)) (card : ℕ) where
+  least_card : (fault : CardFault) → first_card_fault text ≡ Some (card, fault) → IsLeastFaulty text card (Card fault)
+  least_card fault is = record { faulty = card_fault_holds text card fault is; least = least }
     where
-      least : (other : Phase) (number : ℕ) (too : SourceKind) → IsFaultyCard text other number too → NoneBefore 1 card (kind_number kind) (phase_number other) number (kind_number too)
-      least Cards number too faulty = in_phase 1 card (kind_number kind) number (kind_number too) (card_fault_least text card kind is number too faulty)
-      least Places number too faulty = inl (omega arith)
-      least Words number too faulty = inl (omega arith)
+      least : (number : ℕ) (too : SourceKind) → IsFaultyCard text number too → NoneBefore 1 card (fault_number fault) (phase_of too) number (kind_number too)
+      least number (Card too) faulty = inr (refl, card_fault_least text card fault is number too faulty)
+      least number (Place too) faulty = inl (omega arith)
+      least number (Word too) faulty = inl (omega arith)
 
-  least_place : first_card_fault text ≡ None → first_place_fault S text ≡ Some (card, kind) → IsLeastFaulty text (phase_of kind) card kind
-  least_place none is =
-      let held = place_fault_holds S text fits card kind is in
+  least_place : (fault : PlaceFault) → first_card_fault text ≡ None → first_place_fault S text ≡ Some (card, fault) → IsLeastFaulty text card (Place fault)
+  least_place fault none is =
       let first : ArePlacedBefore text card = λ other too less faulty.
-      not_earlier card (kind_number kind) other (kind_number too) (place_fault_least S text fits card kind is other too faulty) less in
-      subst (λ (phase : Phase). IsLeastFaulty text phase card kind) (sym (place_phase text card kind held))
-      (record { faulty = (held, card_faultless text none, first); least = least })
+      not_earlier card (place_fault_number fault) other (place_fault_number too) (place_fault_least S text fits card fault is other too faulty) less in
+      record { faulty = (place_fault_holds S text fits card fault is, card_faultless text none, first); least = least }
     where
-      least : (other : Phase) (number : ℕ) (too : SourceKind) → IsFaultyCard text other number too → NoneBefore 2 card (kind_number kind) (phase_number other) number (kind_number too)
-      least Cards number too faulty = absurd (card_faultless text none number too faulty)
-      least Places number too faulty = in_phase 2 card (kind_number kind) number (kind_number too) (place_fault_least S text fits card kind is number too faulty.0)
-      least Words number too faulty = inl (omega arith)
+      least : (number : ℕ) (too : SourceKind) → IsFaultyCard text number too → NoneBefore 2 card (place_fault_number fault) (phase_of too) number (kind_number too)
+      least number (Card too) faulty = absurd (card_faultless text none number too faulty)
+      least number (Place too) faulty = inr (refl, place_fault_least S text fits card fault is number too faulty.0)
+      least number (Word too) faulty = inl (omega arith)
 
-  least_word : first_card_fault text ≡ None → first_place_fault S text ≡ None → first_word_fault S text ≡ Some (card, kind) → IsLeastFaulty text (phase_of kind) card kind
-  least_word none placed is =
-      let held = word_fault_holds S text fits card kind is in
-      subst (λ (phase : Phase). IsLeastFaulty text phase card kind) (sym (word_phase text card kind held))
-      (record { faulty = (held, card_faultless text none, place_faultless S text fits placed); least = least })
+  least_word : (fault : WordFault) → first_card_fault text ≡ None → first_place_fault S text ≡ None → first_word_fault S text ≡ Some (card, fault) → IsLeastFaulty text card (Word fault)
+  least_word fault none placed is =
+      record { faulty = (word_fault_holds S text fits card fault is, card_faultless text none, place_faultless S text fits placed); least = least }
     where
-      least : (other : Phase) (number : ℕ) (too : SourceKind) → IsFaultyCard text other number too → NoneBefore 3 card (kind_number kind) (phase_number other) number (kind_number too)
-      least Cards number too faulty = absurd (card_faultless text none number too faulty)
-      least Places number too faulty = absurd (place_faultless S text fits placed number too faulty.0)
-      least Words number too faulty = in_phase 3 card (kind_number kind) number (kind_number too) (word_fault_least S text fits card kind is number too faulty.0)
+      least : (number : ℕ) (too : SourceKind) → IsFaultyCard text number too → NoneBefore 3 card (word_fault_number fault) (phase_of too) number (kind_number too)
+      least number (Card too) faulty = absurd (card_faultless text none number too faulty)
+      least number (Place too) faulty = absurd (place_faultless S text fits placed number too faulty.0)
+      least number (Word too) faulty = inr (refl, word_fault_least S text fits card fault is number too faulty.0)
 
-  -- what is told is of the first phase that tells a fault
-  by_phase : (misread misplaced : Option (ℕ × SourceKind)) → first_card_fault text ≡ misread → first_place_fault S text ≡ misplaced
-      → or_else (or_else misread misplaced) (first_word_fault S text) ≡ Some (card, kind) → IsLeastFaulty text (phase_of kind) card kind
-  by_phase (Some one) misplaced misread_is misplaced_is told = least_card (misread_is ∙ told)
-  by_phase None (Some one) misread_is misplaced_is told = least_place misread_is (misplaced_is ∙ told)
-  by_phase None None misread_is misplaced_is told = least_word misread_is misplaced_is told
+-- what is told is of the first phase that tells a fault
+by_phase : (S : List Entry) (text : List ℕ) → Fits S (cards text) → (misread : Option (ℕ × CardFault)) (misplaced : Option (ℕ × PlaceFault)) (mismade : Option (ℕ × WordFault)) (found : ℕ × SourceKind)
+    → first_card_fault text ≡ misread → first_place_fault S text ≡ misplaced → first_word_fault S text ≡ mismade
+    → option_or (option_or (told_as Card misread) (told_as Place misplaced)) (told_as Word mismade) ≡ Some found → IsLeastFaulty text found.0 found.1
+by_phase S text fits (Some one) misplaced mismade found misread_is misplaced_is mismade_is told =
+    let same : (one.0, Card one.1) ≡ found = cc in
+    subst (λ (f : ℕ × SourceKind). IsLeastFaulty text f.0 f.1) same (least_card S text fits one.0 one.1 misread_is)
+by_phase S text fits None (Some one) mismade found misread_is misplaced_is mismade_is told =
+    let same : (one.0, Place one.1) ≡ found = cc in
+    subst (λ (f : ℕ × SourceKind). IsLeastFaulty text f.0 f.1) same (least_place S text fits one.0 one.1 misread_is misplaced_is)
+by_phase S text fits None None (Some one) found misread_is misplaced_is mismade_is told =
+    let same : (one.0, Word one.1) ≡ found = cc in
+    subst (λ (f : ℕ × SourceKind). IsLeastFaulty text f.0 f.1) same (least_word S text fits one.0 one.1 misread_is misplaced_is mismade_is)
+by_phase S text fits None None None found misread_is misplaced_is mismade_is told = absurd cc
 
-pub told_least : (text : List ℕ) (error : SourceError) → IsFaulty text error → IsLeastFaulty text (phase_of error.kind) error.card error.kind
+pub told_least : (text : List ℕ) (error : SourceError) → IsFaulty text error → IsLeastFaulty text error.card error.kind
 told_least text error so =
-    by_phase so.symbols text so.fits error.card error.kind (first_card_fault text) (first_place_fault so.symbols text) refl refl so.first
+    by_phase so.symbols text so.fits (first_card_fault text) (first_place_fault so.symbols text) (first_word_fault so.symbols text) (error.card, error.kind) refl refl refl so.first
 
 -- ---- where the source is defined
 
-both_none : {F : Type 0} (first later : Option F) → or_else first later ≡ None → (first ≡ None) × (later ≡ None)
-both_none None later none = (refl, none)
-both_none (Some fault) later none = absurd cc
-
-pub defined_faultless : (codes text : List ℕ) (defined : CardWords) → Defines codes text defined → (phase : Phase) (card : ℕ) (kind : SourceKind)
-    → IsFaultyCard text phase card kind → ⊥
-defined_faultless codes text defined so phase card kind faulty =
-    let (early, word) = both_none (early_fault so.symbols text) (first_word_fault so.symbols text) so.faultless in
-    let (misread, misplaced) = both_none (first_card_fault text) (first_place_fault so.symbols text) early in
-    by_phase_of misread misplaced word phase faulty
-  where
-    by_phase_of : first_card_fault text ≡ None → first_place_fault so.symbols text ≡ None → first_word_fault so.symbols text ≡ None
-        → (phase : Phase) → IsFaultyCard text phase card kind → ⊥
-    by_phase_of misread misplaced word Cards faulty = card_faultless text misread card kind faulty
-    by_phase_of misread misplaced word Places faulty = place_faultless so.symbols text so.fits misplaced card kind faulty.0
-    by_phase_of misread misplaced word Words faulty = word_faultless so.symbols text so.fits word card kind faulty.0
+pub defined_faultless : (codes text : List ℕ) (defined : CardWords) → Defines codes text defined → (card : ℕ) (kind : SourceKind) → IsFaultyCard text card kind → ⊥
+defined_faultless codes text defined so card (Card fault) faulty = card_faultless text (source_faultless so.symbols text so.faultless).0 card fault faulty
+defined_faultless codes text defined so card (Place fault) faulty = place_faultless so.symbols text so.fits (source_faultless so.symbols text so.faultless).1 card fault faulty.0
+defined_faultless codes text defined so card (Word fault) faulty = word_faultless so.symbols text so.fits (source_faultless so.symbols text so.faultless).2 card fault faulty.0
 
 -- ---- and the least is told
 
@@ -167,13 +97,13 @@ neither_before p c n q d m (inr (same, inl before)) (inr (too, inr (at, more))) 
 neither_before p c n q d m (inr (same, inr (at, less))) (inr (too, inl later)) = absurd (omega (arith, later, at))
 neither_before p c n q d m (inr (same, inr (at, less))) (inr (too, inr (there, more))) = (at, omega (arith, less, more))
 
-pub least_told : (text : List ℕ) (phase : Phase) (card : ℕ) (kind : SourceKind) → IsLeastFaulty text phase card kind
+pub least_told : (text : List ℕ) (card : ℕ) (kind : SourceKind) → IsLeastFaulty text card kind
     → (error : SourceError) × IsFaulty text error × (error.card ≡ card) × (kind_number error.kind ≡ kind_number kind)
-least_told text phase card kind least = elim (each_means [] text) [
-  | inl (defined, defines) ↦ absurd (defined_faultless [] text defined defines phase card kind least.faulty)
+least_told text card kind least = elim (each_means [] text) [
+  | inl (defined, defines) ↦ absurd (defined_faultless [] text defined defines card kind least.faulty)
   | inr (error, faulty) ↦
       let told = told_least text error faulty in
-      let same = neither_before (phase_number (phase_of error.kind)) error.card (kind_number error.kind) (phase_number phase) card (kind_number kind)
-      (told.least phase card kind least.faulty) (least.least (phase_of error.kind) error.card error.kind told.faulty) in
+      let same = neither_before (phase_of error.kind) error.card (kind_number error.kind) (phase_of kind) card (kind_number kind)
+      (told.least card kind least.faulty) (least.least error.card error.kind told.faulty) in
       (error, faulty, same.0, same.1)
 ]

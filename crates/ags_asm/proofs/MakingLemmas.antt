@@ -2,6 +2,7 @@
 use Rattle.std.proofs.Common.{◌≡◌, ℕ, Bool, List, [], ◌∷◌, ◌++◌, Option, Some, None, refl, ℤ, arith}
 use Rattle.std.specs.Prelude.{◌*◌, unsigned_abs, length, FitsSigned}
 use Rattle.std.specs.Int.{w32}
+use Rattle.std.specs.Option.{option_or}
 use Rattle.ags_symbol.specs.Bound.{IsAtMost}
 use Rattle.std.proofs.lemmas.Int.{ints, fits_signed_from_abs}
 use Rattle.ags_isa.specs.declared.orders.Order.{Order}
@@ -12,9 +13,8 @@ use Rattle.ags_card.specs.declared.terms.Term.{Term}
 use Rattle.ags_symbol.specs.Symbol.{Entry, plus, sum_of}
 use Rattle.ags_symbol.specs.Split.{known_sum, open_terms}
 use Rattle.ags_symbol.proofs.SplitLemmas.{sum_is_split, sum_stays}
-use Rattle.ags_places.specs.declared.source_error.SourceKind.{SourceKind}
+use Rattle.ags_places.specs.declared.source_error.WordFault.{WordFault}
 use Rattle.ags_text.specs.Fault.{or_later}
-use Rattle.ags_places.specs.Fault.{or_else}
 use Rattle.ags_asm.specs.Word.{address_fault}
 use Rattle.ags_asm.specs.Waiting.{IsMade, numbered}
 
@@ -28,9 +28,9 @@ made_known codes E later number at order terms indexed value word is right word_
       words_are = λ _. rw (whole, word_is) refl;
     }
 
-pub made_fault : (codes : List ℕ) (E later : List Entry) (number at : ℕ) (order : Order) (terms : List Term) (indexed : Bool) (value : ℤ) (kind : SourceKind) → sum_of E at terms ≡ Some value
-    → address_fault (Some value) ≡ Some kind → IsMade codes (E ++ later) number at (body.Order order terms indexed) (Some kind) [] []
-made_fault codes E later number at order terms indexed value kind is wrong =
+pub made_fault : (codes : List ℕ) (E later : List Entry) (number at : ℕ) (order : Order) (terms : List Term) (indexed : Bool) (value : ℤ) (fault : WordFault) → sum_of E at terms ≡ Some value
+    → address_fault (Some value) ≡ Some fault → IsMade codes (E ++ later) number at (body.Order order terms indexed) (Some fault) [] []
+made_fault codes E later number at order terms indexed value fault is wrong =
     let whole = sum_stays E later at terms value is in
     record {
       fault = rw (whole, wrong) refl;
@@ -38,9 +38,9 @@ made_fault codes E later number at order terms indexed value kind is wrong =
     }
 
 -- one that waits
-numbered_later : (n : ℕ) (x : Option SourceKind) → numbered n x ≡ or_else (or_later n x None) None
+numbered_later : (n : ℕ) (x : Option WordFault) → numbered n x ≡ option_or (or_later n x None) None
 numbered_later n None = refl
-numbered_later n (Some kind) = refl
+numbered_later n (Some fault) = refl
 
 pub made_waits : (codes : List ℕ) (E later : List Entry) (number at : ℕ) (order : Order) (terms : List Term) (indexed : Bool) (sum : ℤ) (rest : List Term) → sum ≡ known_sum E at terms → rest ≡ open_terms E at terms
     → IsMade codes (E ++ later) number at (body.Order order terms indexed) None [] (record { card = number; place = at; order = order; indexed = indexed; sum = sum; rest = rest } ∷ [])

@@ -21,20 +21,21 @@ use Rattle.ags_card.specs.Limit.{KeepsLimits}
 use Rattle.ags_card.specs.Reading.{reading}
 use Rattle.ags_card.proofs.LimitLaws.{card_limits}
 use Rattle.ags_symbol.specs.Symbol.{Entry, sum_of}
-use Rattle.ags_places.specs.declared.source_error.SourceKind.{SourceKind}
-use Rattle.ags_places.specs.declared.source_error.SourceKind.TheVariants.{AddressRange}
+use Rattle.ags_places.specs.declared.source_error.WordFault.{WordFault}
+use Rattle.ags_places.specs.declared.source_error.WordFault.TheVariants.{AddressRange}
 use Rattle.ags_places.specs.Deck.{card_of, card_lines, cards_in, readings}
-use Rattle.ags_places.specs.Fault.{body_fault, card_fault, is_place, place_fault, twice, early_fault, first_card_fault, first_place_fault}
+use Rattle.ags_places.specs.Fault.{body_fault, card_fault, is_place, place_fault, twice}
+use Rattle.ags_places.proofs.FirstLemmas.{both_none, none_later}
 use Rattle.ags_places.specs.Place.{early, operand, place}
 use Rattle.ags_places.proofs.PlacingLemmas.{each_within}
 use Rattle.ags_asm.specs.Source.{Defines, placed_words}
-use Rattle.ags_asm.specs.Word.{CardWords, address_fault, decimal_words, words_at, definition, definitions_after, word_fault_at, taken, word_fault, first_word_fault}
-use Rattle.ags_asm.proofs.ApartLemmas.{none_later, first_none, second_none, in_from, words_counted}
+use Rattle.ags_asm.specs.Word.{CardWords, address_fault, decimal_words, words_at, definition, definitions_after, word_fault_at, taken, word_fault}
+use Rattle.ags_asm.proofs.ApartLemmas.{in_from, source_faultless, words_counted}
 
 -- ---- the word of a card
 
 -- an operand without a fault comes to an address
-within_so : (value : ℤ) (b : Bool) → is_place value ≡ b → ◌≡◌ {A = Option SourceKind} (cond b None (Some (AddressRange value))) None → is_place value ≡ true
+within_so : (value : ℤ) (b : Bool) → is_place value ≡ b → ◌≡◌ {A = Option WordFault} (cond b None (Some (AddressRange value))) None → is_place value ≡ true
 within_so value true is none = is
 within_so value false is none = absurd cc
 
@@ -85,7 +86,7 @@ limits_of : (bytes : List ℕ) (read : Result Card CardFault) → reading bytes 
 limits_of bytes (Ok card) is ok = card_limits bytes card is
 limits_of bytes (Err fault) is ok = absurd cc
 
-card_here : (number : ℕ) (read : Result Card CardFault) (later : Option (ℕ × SourceKind)) → or_later number (card_fault [] read) later ≡ None → IsOk read × (later ≡ None)
+card_here : (number : ℕ) (read : Result Card CardFault) (later : Option (ℕ × CardFault)) → or_later number (card_fault [] read) later ≡ None → IsOk read × (later ≡ None)
 card_here number (Ok card) later none = (refl, none)
 card_here number (Err fault) later none = absurd cc
 
@@ -103,8 +104,8 @@ memory_along codes S before (line ∷ lines) was one are read placed none among 
     elim (Contains-append_cases (definition codes S before card) (placed_words (definitions_after codes S (card ∷ before) (cards_in lines))) one among) [
       | inl here ↦
           let so = in_from at (words_at codes S at card.body) one here in
-          let inside = second_none (twice (early S (length before)) card.symbol) (body_fault (early S (length before)) at card.body) standing.0 in
-          let faultless = first_none (word_fault_at S at card.body) (taken S before card) parts.0 in
+          let inside = (both_none (twice (early S (length before)) card.symbol) (body_fault (early S (length before)) at card.body) standing.0).1 in
+          let faultless = (both_none (word_fault_at S at card.body) (taken S before card) parts.0).0 in
           record {
             place = omega (arith, so.2, place_small codes S (early S (length before)) at card.body so.0 inside so.1);
             word = rw so.3 (words_small codes S at card.body so.0 are (limits_of line.bytes (reading line.bytes) refl lines_read.0) faultless so.1);
@@ -115,7 +116,5 @@ memory_along codes S before (line ∷ lines) was one are read placed none among 
 
 pub words_of_memory : (codes text : List ℕ) (defined : CardWords) → AreCodes codes → Defines codes text defined → (one : PlacedWord) → Contains (placed_words defined) one → IsMemoryWord one
 words_of_memory codes text defined are so one among =
-    let placed = first_none (early_fault so.symbols text) (first_word_fault so.symbols text) so.faultless in
-    let read = first_none (first_card_fault text) (first_place_fault so.symbols text) placed in
-    memory_along codes so.symbols [] (card_lines text) [] one are read (second_none (first_card_fault text) (first_place_fault so.symbols text) placed)
-    (second_none (early_fault so.symbols text) (first_word_fault so.symbols text) so.faultless) (subst (λ (words : CardWords). Contains (placed_words words) one) so.words among)
+    let (read, placed, made) = source_faultless so.symbols text so.faultless in
+    memory_along codes so.symbols [] (card_lines text) [] one are read placed made (subst (λ (words : CardWords). Contains (placed_words words) one) so.words among)

@@ -1,50 +1,27 @@
 -- The owners of places, one card further, and how many words and fix-ups a card makes.
-use Rattle.std.proofs.Common.{◌≡◌, ◌≢◌, ℕ, zero, suc, ◌+◌, ◌-◌, ◌<◌, ◌≤◌, Bool, true, false, cond, List, [], ◌∷◌, length, get_or, set, Option, Some, None, option_map, unwrap_or, refl, ap, ◌∙◌, arith, inl, inr}
+use Rattle.std.proofs.Common.{◌≡◌, ◌≢◌, ℕ, zero, suc, ◌+◌, ◌-◌, ◌<◌, ◌≤◌, Bool, true, false, cond, List, [], ◌∷◌, length, get_or, set, Option, Some, None, unwrap_or, refl, ap, ◌∙◌, arith, inl, inr}
 use Rattle.std.specs.Prelude.{◌==◌, ◌&&◌, nat_le}
 use Rattle.std.proofs.lemmas.Bool.{cases_eq, cases_lt, ne_eqb, le-leb, lt-ltb, lt-leb, le-ltb}
 use Rattle.std.proofs.lemmas.List.{length-append, length-set, get_or-set_same, get_or-set_other, length-map}
-use Rattle.ags_image.specs.Image.{with_word}
-use Rattle.ags_image.proofs.ImageLaws.{length-with_word}
 use Rattle.ags_card.specs.declared.cards.Body.{Body}
 use Rattle.ags_card.specs.declared.cards.Body.TheVariants.{Comment, Order, Org, Equ, Bss, Bes, Dec, Oct, End}
 use Rattle.std.specs.List.{count_by}
 use Rattle.std.proofs.lemmas.List.Sums.{sum_by-set}
 use Rattle.ags_card.specs.declared.cards.Card.{Card}
 use Rattle.ags_symbol.specs.Symbol.{Entry}
-use Rattle.ags_places.specs.declared.source_error.SourceKind.TheVariants.{PlaceTwice}
+use Rattle.ags_places.specs.declared.source_error.WordFault.TheVariants.{PlaceTwice}
 use Rattle.ags_places.specs.Place.{place}
-use Rattle.ags_places.specs.Fault.{or_else}
 use Rattle.ags_places.specs.Place.{count}
 use Rattle.ags_asm.specs.Word.{words_at, placed_from, is_among, owner, taken_from, taken}
 use Rattle.ags_asm.specs.Waiting.{Waiting, closed_word, closed_words, IsMade}
-use Rattle.ags_asm.specs.HalfMade.{AreOwners, StandsNext, filled, owner_numbered, owners_of, owned_from, is_number}
+use Rattle.ags_asm.specs.HalfMade.{AreOwners, StandsNext, owner_numbered, owners_of, owned_from, is_number}
 use Rattle.ags_asm.proofs.ApartLemmas.{words_counted}
 
 -- ---- one place more
 
-pub taken-none : (owned : ℕ → Option ℕ) (at many : ℕ) → many ≡ 0 → taken_from owned at many ≡ None
-taken-none owned at zero none = refl
-taken-none owned at (suc many) none = absurd (omega (arith, none))
-
-pub taken-more : (owned : ℕ → Option ℕ) (at many : ℕ) → many ≢ 0 → taken_from owned at many ≡ or_else (option_map PlaceTwice (owned at)) (taken_from owned (at + 1) (many - 1))
-taken-more owned at zero some = absurd (some refl)
-taken-more owned at (suc many) some = let same : suc many - 1 ≡ many = omega arith in rw same refl
-
-pub owned-none : (owners : List ℕ) (at many number : ℕ) → many ≡ 0 → owned_from owners at many number ≡ owners
-owned-none owners at zero number none = refl
-owned-none owners at (suc many) number none = absurd (omega (arith, none))
-
-pub owned-more : (owners : List ℕ) (at many number : ℕ) → many ≢ 0 → owned_from owners at many number ≡ owned_from (set owners at number) (at + 1) (many - 1) number
-owned-more owners at zero number some = absurd (some refl)
-owned-more owners at (suc many) number some = let same : suc many - 1 ≡ many = omega arith in rw same refl
-
 pub length-owned_from : (owners : List ℕ) (at many number : ℕ) → length (owned_from owners at many number) ≡ length owners
 length-owned_from owners at zero number = refl
 length-owned_from owners at (suc many) number = length-owned_from (set owners at number) (at + 1) many number ∙ length-set owners at number
-
-pub length-filled : (image : List (Option ℕ)) (at : ℕ) (words : List ℕ) → length (filled image at words) ≡ length image
-length-filled image at [] = refl
-length-filled image at (word ∷ words) = length-filled (with_word image at word) (at + 1) words ∙ length-with_word image at word
 
 -- ---- owners
 

@@ -8,9 +8,10 @@ use Rattle.ags_text.proofs.FaultLemmas.{faultless}
 use Rattle.ags_card.specs.declared.cards.Card.{Card}
 use Rattle.ags_symbol.specs.Symbol.{Entry}
 use Rattle.ags_places.specs.Place.{count, place}
+use Rattle.ags_places.proofs.FirstLemmas.{both_none}
 use Rattle.ags_asm.specs.Faulty.{HasWordAt, StandsBefore, StandsNearest}
 use Rattle.ags_asm.specs.Word.{is_among, owner, taken, word_fault, word_fault_at}
-use Rattle.ags_asm.proofs.ApartLemmas.{among_so, second_none, unowned_from}
+use Rattle.ags_asm.proofs.ApartLemmas.{among_so, unowned_from}
 
 -- ---- a card that has a word there
 
@@ -33,7 +34,7 @@ stands_further : (S : List Entry) (card : Card) (before : List Card) (number at 
 stands_further S card before number at (one, earlier, (later, whole, number_is), stands) =
     (one, earlier, (card ∷ later, ap (λ (cs : List Card). card ∷ cs) whole, number_is), stands)
 
--- it is the nearest card, or one behind that
+-- it is the nearest card, or one after that
 stands_cases : (S : List Entry) (card : Card) (before : List Card) (number at : ℕ) → StandsBefore S (card ∷ before) number at
     → ((number ≡ length before + 1) × HasWordAt S before card at) ⊎ StandsBefore S before number at
 stands_cases S card before number at (one, earlier, ([], whole, number_is), stands) =
@@ -121,7 +122,7 @@ unowned S at before none = by_owner (owner S at before) refl
 
 -- ---- it is the only one, where no card has a fault of the phase of words
 
--- of two cards of a list the one with fewer behind it stands behind the other
+-- of two cards of a list the one with fewer after it stands after the other
 behind_other : (later other : List Card) (card one : Card) (earlier rest : List Card) → later ++ card ∷ earlier ≡ other ++ one ∷ rest → length rest < length earlier
     → (between : List Card) × (earlier ≡ between ++ one ∷ rest)
 behind_other [] [] card one earlier rest same less = let is : earlier ≡ rest = cc in absurd (omega (arith, less, ap length is))
@@ -133,7 +134,7 @@ behind_other (y ∷ later) (x ∷ other) card one earlier rest same less =
     let is : later ++ card ∷ earlier ≡ other ++ one ∷ rest = cc in
     behind_other later other card one earlier rest is less
 
--- a card behind earlier ones, as it stands in the list
+-- a card after earlier ones, as it stands in the list
 turned : (cards later : List Card) (card : Card) (earlier : List Card) → reverse cards ≡ later ++ card ∷ earlier → cards ≡ reverse earlier ++ card ∷ reverse later
 turned cards later card earlier is =
     sym (reverse-reverse cards) ∙ ap reverse is ∙ reverse-append later (card ∷ earlier) ∙ ap (λ (front : List Card). front ++ reverse later) (reverse-cons card earlier)
@@ -146,7 +147,7 @@ module _ (S : List Entry) (cards : List Card) (at : ℕ) (none : first_fault (wo
   none_earlier later card earlier is stands =
       let here : word_fault S (reverse (reverse earlier) ++ []) card ≡ None = faultless (word_fault S) [] cards none (reverse earlier) card (reverse later) (turned cards later card earlier is) in
       let free : word_fault S earlier card ≡ None = subst (λ (before : List Card). word_fault S before card ≡ None) (append-nil (reverse (reverse earlier)) ∙ reverse-reverse earlier) here in
-      unowned_here S earlier card at (second_none (word_fault_at S (place S earlier) card.body) (taken S earlier card) free) stands
+      unowned_here S earlier card at (both_none (word_fault_at S (place S earlier) card.body) (taken S earlier card) free).1 stands
 
   not_two : (one other : ℕ) → StandsBefore S (reverse cards) one at → StandsBefore S (reverse cards) other at → one < other → ⊥
   not_two one other (card, rest, (front, whole, number_is), stands) (later_card, earlier, (later, later_whole, later_is), later_stands) less =

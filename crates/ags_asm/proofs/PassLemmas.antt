@@ -7,12 +7,15 @@ use Rattle.ags_places.specs.declared.placed.Placed.{Placed}
 use Rattle.std.proofs.lemmas.List.{length-append, length-replicate, get_or-replicate}
 use Rattle.ags_text.specs.Line.{LineAt, Follow}
 use Rattle.ags_card.specs.declared.cards.Card.{Card}
+use Rattle.ags_card.specs.declared.cards.CardFault.{CardFault}
 use Rattle.ags_card.specs.Reading.{reading}
 use Rattle.ags_card.specs.Spelling.{comment_card}
 use Rattle.ags_symbol.specs.Symbol.{Entry}
 use Rattle.ags_places.specs.declared.source_error.AssembleError.{AssembleError}
 use Rattle.ags_places.specs.declared.source_error.AssembleError.TheVariants.{Source, NoMemory}
-use Rattle.ags_places.specs.declared.source_error.SourceError.{SourceError}
+use Rattle.ags_places.specs.declared.source_error.PlaceFault.{PlaceFault}
+use Rattle.ags_places.specs.declared.source_error.SourceKind.TheVariants as kind
+use Rattle.ags_places.specs.declared.source_error.WordFault.{WordFault}
 use Rattle.ags_places.specs.Deck.{is_end, ends, deck, card_lines, card_of, cards_in, cards}
 use Rattle.ags_places.specs.Fault.{place_fault_at, first_card_fault}
 use Rattle.ags_places.specs.Place.{count, place, symbol_value, pair_of, place_of_word}
@@ -22,7 +25,7 @@ use Rattle.ags_places.proofs.RunningLemmas.{known, next_pair, next_pairs, Agrees
 use Rattle.ags_asm.specs.declared.passing.Pass.{Pass}
 use Rattle.ags_asm.specs.declared.half_words.HalfWords.{HalfWords}
 use Rattle.ags_asm.specs.Word.{owner}
-use Rattle.ags_asm.specs.HalfMade.{IsFreshWords, IsHalfMade, StandsNext, told}
+use Rattle.ags_asm.specs.HalfMade.{IsFreshWords, IsHalfMade, StandsNext}
 use Rattle.ags_asm.specs.Pass.{IsFresh, IsEnded, IsPassed}
 use Rattle.ags_asm.specs.Passing.{IsMisread, IsTaken, IsTakenLine, IsTakenWhole, IsWithinLimits}
 use Rattle.ags_asm.specs.Source.{IsFaulty, IsRefused}
@@ -50,7 +53,7 @@ pub record HalfPlaced (codes text : List ℕ) (left : List LineAt) (number : ℕ
 -- so many lines are read, and these are left
 pub record Passed (codes text : List ℕ) (left : List LineAt) (number : ℕ) (pass : Pass) : Type 0 where
   pub reading : Reading text left number
-  pub misplaced : (error : SourceError) → pass.misplaced ≡ Some error → IsFirstPlaceFault text error
+  pub misplaced : (found : ℕ × PlaceFault) → pass.misplaced ≡ Some found → IsFirstPlaceFault text found
   pub placed : pass.misplaced ≡ None → HalfPlaced codes text left number pass
 
 -- ---- the start
@@ -84,7 +87,7 @@ fresh_placed codes text pass follow fresh = record {
 pub passed_none : (codes text : List ℕ) (pass : Pass) → Follow text 0 (card_lines text) → IsFresh pass → Passed codes text (card_lines text) 0 pass
 passed_none codes text pass follow fresh = record {
   reading = Reading-none text follow;
-  misplaced = λ error is. let none = fresh.misplaced in absurd cc;
+  misplaced = λ found is. let none = fresh.misplaced in absurd cc;
   placed = λ _. fresh_placed codes text pass follow fresh;
 }
 
@@ -124,37 +127,36 @@ module _ (codes text : List ℕ) (line : LineAt) (left : List LineAt) (number : 
         half = subst (λ (S : List Entry). IsHalfMade codes S (cards text) (card ∷ so.before) (cards_in left) now.words) (sym later) step;
       }
 
-  misplaced_here : HalfPlaced codes text (line ∷ left) number was → (error : SourceError) → error.card ≡ number + 1 → place_fault_at was.symbols was.place card ≡ Some error.kind → IsFirstPlaceFault text error
-  misplaced_here so error card_is fault =
-      let first = Placing-fault text line left was.cards.items was.symbols was.place card error.kind so.placing is fault in
-      let same : length was.cards.items + 1 ≡ error.card = omega (arith, so.number_is, card_is) in
-      first_place_fault_is text error.card error.kind (first ∙ ap (λ (n : ℕ). Some (n, error.kind)) same)
+  misplaced_here : HalfPlaced codes text (line ∷ left) number was → (fault : PlaceFault) → place_fault_at was.symbols was.place card ≡ Some fault → IsFirstPlaceFault text (number + 1, fault)
+  misplaced_here so fault wrong =
+      let first = Placing-fault text line left was.cards.items was.symbols was.place card fault so.placing is wrong in
+      first_place_fault_is text (number + 1, fault) (first ∙ ap (λ (n : ℕ). Some (n + 1, fault)) (sym so.number_is))
 
   pub passed_more : Passed codes text (line ∷ left) number was → IsTaken codes line (number + 1) card was now → Passed codes text left (number + 1) now
   passed_more so (inl whole) = record {
     reading = Reading-more text line left number card so.reading is;
-    misplaced = λ error some. let none = whole.1.misplaced in absurd cc;
+    misplaced = λ found some. let none = whole.1.misplaced in absurd cc;
     placed = λ _. placed_more (so.placed whole.0) whole.1;
   }
   passed_more so (inr (inl stopped)) = record {
     reading = Reading-more text line left number card so.reading is;
-    misplaced = λ error some.
-        let same : stopped.1 ≡ error = cc in
-        subst (λ (e : SourceError). IsFirstPlaceFault text e) same (misplaced_here (so.placed stopped.0) stopped.1 stopped.3 stopped.4);
+    misplaced = λ found some.
+        let same : (number + 1, stopped.1) ≡ found = cc in
+        subst (λ (f : ℕ × PlaceFault). IsFirstPlaceFault text f) same (misplaced_here (so.placed stopped.0) stopped.1 stopped.3);
     placed = λ none. let some = stopped.2 in absurd cc;
   }
   passed_more so (inr (inr past)) = record {
     reading = Reading-more text line left number card so.reading is;
-    misplaced = λ error some.
-        let same : past.0 ≡ error = cc in
-        so.misplaced error (rw same at past.1);
+    misplaced = λ found some.
+        let same : past.0 ≡ found = cc in
+        so.misplaced found (rw same at past.1);
     placed = λ none. let some = past.2 in absurd cc;
   }
 
 -- the card of a comment, where no card was misplaced
-pub none_of : (misplaced : Option SourceError) (b : Bool) → is_some misplaced ≡ not b → b ≡ true → misplaced ≡ None
+pub none_of : {F : Type 0} (found : Option F) (b : Bool) → is_some found ≡ not b → b ≡ true → found ≡ None
 none_of None b is so = refl
-none_of (Some error) b is so = absurd (true≢false (is ∙ ap not so))
+none_of (Some one) b is so = absurd (true≢false (is ∙ ap not so))
 
 pub taken_comment : (codes : List ℕ) (line : LineAt) (number : ℕ) (was : Pass) (placed : Vec Placed) → was.misplaced ≡ None → IsWithinLimits was → placed.items ≡ was.cards.items ++ placed_at line None 0 ∷ []
     → IsTaken codes line number comment_card was (record { cards = placed; symbols = was.symbols; place = was.place; words = was.words; misplaced = was.misplaced })
@@ -170,10 +172,10 @@ taken_comment codes line number was placed none within pushed = inl (
   },
 )
   where
-    by_met : (codes : List ℕ) (S : List Entry) (all before left : List Card) (was : Pass) (number : ℕ) (met : Option SourceError) → was.words.met ≡ met → IsWithinLimits was → StandsNext S before number was.place
+    by_met : (codes : List ℕ) (S : List Entry) (all before left : List Card) (was : Pass) (number : ℕ) (met : Option (ℕ × WordFault)) → was.words.met ≡ met → IsWithinLimits was → StandsNext S before number was.place
         → IsHalfMade codes S all before (comment_card ∷ left) was.words → IsHalfMade codes S all (comment_card ∷ before) left was.words
     by_met codes S all before left was number None met within next so = keep_wordless codes S all before left comment_card was.words number was.place met refl within.whole within.place next so
-    by_met codes S all before left was number (Some error) met within next so = keep_past codes S all before left comment_card was.words was.words so error met
+    by_met codes S all before left was number (Some found) met within next so = keep_past codes S all before left comment_card was.words was.words so found met
 
 -- in a loop: the line is a card, and these lines are left
 pub passed_next : (codes text : List ℕ) (line : LineAt) (lines : List LineAt) (number : ℕ) (card : Card) (b : Bool) (was now : Pass) → Passed codes text (deck (line ∷ lines)) number was → reading line.bytes ≡ Ok card
@@ -213,17 +215,18 @@ passed_all codes text number pass so = record {
 
 -- ---- why it is refused
 
-pub misread : (text : List ℕ) (error : SourceError) → first_card_fault text ≡ Some (told error) → IsFaulty text error
-misread text error is = record { symbols = fitting text; fits = fits_some (cards text); first = rw is refl }
-
-pub misplaced_so : (codes text : List ℕ) (pass : Pass) (error : SourceError) → IsPassed codes text pass → pass.misplaced ≡ Some error → IsFaulty text error
-misplaced_so codes text pass error so is =
-    let first = so.misplaced error is in
+pub misplaced_so : (codes text : List ℕ) (pass : Pass) (found : ℕ × PlaceFault) → IsPassed codes text pass → pass.misplaced ≡ Some found
+    → IsFaulty text (record { card = found.0; kind = kind.Place found.1 })
+misplaced_so codes text pass found so is =
+    let first = so.misplaced found is in
     record { symbols = first.symbols; fits = first.fits; first = rw (so.read, first.first) refl }
 
 -- a line that is none
+misread : (text : List ℕ) (number : ℕ) (fault : CardFault) → first_card_fault text ≡ Some (number, fault) → IsFaulty text (record { card = number; kind = kind.Card fault })
+misread text number fault is = record { symbols = fitting text; fits = fits_some (cards text); first = rw is refl }
+
 pub misread_line : (codes text : List ℕ) (line : LineAt) (lines : List LineAt) (number : ℕ) (was : Pass) (error : AssembleError) → Passed codes text (deck (line ∷ lines)) number was → IsMisread line (number + 1) error
     → IsRefused text error
 misread_line codes text line lines number was (Source error) so (fault, is, error_is) =
-    misread text error (rw error_is (reading_fault text line lines number fault so.reading is))
+    rw error_is (misread text (number + 1) fault (reading_fault text line lines number fault so.reading is))
 misread_line codes text line lines number was NoMemory so is = tt

@@ -7,7 +7,7 @@ use Rattle.ags_card.specs.declared.cards.Card.{Card}
 use Rattle.ags_card.specs.Reading.{reading}
 use Rattle.ags_symbol.specs.Symbol.{Entry}
 use Rattle.ags_places.specs.declared.placed.Placed.{Placed}
-use Rattle.ags_places.specs.declared.source_error.SourceKind.{SourceKind}
+use Rattle.ags_places.specs.declared.source_error.PlaceFault.{PlaceFault}
 use Rattle.ags_places.specs.Deck.{card_lines, card_of, cards_in, cards}
 use Rattle.ags_places.specs.Fault.{first_place_fault, place_fault_at}
 use Rattle.ags_places.specs.Place.{Fits, count, counts, pair_of, place_after, place_of_word, symbol_value}
@@ -43,22 +43,21 @@ Placing-none text follow = record {
 }
 
 -- the first fault of the phase of places
-pub first_place_fault_is : (text : List ℕ) (number : ℕ) (kind : SourceKind) → first_fault known_fault [] (cards text) ≡ Some (number, kind)
-    → IsFirstPlaceFault text (record { card = number; kind = kind })
-first_place_fault_is text number kind is = record {
+pub first_place_fault_is : (text : List ℕ) (found : ℕ × PlaceFault) → first_fault known_fault [] (cards text) ≡ Some found → IsFirstPlaceFault text found
+first_place_fault_is text found is = record {
   symbols = next_pairs [] (cards text);
   fits = fits_some (cards text);
   first = faults-known (next_pairs [] (cards text)) (cards text) (fits_some (cards text)) ∙ is;
 }
 
 -- the next card can't be placed
-pub Placing-fault : (text : List ℕ) (line : LineAt) (left : List LineAt) (placed : List Placed) (E : List Entry) (at : ℕ) (card : Card) (kind : SourceKind)
-    → Placing text (line ∷ left) placed E at → reading line.bytes ≡ Ok card → place_fault_at E at card ≡ Some kind
-    → first_fault known_fault [] (cards text) ≡ Some (length placed + 1, kind)
-Placing-fault text line left placed E at card kind so is fault =
+pub Placing-fault : (text : List ℕ) (line : LineAt) (left : List LineAt) (placed : List Placed) (E : List Entry) (at : ℕ) (card : Card) (fault : PlaceFault)
+    → Placing text (line ∷ left) placed E at → reading line.bytes ≡ Ok card → place_fault_at E at card ≡ Some fault
+    → first_fault known_fault [] (cards text) ≡ Some (length placed + 1, fault)
+Placing-fault text line left placed E at card fault so is wrong_at =
     let here : card_of (reading line.bytes) ≡ card = rw is refl in
-    let wrong : known_fault so.before card ≡ Some kind = rw (← so.pairs_are, ← so.at_is) fault in
-    so.fault ∙ rw here (first_fault-faulty known_fault so.before card (cards_in left) kind wrong) ∙ ap (λ (n : ℕ). Some (n + 1, kind)) (sym so.many)
+    let wrong : known_fault so.before card ≡ Some fault = rw (← so.pairs_are, ← so.at_is) wrong_at in
+    so.fault ∙ rw here (first_fault-faulty known_fault so.before card (cards_in left) fault wrong) ∙ ap (λ (n : ℕ). Some (n + 1, fault)) (sym so.many)
 
 -- it is placed
 pub Placing-more : (text : List ℕ) (line : LineAt) (left : List LineAt) (placed : List Placed) (E : List Entry) (at : ℕ) (card : Card)

@@ -7,7 +7,7 @@ use Rattle.ags_card.specs.declared.cards.Card.{Card}
 use Rattle.ags_card.specs.declared.cards.CardFault.{CardFault}
 use Rattle.ags_card.specs.Reading.{reading}
 use Rattle.ags_places.specs.Deck.{card_lines, deck, ends, readings}
-use Rattle.ags_places.specs.Fault.{card_fault, first_card_fault, kind_of}
+use Rattle.ags_places.specs.Fault.{card_fault, first_card_fault}
 use Rattle.ags_places.proofs.PlacingLemmas.{deck_left}
 
 -- so many of a source's lines are cards, and these are left
@@ -44,12 +44,12 @@ Reading-more text line left number card so is =
 
 -- it is none
 pub Reading-fault : (text : List ℕ) (line : LineAt) (left : List LineAt) (number : ℕ) (fault : CardFault) → Reading text (line ∷ left) number → reading line.bytes ≡ Err fault
-    → first_card_fault text ≡ Some (number + 1, kind_of fault)
+    → first_card_fault text ≡ Some (number + 1, fault)
 Reading-fault text line left number fault so is =
-    so.fault ∙ first_fault-faulty card_fault so.before (reading line.bytes) (readings left) (kind_of fault) (rw is refl) ∙ ap (λ (n : ℕ). Some (n + 1, kind_of fault)) (sym so.many)
+    so.fault ∙ first_fault-faulty card_fault so.before (reading line.bytes) (readings left) fault (rw is refl) ∙ ap (λ (n : ℕ). Some (n + 1, fault)) (sym so.many)
 
 pub reading_fault : (text : List ℕ) (line : LineAt) (lines : List LineAt) (number : ℕ) (fault : CardFault) → Reading text (deck (line ∷ lines)) number → reading line.bytes ≡ Err fault
-    → first_card_fault text ≡ Some (number + 1, kind_of fault)
+    → first_card_fault text ≡ Some (number + 1, fault)
 reading_fault text line lines number fault so is =
     Reading-fault text line (cond (ends (reading line.bytes)) [] (deck lines)) number fault (deck_left (λ (left : List LineAt). Reading text left number) line lines so) is
 

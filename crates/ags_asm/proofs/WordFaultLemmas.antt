@@ -3,6 +3,7 @@ use Rattle.std.proofs.Common.{◌&&◌, ◌≡◌, ℕ, zero, suc, ◌+◌, ◌<
 use Rattle.std.specs.Prelude.{is_some, ℤ, pos}
 use Rattle.std.proofs.lemmas.Bool.{cases_eq, cases_lt}
 use Rattle.std.specs.List.{Contains, filter_map, cons_option}
+use Rattle.std.specs.Option.{option_or}
 use Rattle.ags_word.specs.Word.{fits}
 use Rattle.ags_word.proofs.WordLaws.{word_of_value-fits, word_of_value-not}
 use Rattle.ags_decimal.specs.Decimal.{Parts, decimal_word, nearest_value}
@@ -13,11 +14,11 @@ use Rattle.ags_card.specs.declared.terms.Term.{Term}
 use Rattle.ags_symbol.specs.Symbol.{Entry, NamesUnknown, names, sum_of}
 use Rattle.ags_symbol.proofs.FoundLemmas.{Contains-cons, Contains-first, Contains-later}
 use Rattle.ags_symbol.proofs.SumLemmas.{sum_none, unknown_none}
-use Rattle.ags_places.specs.declared.source_error.SourceKind.{SourceKind}
-use Rattle.ags_places.specs.declared.source_error.SourceKind.TheVariants.{BadByte, LongCard, BadSymbol, UnknownOperation, MissingOperand, ExtraOperand, BadExpression, BadDecimal, BadOctal, SymbolTwice, UndefinedEarly, PlaceRange, Undefined, AddressRange, ValueRange, PlaceTwice}
+use Rattle.ags_places.specs.declared.source_error.WordFault.{WordFault}
+use Rattle.ags_places.specs.declared.source_error.WordFault.TheVariants.{Undefined, AddressRange, ValueRange, PlaceTwice}
 use Rattle.ags_places.specs.Deck.{cards}
-use Rattle.ags_places.specs.Fault.{is_place, or_else}
-use Rattle.ags_places.specs.Faulty.{HoldsAt, kind_number}
+use Rattle.ags_places.specs.Fault.{is_place}
+use Rattle.ags_places.specs.Faulty.{HoldsAt, word_fault_number}
 use Rattle.ags_places.specs.Place.{Fits, count, place}
 use Rattle.ags_places.proofs.FirstLemmas.{NoLater, Tells, first_holds, first_least, first_none}
 use Rattle.ags_places.proofs.NameLemmas.{names_fit}
@@ -120,18 +121,18 @@ misfit_tells (first ∷ numbers) number among out = elim (Contains-cons first nu
 -- ---- places that are taken
 
 -- one of so many places from one on is owned, and that is the fault
-record Owned (owned : ℕ → Option ℕ) (at many : ℕ) (kind : SourceKind) : Type 0 where
+record Owned (owned : ℕ → Option ℕ) (at many : ℕ) (fault : WordFault) : Type 0 where
   there : ℕ
   first : ℕ
   from : at ≤ there
   below : there < at + many
   owned_by : owned there ≡ Some first
-  kind_is : PlaceTwice first ≡ kind
+  fault_is : PlaceTwice first ≡ fault
   none : (q : ℕ) → at ≤ q → q < there → owned q ≡ None
 
-owned_step : (owned : ℕ → Option ℕ) (at many : ℕ) (kind : SourceKind) (here : Option ℕ) → owned at ≡ here → (taken_from owned (at + 1) many ≡ Some kind → Owned owned (at + 1) many kind)
-    → or_else (option_map PlaceTwice here) (taken_from owned (at + 1) many) ≡ Some kind → Owned owned at (suc many) kind
-owned_step owned at many kind None is later told =
+owned_step : (owned : ℕ → Option ℕ) (at many : ℕ) (fault : WordFault) (here : Option ℕ) → owned at ≡ here → (taken_from owned (at + 1) many ≡ Some fault → Owned owned (at + 1) many fault)
+    → option_or (option_map PlaceTwice here) (taken_from owned (at + 1) many) ≡ Some fault → Owned owned at (suc many) fault
+owned_step owned at many fault None is later told =
     let so = later told in
     record {
       there = so.there;
@@ -139,19 +140,19 @@ owned_step owned at many kind None is later told =
       from = omega (arith, so.from);
       below = omega (arith, so.below);
       owned_by = so.owned_by;
-      kind_is = so.kind_is;
+      fault_is = so.fault_is;
       none = λ q from before. elim (cases_eq q at) [
         | inl this ↦ ap owned this ∙ is
         | inr other ↦ so.none q (omega (arith, from, other)) before
       ];
     }
-owned_step owned at many kind (Some first) is later told =
-    let same : PlaceTwice first ≡ kind = cc in
-    record { there = at; first = first; from = omega arith; below = omega arith; owned_by = is; kind_is = same; none = λ q from before. absurd (omega (arith, from, before)) }
+owned_step owned at many fault (Some first) is later told =
+    let same : PlaceTwice first ≡ fault = cc in
+    record { there = at; first = first; from = omega arith; below = omega arith; owned_by = is; fault_is = same; none = λ q from before. absurd (omega (arith, from, before)) }
 
-owned_somewhere : (owned : ℕ → Option ℕ) (at many : ℕ) (kind : SourceKind) → taken_from owned at many ≡ Some kind → Owned owned at many kind
-owned_somewhere owned at zero kind told = absurd cc
-owned_somewhere owned at (suc many) kind told = owned_step owned at many kind (owned at) refl (owned_somewhere owned (at + 1) many kind) told
+owned_somewhere : (owned : ℕ → Option ℕ) (at many : ℕ) (fault : WordFault) → taken_from owned at many ≡ Some fault → Owned owned at many fault
+owned_somewhere owned at zero fault told = absurd cc
+owned_somewhere owned at (suc many) fault told = owned_step owned at many fault (owned at) refl (owned_somewhere owned (at + 1) many fault) told
 
 module _ (S : List Entry) (all : List Card) (fitting : Fits S all) where
   names_are : names S ≡ symbols all
@@ -177,43 +178,43 @@ module _ (S : List Entry) (all : List Card) (fitting : Fits S all) where
   module _ (before : List Card) (card : Card) where
     -- ---- what is told is so
 
-    address_sound : (terms : List Term) (order : _) (indexed : Bool) (kind : SourceKind) (sum : Option ℤ) → card.body ≡ Order order terms indexed → sum_of S (place S before) terms ≡ sum
-        → address_fault sum ≡ Some kind → IsMismadeBy S all kind before card
-    address_sound terms order indexed kind None body sum is =
-        let same : Undefined ≡ kind = cc in
+    address_sound : (terms : List Term) (order : _) (indexed : Bool) (fault : WordFault) (sum : Option ℤ) → card.body ≡ Order order terms indexed → sum_of S (place S before) terms ≡ sum
+        → address_fault sum ≡ Some fault → IsMismadeBy S all fault before card
+    address_sound terms order indexed fault None body sum is =
+        let same : Undefined ≡ fault = cc in
         rw (sym same) (terms, (order, indexed, body), unknown_no_card terms (sum_none S (place S before) terms sum))
-    address_sound terms order indexed kind (Some value) body sum is = by_test (is_place value) refl is
+    address_sound terms order indexed fault (Some value) body sum is = by_test (is_place value) refl is
       where
-        by_test : (within : Bool) → is_place value ≡ within → ◌≡◌ {A = Option SourceKind} (cond within None (Some (AddressRange value))) (Some kind) → IsMismadeBy S all kind before card
+        by_test : (within : Bool) → is_place value ≡ within → ◌≡◌ {A = Option WordFault} (cond within None (Some (AddressRange value))) (Some fault) → IsMismadeBy S all fault before card
         by_test true test told = absurd cc
         by_test false test told =
-            let same : AddressRange value ≡ kind = cc in
+            let same : AddressRange value ≡ fault = cc in
             rw (sym same) (terms, (order, indexed, body), sum, outside (pos 0) value value (pos 4095) test)
 
-    decimals_sound : (numbers : List Parts) (kind : SourceKind) (within : Bool) → card.body ≡ Dec numbers → all_fit numbers ≡ within
-        → ◌≡◌ {A = Option SourceKind} (cond within None (Some ValueRange)) (Some kind) → IsMismadeBy S all kind before card
+    decimals_sound : (numbers : List Parts) (fault : WordFault) (within : Bool) → card.body ≡ Dec numbers → all_fit numbers ≡ within
+        → ◌≡◌ {A = Option WordFault} (cond within None (Some ValueRange)) (Some fault) → IsMismadeBy S all fault before card
     unfolding Misfit
-    decimals_sound numbers kind true body fit is = absurd cc
-    decimals_sound numbers kind false body fit is =
-        let same : ValueRange ≡ kind = cc in
+    decimals_sound numbers fault true body fit is = absurd cc
+    decimals_sound numbers fault false body fit is =
+        let same : ValueRange ≡ fault = cc in
         let (number, among, out) = some_misfit numbers fit in
         rw (sym same) (numbers, number, body, among, out)
 
-    word_sound : (body : Body) (kind : SourceKind) → card.body ≡ body → word_fault_at S (place S before) body ≡ Some kind → IsMismadeBy S all kind before card
-    word_sound Comment kind body is = absurd cc
-    word_sound (Order order terms indexed) kind body is = address_sound terms order indexed kind (sum_of S (place S before) terms) body refl is
-    word_sound (Org terms) kind body is = absurd cc
-    word_sound (Equ terms) kind body is = absurd cc
-    word_sound (Bss terms) kind body is = absurd cc
-    word_sound (Bes terms) kind body is = absurd cc
-    word_sound (Dec numbers) kind body is = decimals_sound numbers kind (all_fit numbers) body refl is
-    word_sound (Oct words) kind body is = absurd cc
-    word_sound End kind body is = absurd cc
+    word_sound : (body : Body) (fault : WordFault) → card.body ≡ body → word_fault_at S (place S before) body ≡ Some fault → IsMismadeBy S all fault before card
+    word_sound Comment fault body is = absurd cc
+    word_sound (Order order terms indexed) fault body is = address_sound terms order indexed fault (sum_of S (place S before) terms) body refl is
+    word_sound (Org terms) fault body is = absurd cc
+    word_sound (Equ terms) fault body is = absurd cc
+    word_sound (Bss terms) fault body is = absurd cc
+    word_sound (Bes terms) fault body is = absurd cc
+    word_sound (Dec numbers) fault body is = decimals_sound numbers fault (all_fit numbers) body refl is
+    word_sound (Oct words) fault body is = absurd cc
+    word_sound End fault body is = absurd cc
 
-    taken_sound : (kind : SourceKind) → taken S before card ≡ Some kind → IsMismadeBy S all kind before card
-    taken_sound kind is =
-        let so = owned_somewhere (λ q. owner S q before) (place S before) (count card.body) kind is in
-        rw (sym so.kind_is) (
+    taken_sound : (fault : WordFault) → taken S before card ≡ Some fault → IsMismadeBy S all fault before card
+    taken_sound fault is =
+        let so = owned_somewhere (λ q. owner S q before) (place S before) (count card.body) fault is in
+        rw (sym so.fault_is) (
           so.there,
           (so.from, so.below),
           owner_stands S so.there before so.first so.owned_by,
@@ -226,38 +227,26 @@ module _ (S : List Entry) (all : List Card) (fitting : Fits S all) where
           | inr from ↦ from
         ]
 
-    by_word : (wrong : Option SourceKind) (kind : SourceKind) → word_fault_at S (place S before) card.body ≡ wrong
-        → or_else wrong (taken S before card) ≡ Some kind → IsMismadeBy S all kind before card
-    by_word None kind wrong is = taken_sound kind is
-    by_word (Some one) kind wrong is =
-        let same : one ≡ kind = cc in
-        word_sound card.body kind refl (wrong ∙ ap Some same)
+    by_word : (wrong : Option WordFault) (fault : WordFault) → word_fault_at S (place S before) card.body ≡ wrong
+        → option_or wrong (taken S before card) ≡ Some fault → IsMismadeBy S all fault before card
+    by_word None fault wrong is = taken_sound fault is
+    by_word (Some one) fault wrong is =
+        let same : one ≡ fault = cc in
+        word_sound card.body fault refl (wrong ∙ ap Some same)
 
-    mismade_sound : (kind : SourceKind) → word_fault S before card ≡ Some kind → IsMismadeBy S all kind before card
-    mismade_sound kind is = by_word (word_fault_at S (place S before) card.body) kind refl is
+    mismade_sound : (fault : WordFault) → word_fault S before card ≡ Some fault → IsMismadeBy S all fault before card
+    mismade_sound fault is = by_word (word_fault_at S (place S before) card.body) fault refl is
 
     -- ---- what is so is told, or what has no greater number
 
     Told : ℕ → Type 0
-    Told most = (g : SourceKind) × (word_fault S before card ≡ Some g) × (kind_number g ≤ most)
+    Told most = (g : WordFault) × (word_fault S before card ≡ Some g) × (word_fault_number g ≤ most)
 
-    told_word : (kind : SourceKind) → word_fault_at S (place S before) card.body ≡ Some kind → Told (kind_number kind)
+    told_word : (fault : WordFault) → word_fault_at S (place S before) card.body ≡ Some fault → Told (word_fault_number fault)
     unfolding Told
-    told_word kind is = (kind, ap (λ (one : Option SourceKind). or_else one (taken S before card)) is, omega arith)
+    told_word fault is = (fault, ap (λ (one : Option WordFault). option_or one (taken S before card)) is, omega arith)
 
-    at_most : (kind : SourceKind) → kind_number kind ≤ 16
-    at_most BadByte = omega arith
-    at_most LongCard = omega arith
-    at_most BadSymbol = omega arith
-    at_most UnknownOperation = omega arith
-    at_most MissingOperand = omega arith
-    at_most ExtraOperand = omega arith
-    at_most BadExpression = omega arith
-    at_most BadDecimal = omega arith
-    at_most BadOctal = omega arith
-    at_most (SymbolTwice first) = omega arith
-    at_most UndefinedEarly = omega arith
-    at_most PlaceRange = omega arith
+    at_most : (fault : WordFault) → word_fault_number fault ≤ 16
     at_most Undefined = omega arith
     at_most (AddressRange value) = omega arith
     at_most ValueRange = omega arith
@@ -267,12 +256,12 @@ module _ (S : List Entry) (all : List Card) (fitting : Fits S all) where
     unfolding Told
     taken_tells at first here stands = by_fault (word_fault_at S (place S before) card.body) (taken S before card) refl refl
       where
-        by_fault : (wrong found : Option SourceKind) → word_fault_at S (place S before) card.body ≡ wrong → taken S before card ≡ found → Told 16
-        by_fault (Some one) found wrong told = (one, ap (λ (one : Option SourceKind). or_else one (taken S before card)) wrong, at_most one)
-        by_fault None (Some one) wrong told = (one, ap (λ (one : Option SourceKind). or_else one (taken S before card)) wrong ∙ told, at_most one)
+        by_fault : (wrong found : Option WordFault) → word_fault_at S (place S before) card.body ≡ wrong → taken S before card ≡ found → Told 16
+        by_fault (Some one) found wrong told = (one, ap (λ (one : Option WordFault). option_or one (taken S before card)) wrong, at_most one)
+        by_fault None (Some one) wrong told = (one, ap (λ (one : Option WordFault). option_or one (taken S before card)) wrong ∙ told, at_most one)
         by_fault None None wrong told = absurd (owner_none S at before (unowned_here S before card at told here) first stands)
 
-    mismade_least : (kind : SourceKind) → IsMismadeBy S all kind before card → (g : SourceKind) × (word_fault S before card ≡ Some g) × (kind_number g ≤ kind_number kind)
+    mismade_least : (fault : WordFault) → IsMismadeBy S all fault before card → (g : WordFault) × (word_fault S before card ≡ Some g) × (word_fault_number g ≤ word_fault_number fault)
     unfolding Told
     mismade_least Undefined (terms, (order, indexed, body), unknown) =
         told_word Undefined (ap (word_fault_at S (place S before)) body ∙ ap address_fault (unknown_none S (place S before) terms (no_card_unknown terms unknown)))
@@ -284,40 +273,28 @@ module _ (S : List Entry) (all : List Card) (fitting : Fits S all) where
         told_word ValueRange
         (ap (word_fault_at S (place S before)) body ∙ ap (λ (fit : Bool). cond fit None (Some ValueRange)) (misfit_tells numbers number among out))
     mismade_least (PlaceTwice first) (at, here, stands, least) = taken_tells at first here stands
-    mismade_least BadByte is = absurd is
-    mismade_least LongCard is = absurd is
-    mismade_least BadSymbol is = absurd is
-    mismade_least UnknownOperation is = absurd is
-    mismade_least MissingOperand is = absurd is
-    mismade_least ExtraOperand is = absurd is
-    mismade_least BadExpression is = absurd is
-    mismade_least BadDecimal is = absurd is
-    mismade_least BadOctal is = absurd is
-    mismade_least (SymbolTwice first) is = absurd is
-    mismade_least UndefinedEarly is = absurd is
-    mismade_least PlaceRange is = absurd is
 
 -- ---- the first fault
 
 module _ (S : List Entry) (text : List ℕ) (fits : Fits S (cards text)) where
-  words_tell : Tells (word_fault S) (IsMismadeBy S (cards text)) kind_number (cards text)
+  words_tell : Tells (word_fault S) (IsMismadeBy S (cards text)) word_fault_number (cards text)
   words_tell = record {
-    sound = λ front card behind kind whole told. mismade_sound S (cards text) fits (reverse front) card kind told;
-    least = λ front card behind kind whole so. mismade_least S (cards text) fits (reverse front) card kind so;
+    sound = λ front card behind fault whole told. mismade_sound S (cards text) fits (reverse front) card fault told;
+    least = λ front card behind fault whole so. mismade_least S (cards text) fits (reverse front) card fault so;
   }
 
-  held_by : (number : ℕ) (kind : SourceKind) → HasWordFault text number kind → HoldsAt (IsMismadeBy S (cards text) kind) (cards text) number
-  held_by number kind (T, too, held) =
+  held_by : (number : ℕ) (fault : WordFault) → HasWordFault text number fault → HoldsAt (IsMismadeBy S (cards text) fault) (cards text) number
+  held_by number fault (T, too, held) =
       let same : T ≡ S = fits_one T S (cards text) too fits in
-      subst (λ (U : List Entry). HoldsAt (IsMismadeBy U (cards text) kind) (cards text) number) same held
+      subst (λ (U : List Entry). HoldsAt (IsMismadeBy U (cards text) fault) (cards text) number) same held
 
-  pub word_fault_holds : (number : ℕ) (kind : SourceKind) → first_word_fault S text ≡ Some (number, kind) → HasWordFault text number kind
-  word_fault_holds number kind is = (S, fits, first_holds (word_fault S) (IsMismadeBy S (cards text)) kind_number (cards text) words_tell number kind is)
+  pub word_fault_holds : (number : ℕ) (fault : WordFault) → first_word_fault S text ≡ Some (number, fault) → HasWordFault text number fault
+  word_fault_holds number fault is = (S, fits, first_holds (word_fault S) (IsMismadeBy S (cards text)) word_fault_number (cards text) words_tell number fault is)
 
-  pub word_fault_least : (number : ℕ) (kind : SourceKind) → first_word_fault S text ≡ Some (number, kind) → (other : ℕ) (too : SourceKind) → HasWordFault text other too
-      → NoLater number (kind_number kind) other (kind_number too)
-  word_fault_least number kind is other too held =
-      first_least (word_fault S) (IsMismadeBy S (cards text)) kind_number (cards text) words_tell number kind is other too (held_by other too held)
+  pub word_fault_least : (number : ℕ) (fault : WordFault) → first_word_fault S text ≡ Some (number, fault) → (other : ℕ) (too : WordFault) → HasWordFault text other too
+      → NoLater number (word_fault_number fault) other (word_fault_number too)
+  word_fault_least number fault is other too held =
+      first_least (word_fault S) (IsMismadeBy S (cards text)) word_fault_number (cards text) words_tell number fault is other too (held_by other too held)
 
-  pub word_faultless : first_word_fault S text ≡ None → (number : ℕ) (kind : SourceKind) → HasWordFault text number kind → ⊥
-  word_faultless none number kind held = first_none (word_fault S) (IsMismadeBy S (cards text)) kind_number (cards text) words_tell none number kind (held_by number kind held)
+  pub word_faultless : first_word_fault S text ≡ None → (number : ℕ) (fault : WordFault) → HasWordFault text number fault → ⊥
+  word_faultless none number fault held = first_none (word_fault S) (IsMismadeBy S (cards text)) word_fault_number (cards text) words_tell none number fault (held_by number fault held)

@@ -1,14 +1,13 @@
 -- The half-made image of a source: what its words are while some orders still wait for symbols.
-use Rattle.std.specs.Prelude.{◌≡◌, ◌⊎◌, ℕ, zero, suc, slice_set, ◌+◌, ◌<◌, List, [], ◌∷◌, ◌++◌, ◌≤◌, Bool, not, length, All, get_or, Option, Some, None, option_map, replicate, unwrap_or, ◌==◌, if◌then◌else◌}
+use Rattle.std.specs.Prelude.{◌≡◌, ◌⊎◌, ℕ, zero, suc, slice_set, ◌+◌, ◌<◌, List, [], ◌∷◌, ◌++◌, ◌≤◌, Bool, not, length, All, get_or, Option, Some, None, replicate, unwrap_or, ◌==◌, if◌then◌else◌}
 use Rattle.std.specs.List.{Contains, count_by}
+use Rattle.std.specs.Option.{option_or}
 use Rattle.ags_text.specs.Fault.{first_fault}
 use Rattle.ags_image.specs.Image.{PlacedWord, IsImage, entry_at, no_words, with_word}
 use Rattle.ags_card.specs.declared.cards.Card.{Card}
 use Rattle.ags_symbol.specs.Symbol.{Entry}
-use Rattle.ags_places.specs.declared.source_error.SourceError.{SourceError}
-use Rattle.ags_places.specs.declared.source_error.SourceKind.{SourceKind}
+use Rattle.ags_places.specs.declared.source_error.WordFault.{WordFault}
 use Rattle.ags_places.specs.Place.{place}
-use Rattle.ags_places.specs.Fault.{or_else}
 use Rattle.ags_asm.specs.declared.half_words.HalfWords.{HalfWords}
 use Rattle.ags_asm.specs.Source.{placed_words}
 use Rattle.ags_asm.specs.Word.{definitions_after, definitions, owner, word_fault}
@@ -23,26 +22,22 @@ pub record IsPartOf (all pending : List PlacedWord) (image : List (Option ℕ)) 
 -- Under the pairs S that fit all cards, the words of the cards before are made, and those of the others left. The fault of the
 -- whole source is that of the first order that waits and comes to one, else the one that was met, else that of the cards left. In
 -- a source without a fault the image has each word but those that wait and those of the cards left.
-pub record HalfMade (codes : List ℕ) (S : List Entry) (cards before left : List Card) (image : List (Option ℕ)) (waiting : List Waiting) (met : Option (ℕ × SourceKind)) : Type 0 where
-  pub fault : first_fault (word_fault S) [] cards ≡ or_else (closing_fault S waiting) (or_else met (first_fault (word_fault S) before left))
+pub record HalfMade (codes : List ℕ) (S : List Entry) (cards before left : List Card) (image : List (Option ℕ)) (waiting : List Waiting) (met : Option (ℕ × WordFault)) : Type 0 where
+  pub fault : first_fault (word_fault S) [] cards ≡ option_or (closing_fault S waiting) (option_or met (first_fault (word_fault S) before left))
   pub part : first_fault (word_fault S) [] cards ≡ None → IsPartOf (placed_words (definitions codes S cards)) (closed_words codes S waiting ++ placed_words (definitions_after codes S before left)) image
 
 -- the numbers, by place, are those of the cards that own the places; 0 is none
 abbrev pub AreOwners : List Entry → List Card → List ℕ → Type 0
 AreOwners S before owners = (at : ℕ) → at < 4096 → get_or owners at 0 ≡ unwrap_or (owner S at before) 0
 
--- a card's number and its fault
-abbrev pub told : SourceError → ℕ × SourceKind
-told error = (error.card, error.kind)
-
 -- so is what the assembler keeps, and where no fault of the phase of words was met the owners too
 pub record IsHalfMade (codes : List ℕ) (S : List Entry) (cards before left : List Card) (made : HalfWords) : Type 0 where
-  pub half : HalfMade codes S cards before left made.image made.waiting.items (option_map told made.met)
+  pub half : HalfMade codes S cards before left made.image made.waiting.items made.met
   pub owned : made.met ≡ None → AreOwners S before made.owners.items
   pub whole : IsImage made.image
   pub within : All (λ waiting. waiting.place < 4096) made.waiting.items
 
--- the next card behind those before has that number and stands there
+-- the next card after those before has that number and stands there
 pub record StandsNext (S : List Entry) (before : List Card) (number at : ℕ) : Type 0 where
   pub number_is : number ≡ length before + 1
   pub at_is : at ≡ place S before
@@ -75,9 +70,9 @@ abbrev pub is_number : ℕ → Bool
 is_number number = not (number == 0)
 
 -- one where a fault was met
-abbrev pub met_once : Option SourceError → ℕ
+abbrev pub met_once : Option (ℕ × WordFault) → ℕ
 met_once None = 0
-met_once (Some error) = 1
+met_once (Some found) = 1
 
 -- No more orders wait than places are owned, but for one of the first card that met a fault.
 abbrev pub AreFew : HalfWords → Type 0

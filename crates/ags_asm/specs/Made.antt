@@ -10,10 +10,10 @@ use Rattle.ags_asm.specs.Waiting.{IsMade}
 abbrev pub IsMadeAs : (codes : List ℕ) (S : List Entry) (number at : ℕ) → Body → Made → Type 0
 IsMadeAs codes S number at body (Word word) = IsMade codes S number at body None (word ∷ []) []
 IsMadeAs codes S number at body (Waits fix_up) = IsMade codes S number at body None [] (fix_up ∷ [])
-IsMadeAs codes S number at body (Fault kind) = IsMade codes S number at body (Some kind) [] []
+IsMadeAs codes S number at body (Fault fault) = IsMade codes S number at body (Some fault) [] []
 
 -- an order that waits is at this place
 abbrev pub WaitsAt : (at : ℕ) → Made → Type 0
 WaitsAt at (Word word) = Unit {0}
 WaitsAt at (Waits fix_up) = fix_up.place ≡ at
-WaitsAt at (Fault kind) = Unit {0}
+WaitsAt at (Fault fault) = Unit {0}

@@ -4,7 +4,7 @@ use Rattle.ags_card.specs.declared.cards.Card.{Card}
 use Rattle.ags_image.specs.Image.{IsImageOf}
 use Rattle.ags_symbol.specs.Symbol.{Entry}
 use Rattle.ags_places.specs.declared.placed.Placed.{Placed}
-use Rattle.ags_places.specs.declared.source_error.SourceError.{SourceError}
+use Rattle.ags_places.specs.declared.source_error.PlaceFault.{PlaceFault}
 use Rattle.ags_places.specs.Deck.{card_lines, cards}
 use Rattle.ags_places.specs.Fault.{first_card_fault}
 use Rattle.ags_places.specs.Place.{Fits, counts, places}
@@ -32,7 +32,7 @@ pub record IsEnded (codes text : List ℕ) (pass : Pass) : Type 0 where
 -- each line is a card; and each card is placed, or this one is the first that can't be
 pub record IsPassed (codes text : List ℕ) (pass : Pass) : Type 0 where
   pub read : first_card_fault text ≡ None
-  pub misplaced : (error : SourceError) → pass.misplaced ≡ Some error → IsFirstPlaceFault text error
+  pub misplaced : (found : ℕ × PlaceFault) → pass.misplaced ≡ Some found → IsFirstPlaceFault text found
   pub ended : pass.misplaced ≡ None → IsEnded codes text pass
 
 -- The text is a source without a fault, these are its cards as they are placed, S is what its symbols stand for, and

@@ -5,11 +5,12 @@ use Rattle.ags_card.specs.declared.cards.Card.{Card}
 use Rattle.ags_card.specs.declared.cards.CardFault.{CardFault}
 use Rattle.ags_card.specs.Reading.{reading}
 use Rattle.ags_symbol.specs.Symbol.{Entry}
-use Rattle.ags_places.specs.declared.source_error.SourceError.{SourceError}
+use Rattle.ags_places.specs.declared.source_error.PlaceFault.{PlaceFault}
+use Rattle.ags_places.specs.declared.source_error.SourceKind.TheVariants as kind
 use Rattle.ags_places.specs.declared.source_error.AssembleError.{AssembleError}
 use Rattle.ags_places.specs.declared.source_error.AssembleError.TheVariants.{Source, NoMemory}
 use Rattle.ags_places.specs.Deck.{is_end}
-use Rattle.ags_places.specs.Fault.{kind_of, place_fault_at}
+use Rattle.ags_places.specs.Fault.{place_fault_at}
 use Rattle.ags_places.specs.Place.{count, pair_of, place_after, symbol_value, place_of_word}
 use Rattle.ags_places.specs.Source.{placed_at}
 use Rattle.ags_asm.specs.declared.passing.Pass.{Pass}
@@ -29,8 +30,8 @@ pub record IsTakenWhole (codes : List ℕ) (line : LineAt) (number : ℕ) (card 
 abbrev pub IsTaken : (codes : List ℕ) (line : LineAt) (number : ℕ) (card : Card) (was now : Pass) → Type 0
 IsTaken codes line number card was now =
     ((was.misplaced ≡ None) × IsTakenWhole codes line number card was now)
-    ⊎ ((was.misplaced ≡ None) × (error : SourceError) × (now.misplaced ≡ Some error) × (error.card ≡ number) × (place_fault_at was.symbols was.place card ≡ Some error.kind))
-    ⊎ ((error : SourceError) × (was.misplaced ≡ Some error) × (now.misplaced ≡ Some error))
+    ⊎ ((was.misplaced ≡ None) × (fault : PlaceFault) × (now.misplaced ≡ Some (number, fault)) × (place_fault_at was.symbols was.place card ≡ Some fault))
+    ⊎ ((found : ℕ × PlaceFault) × (was.misplaced ≡ Some found) × (now.misplaced ≡ Some found))
 
 -- the line is a card, that was taken, and ends the source or doesn't
 abbrev pub IsTakenLine : (codes : List ℕ) (line : LineAt) (number : ℕ) (last : Bool) (was now : Pass) → Type 0
@@ -38,10 +39,10 @@ IsTakenLine codes line number last was now = (card : Card) × (reading line.byte
 
 -- the line of that number is no card, and this is its fault, or it was want of memory
 abbrev pub IsMisread : LineAt → (number : ℕ) → AssembleError → Type 0
-IsMisread line number (Source error) = (fault : CardFault) × (reading line.bytes ≡ Err fault) × (error ≡ record { card = number; kind = kind_of fault })
+IsMisread line number (Source error) = (fault : CardFault) × (reading line.bytes ≡ Err fault) × (error ≡ record { card = number; kind = kind.Card fault })
 IsMisread line number NoMemory = Unit {0}
 
--- what is kept stays within its limits: the next place is one of the memory or the one behind it, each place has an owner's number,
+-- what is kept stays within its limits: the next place is one of the memory or the one after it, each place has an owner's number,
 -- and no more orders wait than places are owned, but for one
 pub record IsWithinLimits (pass : Pass) : Type 0 where
   pub place : pass.place ≤ 4096

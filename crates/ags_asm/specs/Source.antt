@@ -3,24 +3,26 @@ pub use Rattle.ags_places.specs.Source.{AreSpans, IsInMemory}
 pub use Rattle.ags_asm.specs.Word.{CardWords}
 use Rattle.std.specs.Prelude.{◌≡◌, ℕ, zero, suc, ◌+◌, List, [], ◌∷◌, length, map, Option, Some, None}
 use Rattle.std.specs.List.{flat_map}
+use Rattle.std.specs.Option.{option_or}
 use Rattle.ags_text.specs.Line.{LineAt}
 use Rattle.ags_image.specs.Image.{PlacedWord, IsImageOf, word_at}
 use Rattle.ags_symbol.specs.Symbol.{Entry}
 use Rattle.ags_places.specs.declared.placed.Placed.{Placed}
 use Rattle.ags_places.specs.declared.source_error.SourceKind.{SourceKind}
+use Rattle.ags_places.specs.declared.source_error.SourceKind.TheVariants as kind
 use Rattle.ags_places.specs.declared.source_error.SourceError.{SourceError}
 use Rattle.ags_places.specs.declared.source_error.AssembleError.{AssembleError}
 use Rattle.ags_places.specs.declared.source_error.AssembleError.TheVariants.{Source, NoMemory}
 use Rattle.ags_places.specs.Deck.{card_lines, cards}
 use Rattle.ags_places.specs.Place.{Fits}
-use Rattle.ags_places.specs.Fault.{or_else, early_fault}
+use Rattle.ags_places.specs.Fault.{early_fault, told_as}
 use Rattle.ags_asm.specs.declared.assembling.Assembled.{Assembled}
 use Rattle.ags_asm.specs.Word.{definitions, first_word_fault, placed_from}
 
 -- The first fault of a source, where S fits its cards: the phase of cards comes first, then that of places, then that of
 -- words, and in a phase the first card.
 abbrev pub source_fault : List Entry → List ℕ → Option (ℕ × SourceKind)
-source_fault S text = or_else (early_fault S text) (first_word_fault S text)
+source_fault S text = option_or (early_fault S text) (told_as kind.Word (first_word_fault S text))
 
 -- The text is a source without a fault, and these are the words of its cards, each with its place, by the table of codes: one list
 -- for each card.

@@ -1,5 +1,6 @@
 -- Orders that wait for a symbol, and what they come to under the pairs that fit in the end.
 use Rattle.std.specs.Prelude.{◌≡◌, ◌<◌, ◌≤◌, ℕ, Bool, List, [], ◌∷◌, ◌++◌, length, All, map, Option, Some, None, unwrap_or, ℤ, pos, unsigned_abs}
+use Rattle.std.specs.Option.{option_or}
 use Rattle.ags_text.specs.Fault.{or_later}
 use Rattle.ags_isa.specs.declared.orders.Order.{Order}
 use Rattle.ags_isa.specs.Naming.{order_word}
@@ -8,9 +9,8 @@ use Rattle.ags_card.specs.declared.terms.Term.{Term}
 use Rattle.ags_card.specs.Term.{HasSmallNumber}
 use Rattle.ags_symbol.specs.Bound.{IsAtMost}
 use Rattle.ags_symbol.specs.Symbol.{Entry, plus, sum_of}
-use Rattle.ags_places.specs.declared.source_error.SourceKind.{SourceKind}
+use Rattle.ags_places.specs.declared.source_error.WordFault.{WordFault}
 use Rattle.ags_card.specs.declared.cards.Body.{Body}
-use Rattle.ags_places.specs.Fault.{or_else}
 use Rattle.ags_asm.specs.Word.{address_fault, word_fault_at, words_at, placed_from}
 
 -- an order whose operand isn't known yet: its card and place, the sum of the terms that are known, and the other terms
@@ -34,19 +34,19 @@ abbrev pub closed_words : List ℕ → List Entry → List Waiting → List Plac
 closed_words codes S all = map (closed_word codes S) all
 
 -- the first fault of orders that waited
-abbrev pub closing_fault : List Entry → List Waiting → Option (ℕ × SourceKind)
+abbrev pub closing_fault : List Entry → List Waiting → Option (ℕ × WordFault)
 closing_fault S [] = None
 closing_fault S (waiting ∷ others) = or_later waiting.card (address_fault (closed_sum S waiting)) (closing_fault S others)
 
 -- a fault with its card's number
-abbrev pub numbered : ℕ → Option SourceKind → Option (ℕ × SourceKind)
+abbrev pub numbered : ℕ → Option WordFault → Option (ℕ × WordFault)
 numbered number None = None
-numbered number (Some kind) = Some (number, kind)
+numbered number (Some fault) = Some (number, fault)
 
 -- What a card of this number makes at this place: words, orders that wait, and a fault that is known at once. Under the pairs that
 -- fit in the end it comes to the card's words and to their fault.
-pub record IsMade (codes : List ℕ) (S : List Entry) (number at : ℕ) (body : Body) (own : Option SourceKind) (words : List ℕ) (new : List Waiting) : Type 0 where
-  pub fault : numbered number (word_fault_at S at body) ≡ or_else (closing_fault S new) (numbered number own)
+pub record IsMade (codes : List ℕ) (S : List Entry) (number at : ℕ) (body : Body) (own : Option WordFault) (words : List ℕ) (new : List Waiting) : Type 0 where
+  pub fault : numbered number (word_fault_at S at body) ≡ option_or (closing_fault S new) (numbered number own)
   pub words_are : own ≡ None → placed_from at (words_at codes S at body) ≡ placed_from at words ++ closed_words codes S new
 
 -- the place is one of the memory's, and sums of the terms are small

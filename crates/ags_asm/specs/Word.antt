@@ -2,6 +2,7 @@
 -- pairs that fit the cards: here an operand is taken over all of them, also those of later cards.
 use Rattle.std.specs.Prelude.{ℕ, zero, suc, ◌+◌, Bool, ◌&&◌, nat_le, nat_lt, if◌then◌else◌, List, [], ◌∷◌, length, map, Option, Some, None, option_map, unwrap_or, is_some, ℤ, unsigned_abs}
 use Rattle.std.specs.List.{list_all}
+use Rattle.std.specs.Option.{option_or}
 use Rattle.ags_text.specs.Fault.{first_fault}
 use Rattle.ags_isa.specs.Naming.{order_word}
 use Rattle.ags_decimal.specs.Decimal.{Parts, decimal_word}
@@ -10,11 +11,11 @@ use Rattle.ags_card.specs.declared.cards.Body.{Body}
 use Rattle.ags_card.specs.declared.cards.Body.TheVariants.{Comment, Order, Org, Equ, Bss, Bes, Dec, Oct, End}
 use Rattle.ags_card.specs.declared.cards.Card.{Card}
 use Rattle.ags_symbol.specs.Symbol.{Entry, sum_of}
-use Rattle.ags_places.specs.declared.source_error.SourceKind.{SourceKind}
-use Rattle.ags_places.specs.declared.source_error.SourceKind.TheVariants.{Undefined, AddressRange, ValueRange, PlaceTwice}
+use Rattle.ags_places.specs.declared.source_error.WordFault.{WordFault}
+use Rattle.ags_places.specs.declared.source_error.WordFault.TheVariants.{Undefined, AddressRange, ValueRange, PlaceTwice}
 use Rattle.ags_places.specs.Deck.{cards}
 use Rattle.ags_places.specs.Place.{count, operand, place}
-use Rattle.ags_places.specs.Fault.{is_place, or_else}
+use Rattle.ags_places.specs.Fault.{is_place}
 
 -- The list `before` of a definition has the cards before one, nearest first.
 
@@ -49,7 +50,7 @@ words_at codes S at (Dec numbers) = decimal_words numbers
 words_at codes S at (Oct words) = words
 words_at codes S at End = []
 
--- words at a place and those behind it
+-- words at a place and those after it
 abbrev pub placed_from : ℕ → List ℕ → List PlacedWord
 placed_from at [] = []
 placed_from at (word ∷ words) = record { place = at; word = word } ∷ placed_from (at + 1) words
@@ -70,12 +71,12 @@ definitions codes S cards = definitions_after codes S [] cards
 -- ---- faults of the phase of words
 
 -- an order's operand with a symbol that no card defines, or one that is no address
-abbrev pub address_fault : Option ℤ → Option SourceKind
+abbrev pub address_fault : Option ℤ → Option WordFault
 address_fault None = Some Undefined
 address_fault (Some value) = if is_place value then None else Some (AddressRange value)
 
 -- what is wrong with a card's words at its place
-abbrev pub word_fault_at : List Entry → ℕ → Body → Option SourceKind
+abbrev pub word_fault_at : List Entry → ℕ → Body → Option WordFault
 word_fault_at S at Comment = None
 word_fault_at S at (Order order terms indexed) = address_fault (sum_of S at terms)
 word_fault_at S at (Org terms) = None
@@ -96,18 +97,18 @@ owner S q [] = None
 owner S q (card ∷ before) = if is_among q (place S before) (count card.body) then Some (length before + 1) else owner S q before
 
 -- of so many places from one on the least that is owned, told by its owner
-abbrev pub taken_from : (ℕ → Option ℕ) → (at many : ℕ) → Option SourceKind
+abbrev pub taken_from : (ℕ → Option ℕ) → (at many : ℕ) → Option WordFault
 taken_from owned at zero = None
-taken_from owned at (suc many) = or_else (option_map PlaceTwice (owned at)) (taken_from owned (at + 1) many)
+taken_from owned at (suc many) = option_or (option_map PlaceTwice (owned at)) (taken_from owned (at + 1) many)
 
 -- an earlier card has a word at a place of this one: of its places the least that is taken counts
-abbrev pub taken : List Entry → List Card → Card → Option SourceKind
+abbrev pub taken : List Entry → List Card → Card → Option WordFault
 taken S before card = taken_from (λ q. owner S q before) (place S before) (count card.body)
 
--- the fault of a card behind those before it: what is wrong with its words comes before that a place is taken
-abbrev pub word_fault : List Entry → List Card → Card → Option SourceKind
-word_fault S before card = or_else (word_fault_at S (place S before) card.body) (taken S before card)
+-- the fault of a card after those before it: what is wrong with its words comes before that a place is taken
+abbrev pub word_fault : List Entry → List Card → Card → Option WordFault
+word_fault S before card = option_or (word_fault_at S (place S before) card.body) (taken S before card)
 
 -- the first fault of a source in the phase of words, where S fits its cards
-abbrev pub first_word_fault : List Entry → List ℕ → Option (ℕ × SourceKind)
+abbrev pub first_word_fault : List Entry → List ℕ → Option (ℕ × WordFault)
 first_word_fault S text = first_fault (word_fault S) [] (cards text)

@@ -11,7 +11,7 @@ ghost use Rattle.ags_asm.specs.Source.{AreSpans, CardWords, Defines, IsAssembled
 use crate::passing::{Pass, read_cards};
 use ags_image::Image;
 use ags_isa::Codes;
-use ags_places::{AssembleError, Placed, SOURCE_LIMIT};
+use ags_places::{AssembleError, Placed, SOURCE_LIMIT, SourceError, SourceKind};
 use ags_symbol::Symbols;
 use std::alloc::Global;
 
@@ -39,11 +39,13 @@ fn close_pass(codes: &Codes, bytes: &[u8], pass: Pass) -> Result<Assembled, Asse
         misplaced,
         ..
     } = pass;
-    if let Some(error) = misplaced {
-        return Err(AssembleError::Source(error));
+    if let Some((card, fault)) = misplaced {
+        let kind = SourceKind::Place(fault);
+        return Err(AssembleError::Source(SourceError { card, kind }));
     }
-    if let Some(error) = words.close(codes, &symbols) {
-        return Err(AssembleError::Source(error));
+    if let Some((card, fault)) = words.close(codes, &symbols) {
+        let kind = SourceKind::Word(fault);
+        return Err(AssembleError::Source(SourceError { card, kind }));
     }
     Ok(Assembled {
         image: words.image,

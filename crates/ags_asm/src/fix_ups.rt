@@ -2,7 +2,7 @@
 
 use ags_card::{MOST_TERMS, Term};
 use ags_isa::Order;
-use ags_places::SourceKind;
+use ags_places::WordFault;
 use ags_word::Word;
 use arrayvec::ArrayVec;
 use std::marker::Model;
@@ -42,5 +42,5 @@ pub(crate) enum Made {
     /// It waits.
     Waits(FixUp),
     /// It has this fault.
-    Fault(SourceKind),
+    Fault(WordFault),
 }

@@ -1,7 +1,7 @@
 //! The words of a source while its cards are read: the image so far, and the orders that wait. What is kept of a card is said
-//! under the pairs that fit in the end, whichever those are that come behind.
+//! under the pairs that fit in the end, whichever those are that come after.
 
-ghost use Rattle.std.specs.Prelude.{◌≡◌, ◌==◌, not, ◌+◌, ◌≤◌, ◌<◌, ◌++◌, [], ◌∷◌, ℕ, List, Some, None, OnOk, IfOk, length, replicate};
+ghost use Rattle.std.specs.Prelude.{◌≡◌, ◌==◌, ◌+◌, ◌≤◌, ◌<◌, ◌++◌, [], ◌∷◌, ℕ, List, Some, None, OnOk, IfOk, length, replicate};
 ghost use Rattle.ags_card.specs.declared.cards.Card.{Card};
 ghost use Rattle.ags_image.specs.Image.{IsImage};
 ghost use Rattle.ags_symbol.specs.Symbol.{Entry};
@@ -15,7 +15,7 @@ use crate::making::{make_decimals, make_order};
 use ags_card::{Body, DecList, MOST_CONSTANTS, OctList, Terms};
 use ags_image::Image;
 use ags_isa::{Codes, Order};
-use ags_places::{SourceError, SourceKind};
+use ags_places::WordFault;
 use ags_symbol::Symbols;
 use ags_word::{LOCATIONS, Word};
 use std::alloc::{AllocError, Global};
@@ -29,8 +29,8 @@ pub(crate) struct HalfWords {
     pub(crate) owners: Vec<u32>,
     /// The orders that wait for a symbol, in the order of their cards.
     pub(crate) waiting: Vec<FixUp>,
-    /// The first fault that was known at once. Behind it no word is made, and no further order waits.
-    pub(crate) met: Option<SourceError>,
+    /// The first fault that was known at once, with its card's number. After it no word is made, and no further order waits.
+    pub(crate) met: Option<(u32, WordFault)>,
 }
 
 /// For each place of the memory 0, since no card has a word there yet.
@@ -41,7 +41,7 @@ fn no_owners(alloc: Global) -> Result<Vec<u32>, AllocError>
 }
 
 /// Of so many places from one on, the least that a card has.
-fn first_taken(owners: &[u32], at: u16, many: u16) -> Option<SourceKind>
+fn first_taken(owners: &[u32], at: u16, many: u16) -> Option<WordFault>
     requires whole { length owners.now ≡ 4096 }
     requires room { at + many ≤ 4096 }
     ensures { result ≡ taken_from (owners_of owners.now) at many }
@@ -51,7 +51,7 @@ fn first_taken(owners: &[u32], at: u16, many: u16) -> Option<SourceKind>
     }
     let first = owners[at as usize];
     if first != 0 {
-        return Some(SourceKind::PlaceTwice { first });
+        return Some(WordFault::PlaceTwice { first });
     }
     first_taken(owners, at + 1, many - 1)
 }
@@ -69,7 +69,7 @@ fn own(owners: &mut [u32], at: u16, many: u16, number: u32)
     own(owners, at + 1, many - 1, number);
 }
 
-/// Puts words at a place and those behind it.
+/// Puts words at a place and those after it.
 fn fill(image: &mut Image, at: u16, words: &[Word])
     requires { at + length words.now ≤ 4096 }
     ensures filled { image.new ≡ filled image.old at words.now }
@@ -110,8 +110,8 @@ impl HalfWords {
             → IsMade codes S number at card.body None words.now [] → IsHalfMade codes S cards before (card ∷ left) self.old
             → IsHalfMade codes S cards (card ∷ before) left self.new }
     {
-        if let Some(kind) = first_taken(&self.owners, at, words.len() as u16) {
-            self.met = Some(SourceError { card: number, kind });
+        if let Some(fault) = first_taken(&self.owners, at, words.len() as u16) {
+            self.met = Some((number, fault));
             return;
         }
         own(&mut self.owners, at, words.len() as u16, number);
@@ -133,8 +133,8 @@ impl HalfWords {
             → IsHalfMade codes S cards (card ∷ before) left self.new) }
     {
         self.waiting.push(fix_up)?;
-        if let Some(kind) = first_taken(&self.owners, at, 1) {
-            self.met = Some(SourceError { card: number, kind });
+        if let Some(fault) = first_taken(&self.owners, at, 1) {
+            self.met = Some((number, fault));
             return Ok(());
         }
         own(&mut self.owners, at, 1, number);
@@ -142,16 +142,16 @@ impl HalfWords {
     }
 
     /// A card whose words have a fault.
-    fn meet(&mut self, number: u32, at: u16, kind: SourceKind)
+    fn meet(&mut self, number: u32, at: u16, fault: WordFault)
         requires not_met { self.old.met ≡ None }
         requires few { AreFew self.old }
         ensures whole { self.new.owners ≡ self.old.owners }
         ensures few { AreFew self.new }
         ensures step { (codes : List ℕ) (S : List Entry) (cards before left : List Card) (card : Card) → StandsNext S before number at
-            → IsMade codes S number at card.body (Some kind) [] [] → IsHalfMade codes S cards before (card ∷ left) self.old
+            → IsMade codes S number at card.body (Some fault) [] [] → IsHalfMade codes S cards before (card ∷ left) self.old
             → IsHalfMade codes S cards (card ∷ before) left self.new }
     {
-        self.met = Some(SourceError { card: number, kind });
+        self.met = Some((number, fault));
     }
 
     /// An order.
@@ -182,8 +182,8 @@ impl HalfWords {
                 Ok(())
             }
             Made::Waits(fix_up) => self.add_waiting(number, at, fix_up),
-            Made::Fault(kind) => {
-                self.meet(number, at, kind);
+            Made::Fault(fault) => {
+                self.meet(number, at, fault);
                 Ok(())
             }
         }
@@ -204,7 +204,7 @@ impl HalfWords {
         let numbers = numbers.items();
         let mut words = [Word::ZERO; MOST_CONSTANTS];
         if !make_decimals(numbers, &mut words, 0) {
-            self.meet(number, at, SourceKind::ValueRange);
+            self.meet(number, at, WordFault::ValueRange);
             return;
         }
         self.add_words(number, at, &words[..numbers.len()]);

@@ -12,7 +12,7 @@ ghost use Rattle.ags_places.specs.declared.source_error.SourceKind.{SourceKind};
 ghost use Rattle.ags_places.specs.Deck.{card_lines};
 ghost use Rattle.ags_places.specs.Faulty.{kind_number};
 ghost use Rattle.ags_symbol.specs.Symbol.{Entry};
-ghost use Rattle.ags_asm.specs.Faulty.{IsFaultyCard, IsLeastFaulty, Phase, StandsBefore, StandsNearest, phase_of};
+ghost use Rattle.ags_asm.specs.Faulty.{IsFaultyCard, IsLeastFaulty, StandsBefore, StandsNearest};
 ghost use Rattle.ags_asm.specs.Source.{CardWords, Defines, IsFaulty, placed_words};
 ghost use Rattle.ags_asm.specs.Word.{owner, word_fault};
 
@@ -52,12 +52,11 @@ pub fn each_card_has_its_definition()
 /// The fault that is told of a source is the least of all that its cards are faulty by: by the phase, then the card, then the number.
 /// Where the source is defined no card is faulty.
 pub fn least_fault_is_told()
-    ensures told { (text : List ℕ) (error : SourceError) → IsFaulty text error
-        → IsLeastFaulty text (phase_of error.kind) error.card error.kind }
-    ensures least { (text : List ℕ) (phase : Phase) (card : ℕ) (kind : SourceKind) → IsLeastFaulty text phase card kind
+    ensures told { (text : List ℕ) (error : SourceError) → IsFaulty text error → IsLeastFaulty text error.card error.kind }
+    ensures least { (text : List ℕ) (card : ℕ) (kind : SourceKind) → IsLeastFaulty text card kind
         → (error : SourceError) × IsFaulty text error × (error.card ≡ card) × (kind_number error.kind ≡ kind_number kind) }
     ensures none { (codes text : List ℕ) (defined : CardWords) → Defines codes text defined
-        → (phase : Phase) (card : ℕ) (kind : SourceKind) → IsFaultyCard text phase card kind → ⊥ }
+        → (card : ℕ) (kind : SourceKind) → IsFaultyCard text card kind → ⊥ }
 {}
 
 /// The owner of a place is the nearest of the earlier cards that have a word there, and there is none exactly where no earlier

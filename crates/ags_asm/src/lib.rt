@@ -13,7 +13,9 @@ mod laws;
 mod making;
 mod passing;
 
-pub use ags_places::{AssembleError, Placed, SOURCE_LIMIT, SourceError, SourceKind};
+pub use ags_places::{
+    AssembleError, PlaceFault, Placed, SOURCE_LIMIT, SourceError, SourceKind, WordFault,
+};
 pub use assembling::{Assembled, assemble};
 pub use building::Building;
 pub use laws::{

@@ -9,24 +9,24 @@ use crate::fix_ups::{FixUp, Made};
 use ags_card::{Body, Terms};
 use ags_decimal::Decimal;
 use ags_isa::{Codes, Order, encode};
-use ags_places::SourceKind;
+use ags_places::WordFault;
 use ags_symbol::Symbols;
 use ags_word::{LOCATIONS, Word};
 
 /// The address that a known operand comes to.
-pub(crate) fn address_of(value: i32) -> Result<u16, SourceKind>
+pub(crate) fn address_of(value: i32) -> Result<u16, WordFault>
     ensures address { IfOk result (λ address. address ≡ unsigned_abs value) }
     ensures small { IfOk result (λ address. address < 4096) }
     ensures faultless { OnOk result (address_fault (Some value) ≡ None) }
-    ensures fault { IfErr result (λ kind. address_fault (Some value) ≡ Some kind) }
+    ensures fault { IfErr result (λ fault. address_fault (Some value) ≡ Some fault) }
 {
     if value < 0 || value >= i32::from(LOCATIONS) {
-        return Err(SourceKind::AddressRange { value });
+        return Err(WordFault::AddressRange { value });
     }
     Ok(value as u16)
 }
 
-/// What the word of an order is made as, whatever pairs come behind those that are known: it waits where one of its symbols isn't
+/// What the word of an order is made as, whatever pairs come after those that are known: it waits where one of its symbols isn't
 /// defined yet.
 pub(crate) fn make_order(
     codes: &Codes,
@@ -44,7 +44,7 @@ pub(crate) fn make_order(
     if let Some(value) = symbols.sum_of_terms(terms.items(), place) {
         return match address_of(value) {
             Ok(address) => Made::Word(encode(codes, order, indexed, address)),
-            Err(kind) => Made::Fault(kind),
+            Err(fault) => Made::Fault(fault),
         };
     }
     let (sum, rest) = symbols.split(terms, place);

@@ -1,6 +1,6 @@
 //! One pass over a source's cards: each is read once, placed, and its words are made as far as the symbols are known
-//! (docs/SOURCE.md, Faults). A line that is no card ends it. Behind a card that can't be placed lines are only read, since one
-//! may be no card; and behind a fault of the phase of words no word is made.
+//! (docs/SOURCE.md, Faults). A line that is no card ends it. After a card that can't be placed lines are only read, since one
+//! may be no card; and after a fault of the phase of words no word is made.
 
 ghost use Rattle.std.specs.Prelude.{◌≡◌, ◌+◌, ◌≤◌, ◌<◌, ◌^◌, ℕ, List, length, OnOk, IfOk, IfErr};
 ghost use Rattle.ags_text.specs.LineView.{line_at};
@@ -14,8 +14,8 @@ use crate::half_words::HalfWords;
 use ags_card::{Card, is_comment_card, read_card_into};
 use ags_isa::Codes;
 use ags_places::{
-    AssembleError, Placed, SOURCE_LIMIT, SourceError, Stop, count_of, is_end, kind_of, place_card,
-    place_of_word,
+    AssembleError, PlaceFault, Placed, SOURCE_LIMIT, SourceError, SourceKind, Unplaced, count_of,
+    is_end, place_card, place_of_word,
 };
 use ags_symbol::Symbols;
 use ags_text::{Line, Lines};
@@ -32,8 +32,8 @@ pub(crate) struct Pass {
     pub(crate) place: u16,
     /// Their words.
     pub(crate) words: HalfWords,
-    /// The first card that can't be placed. Behind it no card is placed.
-    pub(crate) misplaced: Option<SourceError>,
+    /// The first card that can't be placed, by its number, and why. After it no card is placed.
+    pub(crate) misplaced: Option<(u32, PlaceFault)>,
 }
 
 impl Pass {
@@ -82,11 +82,11 @@ impl Pass {
                 self.place = next;
                 Ok(())
             }
-            Err(Stop::Fault(kind)) => {
-                self.misplaced = Some(SourceError { card: number, kind });
+            Err(Unplaced::Fault(fault)) => {
+                self.misplaced = Some((number, fault));
                 Ok(())
             }
-            Err(Stop::NoMemory) => Err(AllocError),
+            Err(Unplaced::NoMemory) => Err(AllocError),
         }
     }
 
@@ -124,7 +124,7 @@ impl Pass {
                 Ok(is_end(&card.body))
             }
             Err(fault) => {
-                let kind = kind_of(fault);
+                let kind = SourceKind::Card(fault);
                 Err(AssembleError::Source(SourceError { card: number, kind }))
             }
         }

@@ -33,10 +33,10 @@ use Rattle.ags_bench.proofs.CertifiedLemmas.{certified, rows_are}
 abbrev BeginsCertified : (text : List ℕ) → Type 0
 BeginsCertified text = (behind : List ℕ) × (text ≡ certified_word ++ behind)
 
--- ---- no other line begins so: it has another letter at that place
+-- ---- no other line begins so: it has another letter at that position
 
-letter_of : (place : ℕ) (text behind : List ℕ) → text ≡ certified_word ++ behind → get_or text place 0 ≡ get_or (certified_word ++ behind) place 0
-letter_of place text behind is = ap (λ (t : List ℕ). get_or t place 0) is
+letter_of : (position : ℕ) (text behind : List ℕ) → text ≡ certified_word ++ behind → get_or text position 0 ≡ get_or (certified_word ++ behind) position 0
+letter_of position text behind is = ap (λ (t : List ℕ). get_or t position 0) is
 
 machine_line_is_other : (error : MachError) → BeginsCertified (machine_fault_line error) → ⊥
 machine_line_is_other NotToml (behind, is) = absurd (omega (arith, letter_of 0 (machine_fault_line NotToml) behind is))

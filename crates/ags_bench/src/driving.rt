@@ -1,11 +1,10 @@
 //! A certificate judged, its verdict said, and, where it is certified, the script driven with the devices.
 
-ghost use Rattle.std.specs.Prelude.{◌≡◌, ◌++◌, IfOk, OnOk, OnErr, codes, map};
+ghost use Rattle.std.specs.Prelude.{◌≡◌, ◌++◌, IfOk, OnOk, OnErr, map};
 ghost use Rattle.std.specs.String.{string_bytes};
 ghost use Rattle.ags_bench.specs.Driving.{Benches, Runs, met_of};
 ghost use Rattle.ags_bench.specs.Text.{met_line};
 ghost use Rattle.ags_benchscript.specs.Script.{IsReadFor};
-ghost use Rattle.ags_cert.specs.Cert.{certificate_of};
 ghost use Rattle.ags_outside.specs.Count.{HasCause};
 ghost use Rattle.ags_outside.specs.Send.{is_write_fault};
 ghost use Rattle.ags_outside.specs.Sink.{WroteFront, appended};

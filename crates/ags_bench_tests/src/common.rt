@@ -64,15 +64,15 @@ pub(crate) fn words_of(rt: &impl Abort, alloc: Global, line: &str) -> Vec<String
 /// Expects these devices.
 fn expect_kept(rt: &impl Abort, devices: &Vec<Box<dyn Device>>, wanted: &[Kept]) {
     expect_same(rt, &devices.len(), &wanted.len());
-    for place in 0..devices.len() {
-        let last = last_at(devices, place);
+    for position in 0..devices.len() {
+        let last = last_at(devices, position);
         let told = (
-            left_at(devices, place),
-            count_at(devices, place),
+            left_at(devices, position),
+            count_at(devices, position),
             last.map(|word| word.number()),
         );
-        assert!(rt; place < wanted.len());
-        expect_same(rt, &told, &wanted[place]);
+        assert!(rt; position < wanted.len());
+        expect_same(rt, &told, &wanted[position]);
     }
 }
 

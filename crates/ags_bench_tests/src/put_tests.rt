@@ -1,4 +1,4 @@
-//! A put that fails at each place of a run's output, and the devices each time.
+//! A put that fails at each position of a run's output, and the devices each time.
 
 use crate::common::{CERTIFIED, Case, Kept, expect_three};
 use ags_bench::Status;
@@ -16,10 +16,10 @@ const LINES: [&str; 5] = [
     "DEVICE 2 LEFT 0 HEARD 9 LAST 000037\n",
 ];
 
-/// The devices where the output fails in the line of a place: none was asked before the verdict's is written, the hundred cycles
+/// The devices where the output fails in the line of a position: none was asked before the verdict's is written, the hundred cycles
 /// are made before the second, and the third device leaves with it.
-fn kept_in(place: usize) -> &'static [Kept] {
-    match place {
+fn kept_in(position: usize) -> &'static [Kept] {
+    match position {
         0 => &[(100, 0, None), (9, 0, None), (0, 0, None)],
         1 => &[
             (0, 0, None),
@@ -30,13 +30,13 @@ fn kept_in(place: usize) -> &'static [Kept] {
     }
 }
 
-/// Expects the output up to a put that fails, in the line of a place.
+/// Expects the output up to a put that fails, in the line of a position.
 fn expect_fault(
     rt: &(impl AllocGlobal + Abort),
     most: usize,
     failing: u64,
     text: &str,
-    place: usize,
+    position: usize,
 ) {
     let case = Case {
         script: SCRIPT,
@@ -44,7 +44,7 @@ fn expect_fault(
         failing,
         status: Status::WriteFault,
         text,
-        kept: kept_in(place),
+        kept: kept_in(position),
     };
     expect_three(rt, 0o001750, &case);
 }
@@ -53,9 +53,9 @@ fn expect_fault(
 fn put_fails_at_each_line(rt: HostRuntime) {
     let mut text = String::new(rt.alloc());
     let mut failing = 0u64;
-    for (place, line) in LINES.iter().enumerate() {
+    for (position, line) in LINES.iter().enumerate() {
         failing = failing.wrapping_add(1);
-        expect_fault(&rt, 4096, failing, &text, place);
+        expect_fault(&rt, 4096, failing, &text, position);
         assert!(&rt; text.push_str(line).is_ok());
     }
 }
@@ -64,10 +64,10 @@ fn put_fails_at_each_line(rt: HostRuntime) {
 fn put_fails_at_each_byte(rt: HostRuntime) {
     let mut text = String::new(rt.alloc());
     let mut failing = 0u64;
-    for (place, line) in LINES.iter().enumerate() {
+    for (position, line) in LINES.iter().enumerate() {
         for letter in line.chars() {
             failing = failing.wrapping_add(1);
-            expect_fault(&rt, 1, failing, &text, place);
+            expect_fault(&rt, 1, failing, &text, position);
             assert!(&rt; text.push(letter).is_ok());
         }
     }

@@ -18,9 +18,9 @@ fn read_text(rt: &impl Abort, alloc: Global, text: &str) -> Result<BenchScript, 
 fn expect_commands(rt: &(impl AllocGlobal + Abort), text: &str, wanted: &[(u32, BenchCommand)]) {
     let script = read_text(rt, rt.alloc(), text).expect(rt, text);
     expect_same(rt, &script.len(), &wanted.len());
-    for place in 0..script.len() {
-        assert!(rt; place < wanted.len());
-        assert!(rt; script.nth(place) == wanted[place], "{text}");
+    for position in 0..script.len() {
+        assert!(rt; position < wanted.len());
+        assert!(rt; script.nth(position) == wanted[position], "{text}");
     }
 }
 

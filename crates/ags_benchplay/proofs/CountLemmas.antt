@@ -37,7 +37,7 @@ step_weight _ = 0
 -- the most puts of an act
 abbrev put_weight : Act → ℕ
 put_weight (Feeds line number) = 1
-put_weight (FeedsInCycle place) = 1
+put_weight (FeedsInCycle position) = 1
 put_weight _ = 0
 
 steps_counted : (count : ℕ) → count_by is_step (replicate count event.Step) ≡ count
@@ -69,24 +69,24 @@ one_act_steps machine b Pulses events moments is p = subst (FewSteps 0) (sym p) 
 one_act_steps machine b RunsCycle events moments is p =
     subst (FewSteps 20000) (sym p.steps) (omega (arith, steps_counted (length moments), timed_few machine (time_left b.carry) b.core moments p.spent is p.timed))
 one_act_steps machine b (Feeds line number) events moments is p = none_stepped (put_by machine b (Feeds line number)) events p
-one_act_steps machine b (FeedsInCycle place) events moments is p = none_stepped (put_by machine b (FeedsInCycle place)) events p
+one_act_steps machine b (FeedsInCycle position) events moments is p = none_stepped (put_by machine b (FeedsInCycle position)) events p
 one_act_steps machine b ShowsReg events moments is p = none_stepped (put_by machine b ShowsReg) events p
 one_act_steps machine b (ShowsCell address) events moments is p = none_stepped (put_by machine b (ShowsCell address)) events p
 one_act_steps machine b (ShowsOut address) events moments is p = none_stepped (put_by machine b (ShowsOut address)) events p
 one_act_steps machine b (Detaches line number) events moments is p = none_stepped (put_by machine b (Detaches line number)) events p
-one_act_steps machine b (ShowsDevice place) events moments is p = none_stepped (put_by machine b (ShowsDevice place)) events p
+one_act_steps machine b (ShowsDevice position) events moments is p = none_stepped (put_by machine b (ShowsDevice position)) events p
 
 one_act_puts : (machine : Machine) (b : Bench) (act : Act) (events : List Event) (moments : List Moment) → Makes machine b act events moments → FewPuts (put_weight act) events
 one_act_puts machine b MakesStep events moments p = subst (FewPuts 0) (sym p) (omega arith)
 one_act_puts machine b Pulses events moments p = subst (FewPuts 0) (sym p) (omega arith)
 one_act_puts machine b RunsCycle events moments p = subst (FewPuts 0) (sym p.steps) (omega (arith, no_put_counted (length moments)))
 one_act_puts machine b (Feeds line number) events moments p = subst (FewPuts 1) (sym p) (one_put (put_by machine b (Feeds line number)))
-one_act_puts machine b (FeedsInCycle place) events moments p = subst (FewPuts 1) (sym p) (one_put (put_by machine b (FeedsInCycle place)))
+one_act_puts machine b (FeedsInCycle position) events moments p = subst (FewPuts 1) (sym p) (one_put (put_by machine b (FeedsInCycle position)))
 one_act_puts machine b ShowsReg events moments p = subst (FewPuts 0) (sym p) (omega arith)
 one_act_puts machine b (ShowsCell address) events moments p = subst (FewPuts 0) (sym p) (omega arith)
 one_act_puts machine b (ShowsOut address) events moments p = subst (FewPuts 0) (sym p) (omega arith)
 one_act_puts machine b (Detaches line number) events moments p = subst (FewPuts 0) (sym p) (omega arith)
-one_act_puts machine b (ShowsDevice place) events moments p = subst (FewPuts 0) (sym p) (omega arith)
+one_act_puts machine b (ShowsDevice position) events moments p = subst (FewPuts 0) (sym p) (omega arith)
 
 -- ---- what acts make
 
@@ -115,47 +115,48 @@ module _ (machine : Machine) (cert : Certificate Value) (counted : Event → Boo
 
 -- ---- what lines ask for
 
--- an act at each place, of which none weighs anything, and of which each weighs one
-none_at_each : (weight : Act → ℕ) (act : ℕ → Act) → ((place : ℕ) → weight (act place) ≡ 0) → (places : ℕ) → sum_by weight (at_each act places) ≡ 0
+-- an act at each position, of which none weighs anything, and of which each weighs one
+none_at_each : (weight : Act → ℕ) (act : ℕ → Act) → ((position : ℕ) → weight (act position) ≡ 0) → (positions : ℕ) → sum_by weight (at_each act positions) ≡ 0
 none_at_each weight act none zero = refl
-none_at_each weight act none (suc places) = omega (
+none_at_each weight act none (suc positions) = omega (
   arith,
-  sum_by-append weight (at_each act places) (act places ∷ []),
-  sum_by-cons weight (act places) [],
-  none places,
-  none_at_each weight act none places,
+  sum_by-append weight (at_each act positions) (act positions ∷ []),
+  sum_by-cons weight (act positions) [],
+  none positions,
+  none_at_each weight act none positions,
 )
 
-one_at_each : (weight : Act → ℕ) (act : ℕ → Act) → ((place : ℕ) → weight (act place) ≡ 1) → (places : ℕ) → sum_by weight (at_each act places) ≡ places
+one_at_each : (weight : Act → ℕ) (act : ℕ → Act) → ((position : ℕ) → weight (act position) ≡ 1) → (positions : ℕ)
+    → sum_by weight (at_each act positions) ≡ positions
 one_at_each weight act one zero = refl
-one_at_each weight act one (suc places) = omega (
+one_at_each weight act one (suc positions) = omega (
   arith,
-  sum_by-append weight (at_each act places) (act places ∷ []),
-  sum_by-cons weight (act places) [],
-  one places,
-  one_at_each weight act one places,
+  sum_by-append weight (at_each act positions) (act positions ∷ []),
+  sum_by-cons weight (act positions) [],
+  one positions,
+  one_at_each weight act one positions,
 )
 
 -- a cycle's acts before others
-of_cycle : (weight : Act → ℕ) (places count : ℕ) → sum_by weight (cycles places (suc count)) ≡ (sum_by weight (at_each FeedsInCycle places) + (weight Pulses + weight RunsCycle)) + sum_by weight (cycles places count)
-of_cycle weight places count = omega (
+of_cycle : (weight : Act → ℕ) (positions count : ℕ) → sum_by weight (cycles positions (suc count)) ≡ (sum_by weight (at_each FeedsInCycle positions) + (weight Pulses + weight RunsCycle)) + sum_by weight (cycles positions count)
+of_cycle weight positions count = omega (
   arith,
-  sum_by-append weight (at_each FeedsInCycle places ++ Pulses ∷ RunsCycle ∷ []) (cycles places count),
-  sum_by-append weight (at_each FeedsInCycle places) (Pulses ∷ RunsCycle ∷ []),
+  sum_by-append weight (at_each FeedsInCycle positions ++ Pulses ∷ RunsCycle ∷ []) (cycles positions count),
+  sum_by-append weight (at_each FeedsInCycle positions) (Pulses ∷ RunsCycle ∷ []),
   sum_by-cons weight Pulses (RunsCycle ∷ []),
   sum_by-cons weight RunsCycle [],
 )
 
-steps_of_cycles : (places count : ℕ) → sum_by step_weight (cycles places count) ≡ 20000 * count
-steps_of_cycles places zero = refl
-steps_of_cycles places (suc count) = omega (arith, of_cycle step_weight places count, none_at_each step_weight FeedsInCycle (λ place. refl) places, steps_of_cycles places count)
+steps_of_cycles : (positions count : ℕ) → sum_by step_weight (cycles positions count) ≡ 20000 * count
+steps_of_cycles positions zero = refl
+steps_of_cycles positions (suc count) = omega (arith, of_cycle step_weight positions count, none_at_each step_weight FeedsInCycle (λ position. refl) positions, steps_of_cycles positions count)
 
-puts_of_cycles : (places count : ℕ) → sum_by put_weight (cycles places count) ≡ count * places
-puts_of_cycles places zero = omega arith
-puts_of_cycles places (suc count) =
-    let counted : sum_by put_weight (cycles places (suc count)) ≡ sum_by put_weight (cycles places count) + places =
-    omega (arith, of_cycle put_weight places count, one_at_each put_weight FeedsInCycle (λ place. refl) places) in
-    counted ∙ ap (λ (n : ℕ). n + places) (puts_of_cycles places count) ∙ sym (suc-mul count places)
+puts_of_cycles : (positions count : ℕ) → sum_by put_weight (cycles positions count) ≡ count * positions
+puts_of_cycles positions zero = omega arith
+puts_of_cycles positions (suc count) =
+    let counted : sum_by put_weight (cycles positions (suc count)) ≡ sum_by put_weight (cycles positions count) + positions =
+    omega (arith, of_cycle put_weight positions count, one_at_each put_weight FeedsInCycle (λ position. refl) positions) in
+    counted ∙ ap (λ (n : ℕ). n + positions) (puts_of_cycles positions count) ∙ sym (suc-mul count positions)
 
 steps_made : (count : ℕ) → sum_by step_weight (replicate count MakesStep) ≡ count
 steps_made count = sum_by-replicate step_weight count MakesStep ∙ omega arith
@@ -163,62 +164,63 @@ steps_made count = sum_by-replicate step_weight count MakesStep ∙ omega arith
 no_puts_made : (count : ℕ) → sum_by put_weight (replicate count MakesStep) ≡ 0
 no_puts_made count = sum_by-replicate put_weight count MakesStep ∙ omega arith
 
-command_steps : (places line : ℕ) (c : BenchCommand) → sum_by step_weight (acts_of_command places line c) ≤ step_count c
-command_steps places line (command.Step count) = omega (arith, steps_made count)
-command_steps places line (command.Cycle count) = omega (arith, steps_of_cycles places count)
-command_steps places line command.Pulse = omega arith
-command_steps places line command.ShowReg = omega arith
-command_steps places line (command.ShowCell address) = omega arith
-command_steps places line (command.ShowOut address) = omega arith
-command_steps places line (command.Feed number) = omega arith
-command_steps places line (command.Detach number) = omega arith
+command_steps : (positions line : ℕ) (c : BenchCommand) → sum_by step_weight (acts_of_command positions line c) ≤ step_count c
+command_steps positions line (command.Step count) = omega (arith, steps_made count)
+command_steps positions line (command.Cycle count) = omega (arith, steps_of_cycles positions count)
+command_steps positions line command.Pulse = omega arith
+command_steps positions line command.ShowReg = omega arith
+command_steps positions line (command.ShowCell address) = omega arith
+command_steps positions line (command.ShowOut address) = omega arith
+command_steps positions line (command.Feed number) = omega arith
+command_steps positions line (command.Detach number) = omega arith
 
-command_puts : (places line : ℕ) (c : BenchCommand) → sum_by put_weight (acts_of_command places line c) ≤ put_count places c
-command_puts places line (command.Step count) = omega (arith, no_puts_made count)
-command_puts places line (command.Cycle count) = let same = puts_of_cycles places count in subst (λ (n : ℕ). n ≤ count * places) (sym same) (omega arith)
-command_puts places line command.Pulse = omega arith
-command_puts places line command.ShowReg = omega arith
-command_puts places line (command.ShowCell address) = omega arith
-command_puts places line (command.ShowOut address) = omega arith
-command_puts places line (command.Feed number) = omega arith
-command_puts places line (command.Detach number) = omega arith
+command_puts : (positions line : ℕ) (c : BenchCommand) → sum_by put_weight (acts_of_command positions line c) ≤ put_count positions c
+command_puts positions line (command.Step count) = omega (arith, no_puts_made count)
+command_puts positions line (command.Cycle count) =
+    let same = puts_of_cycles positions count in subst (λ (n : ℕ). n ≤ count * positions) (sym same) (omega arith)
+command_puts positions line command.Pulse = omega arith
+command_puts positions line command.ShowReg = omega arith
+command_puts positions line (command.ShowCell address) = omega arith
+command_puts positions line (command.ShowOut address) = omega arith
+command_puts positions line (command.Feed number) = omega arith
+command_puts positions line (command.Detach number) = omega arith
 
 -- so many for each line's acts are so many for those of all
-module _ (weight : Act → ℕ) (most : BenchCommand → ℕ) (places : ℕ) (each : (line : ℕ) (c : BenchCommand) → sum_by weight (acts_of_command places line c) ≤ most c) where
+module _ (weight : Act → ℕ) (most : BenchCommand → ℕ) (positions : ℕ) (each : (line : ℕ) (c : BenchCommand) → sum_by weight (acts_of_command positions line c) ≤ most c) where
   abbrev most_of : ℕ × BenchCommand → ℕ
   most_of line = most line.1
 
-  weight_of_acts : (lines : List (ℕ × BenchCommand)) → sum_by weight (acts_of places lines) ≤ sum_by most_of lines
+  weight_of_acts : (lines : List (ℕ × BenchCommand)) → sum_by weight (acts_of positions lines) ≤ sum_by most_of lines
   weight_of_acts [] = omega arith
   weight_of_acts (line ∷ lines) = omega (
     arith,
-    sum_by-append weight (acts_of_command places line.0 line.1) (acts_of places lines),
+    sum_by-append weight (acts_of_command positions line.0 line.1) (acts_of positions lines),
     sum_by-cons most_of line lines,
     each line.0 line.1,
     weight_of_acts lines,
   )
 
-  weight_of_script : ((place : ℕ) → weight (ShowsDevice place) ≡ 0) → (lines : List (ℕ × BenchCommand)) → sum_by weight (acts_of_script places lines) ≤ sum_by most_of lines
+  weight_of_script : ((position : ℕ) → weight (ShowsDevice position) ≡ 0) → (lines : List (ℕ × BenchCommand)) → sum_by weight (acts_of_script positions lines) ≤ sum_by most_of lines
   weight_of_script none lines = omega (
     arith,
-    sum_by-append weight (acts_of places lines) (at_each ShowsDevice places),
-    none_at_each weight ShowsDevice none places,
+    sum_by-append weight (acts_of positions lines) (at_each ShowsDevice positions),
+    none_at_each weight ShowsDevice none positions,
     weight_of_acts lines,
   )
 
 module _ (machine : Machine) (cert : Certificate Value) where
-  pub few_steps : (b here : Bench) (places : ℕ) (lines : List (ℕ × BenchCommand)) (done rest : List Act) (events : List Event) (text : List ℕ) → IsMachine machine
-      → IsPoint machine cert b (acts_of_script places lines) events text here done rest → count_by is_step events ≤ steps_of lines
-  few_steps b here places lines done rest events text is p = omega (
+  pub few_steps : (b here : Bench) (positions : ℕ) (lines : List (ℕ × BenchCommand)) (done rest : List Act) (events : List Event) (text : List ℕ) → IsMachine machine
+      → IsPoint machine cert b (acts_of_script positions lines) events text here done rest → count_by is_step events ≤ steps_of lines
+  few_steps b here positions lines done rest events text is p = omega (
     arith,
-    few_at_point machine cert is_step step_weight (λ c act es moments makes. one_act_steps machine c act es moments is makes) b here (acts_of_script places lines) done rest events text p,
-    weight_of_script step_weight step_count places (command_steps places) (λ place. refl) lines,
+    few_at_point machine cert is_step step_weight (λ c act es moments makes. one_act_steps machine c act es moments is makes) b here (acts_of_script positions lines) done rest events text p,
+    weight_of_script step_weight step_count positions (command_steps positions) (λ position. refl) lines,
   )
 
-  pub few_puts : (b here : Bench) (places : ℕ) (lines : List (ℕ × BenchCommand)) (done rest : List Act) (events : List Event) (text : List ℕ)
-      → IsPoint machine cert b (acts_of_script places lines) events text here done rest → count_by is_put events ≤ puts_of places lines
-  few_puts b here places lines done rest events text p = omega (
+  pub few_puts : (b here : Bench) (positions : ℕ) (lines : List (ℕ × BenchCommand)) (done rest : List Act) (events : List Event) (text : List ℕ)
+      → IsPoint machine cert b (acts_of_script positions lines) events text here done rest → count_by is_put events ≤ puts_of positions lines
+  few_puts b here positions lines done rest events text p = omega (
     arith,
-    few_at_point machine cert is_put put_weight (one_act_puts machine) b here (acts_of_script places lines) done rest events text p,
-    weight_of_script put_weight (put_count places) places (command_puts places) (λ place. refl) lines,
+    few_at_point machine cert is_put put_weight (one_act_puts machine) b here (acts_of_script positions lines) done rest events text p,
+    weight_of_script put_weight (put_count positions) positions (command_puts positions) (λ position. refl) lines,
   )

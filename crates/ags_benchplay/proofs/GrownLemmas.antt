@@ -6,19 +6,19 @@
 --     behind_self             devices that stand as at the point
 --     behind_from             devices that are behind over those that grew from others
 --     behind_on               devices that are behind a point are behind one at which more was heard
-use Rattle.std.proofs.Common.{◌≡◌, ℕ, zero, suc, Bool, true, false, List, [], ◌∷◌, ◌++◌, map, refl, sym, ap, subst, ◌∙◌, append_assoc, append-nil}
+use Rattle.std.proofs.Common.{◌≡◌, ℕ, zero, suc, Bool, true, false, List, [], ◌∷◌, ◌++◌, refl, sym, ap, subst, ◌∙◌, append_assoc, append-nil}
 use Rattle.std.specs.Prelude.{is_some, Option, Some, None, if◌then◌else◌}
-use Rattle.ags_device.specs.Devices.{changed_at, without, is_heard, hearing, all_heard}
+use Rattle.ags_device.specs.Devices.{changed_at, without, is_heard, all_heard}
 use Rattle.ags_device.specs.Record.{DeviceRecord, given}
 use Rattle.ags_domain.specs.declared.values.Value.{Value}
 use Rattle.ags_ports.specs.declared.events.Event.{Event}
 use Rattle.ags_ports.specs.declared.events.Stored.{Stored}
 use Rattle.ags_ports.specs.declared.machines.Machine.{Machine}
-use Rattle.ags_ports.specs.Port.{place_of}
+use Rattle.ags_ports.specs.Port.{position_of}
 use Rattle.ags_ports.specs.Run.{Moment}
 use Rattle.ags_safe.specs.Certificate.{Certificate}
 use Rattle.ags_benchplay.specs.Act.{Act, MakesStep, Pulses, RunsCycle, Feeds, FeedsInCycle, ShowsReg, ShowsCell, ShowsOut, Detaches, ShowsDevice}
-use Rattle.ags_benchplay.specs.Bench.{Bench, place_of_number, with_given, with_detached}
+use Rattle.ags_benchplay.specs.Bench.{Bench, position_of_number, with_given, with_detached}
 use Rattle.ags_benchplay.specs.Doing.{giver, handled, devices_given, devices_along, bench_after}
 use Rattle.ags_benchplay.specs.Driven.{IsBehind, AreBehind}
 use Rattle.ags_benchplay.specs.Played.{Plays, still_there}
@@ -53,25 +53,25 @@ grown_on (f ∷ fs) (d ∷ ds) (e ∷ es) p q =
 
 -- ---- a device leaves, gives or hears
 
-grown_without : (fs ds : List DeviceRecord) (place : ℕ) → HaveGrown fs ds → HaveGrown (without fs place) (without ds place)
-grown_without [] [] place p = tt
-grown_without [] (d ∷ ds) place p = absurd p
-grown_without (f ∷ fs) [] place p = absurd p
+grown_without : (fs ds : List DeviceRecord) (position : ℕ) → HaveGrown fs ds → HaveGrown (without fs position) (without ds position)
+grown_without [] [] position p = tt
+grown_without [] (d ∷ ds) position p = absurd p
+grown_without (f ∷ fs) [] position p = absurd p
 grown_without (f ∷ fs) (d ∷ ds) zero p = p.1
-grown_without (f ∷ fs) (d ∷ ds) (suc place) p = (p.0, grown_without fs ds place p.1)
+grown_without (f ∷ fs) (d ∷ ds) (suc position) p = (p.0, grown_without fs ds position p.1)
 
-grown_detached : (fs ds : List DeviceRecord) (place : Option ℕ) → HaveGrown fs ds → HaveGrown (with_detached fs place) (with_detached ds place)
+grown_detached : (fs ds : List DeviceRecord) (position : Option ℕ) → HaveGrown fs ds → HaveGrown (with_detached fs position) (with_detached ds position)
 grown_detached fs ds None p = p
-grown_detached fs ds (Some place) p = grown_without fs ds place p
+grown_detached fs ds (Some position) p = grown_without fs ds position p
 
-grown_changed : (ds : List DeviceRecord) (place : ℕ) → HaveGrown ds (changed_at given ds place)
-grown_changed [] place = tt
+grown_changed : (ds : List DeviceRecord) (position : ℕ) → HaveGrown ds (changed_at given ds position)
+grown_changed [] position = tt
 grown_changed (d ∷ ds) zero = (record { some = []; begins = sym (append-nil d.kept) }, grown_self ds)
-grown_changed (d ∷ ds) (suc place) = (same_kept d, grown_changed ds place)
+grown_changed (d ∷ ds) (suc position) = (same_kept d, grown_changed ds position)
 
-grown_given : (ds : List DeviceRecord) (place : Option ℕ) → HaveGrown ds (with_given ds place)
+grown_given : (ds : List DeviceRecord) (position : Option ℕ) → HaveGrown ds (with_given ds position)
 grown_given ds None = grown_self ds
-grown_given ds (Some place) = grown_changed ds place
+grown_given ds (Some position) = grown_changed ds position
 
 hearing_by : (word : ℕ) (d : DeviceRecord) (heard : Bool) → HasGrown d (if heard then (record d { kept = d.kept ++ word ∷ [] }) else d)
 hearing_by word d true = record { some = word ∷ []; begins = refl }
@@ -89,7 +89,7 @@ heard_where false address word ds = grown_self ds
 
 grown_gave : (machine : Machine) (gave : Option Stored) (ds : List DeviceRecord) → HaveGrown ds (devices_given machine gave ds)
 grown_gave machine None ds = grown_self ds
-grown_gave machine (Some gave) ds = heard_where (is_some (place_of machine.ports.outputs gave.address)) gave.address gave.word ds
+grown_gave machine (Some gave) ds = heard_where (is_some (position_of machine.ports.outputs gave.address)) gave.address gave.word ds
 
 grown_moments : (machine : Machine) (ds : List DeviceRecord) (moments : List Moment) → HaveGrown ds (devices_along machine ds moments)
 grown_moments machine ds [] = grown_self ds
@@ -101,42 +101,42 @@ grown_moments machine ds (moment ∷ moments) =
 
 still_grown : (fs ds : List DeviceRecord) (acts : List Act) → HaveGrown fs ds → HaveGrown (still_there fs acts) (still_there ds acts)
 still_grown fs ds [] p = p
-still_grown fs ds (Detaches line number ∷ acts) p = still_grown (with_detached fs (place_of_number number)) (with_detached ds (place_of_number number)) acts (grown_detached fs ds (place_of_number number) p)
+still_grown fs ds (Detaches line number ∷ acts) p = still_grown (with_detached fs (position_of_number number)) (with_detached ds (position_of_number number)) acts (grown_detached fs ds (position_of_number number) p)
 still_grown fs ds (MakesStep ∷ acts) p = still_grown fs ds acts p
 still_grown fs ds (Pulses ∷ acts) p = still_grown fs ds acts p
 still_grown fs ds (RunsCycle ∷ acts) p = still_grown fs ds acts p
 still_grown fs ds (Feeds line number ∷ acts) p = still_grown fs ds acts p
-still_grown fs ds (FeedsInCycle place ∷ acts) p = still_grown fs ds acts p
+still_grown fs ds (FeedsInCycle position ∷ acts) p = still_grown fs ds acts p
 still_grown fs ds (ShowsReg ∷ acts) p = still_grown fs ds acts p
 still_grown fs ds (ShowsCell address ∷ acts) p = still_grown fs ds acts p
 still_grown fs ds (ShowsOut address ∷ acts) p = still_grown fs ds acts p
-still_grown fs ds (ShowsDevice place ∷ acts) p = still_grown fs ds acts p
+still_grown fs ds (ShowsDevice position ∷ acts) p = still_grown fs ds acts p
 
 pub still_after : (ds : List DeviceRecord) (xs ys : List Act) → still_there ds (xs ++ ys) ≡ still_there (still_there ds xs) ys
 still_after ds [] ys = refl
-still_after ds (Detaches line number ∷ xs) ys = still_after (with_detached ds (place_of_number number)) xs ys
+still_after ds (Detaches line number ∷ xs) ys = still_after (with_detached ds (position_of_number number)) xs ys
 still_after ds (MakesStep ∷ xs) ys = still_after ds xs ys
 still_after ds (Pulses ∷ xs) ys = still_after ds xs ys
 still_after ds (RunsCycle ∷ xs) ys = still_after ds xs ys
 still_after ds (Feeds line number ∷ xs) ys = still_after ds xs ys
-still_after ds (FeedsInCycle place ∷ xs) ys = still_after ds xs ys
+still_after ds (FeedsInCycle position ∷ xs) ys = still_after ds xs ys
 still_after ds (ShowsReg ∷ xs) ys = still_after ds xs ys
 still_after ds (ShowsCell address ∷ xs) ys = still_after ds xs ys
 still_after ds (ShowsOut address ∷ xs) ys = still_after ds xs ys
-still_after ds (ShowsDevice place ∷ xs) ys = still_after ds xs ys
+still_after ds (ShowsDevice position ∷ xs) ys = still_after ds xs ys
 
 module _ (machine : Machine) (cert : Certificate Value) where
   grown_handled : (b : Bench) (act : Act) → HaveGrown (still_there b.devices (act ∷ [])) (handled machine b act)
-  grown_handled b (Detaches line number) = grown_self (with_detached b.devices (place_of_number number))
+  grown_handled b (Detaches line number) = grown_self (with_detached b.devices (position_of_number number))
   grown_handled b MakesStep = grown_self b.devices
   grown_handled b Pulses = grown_self b.devices
   grown_handled b RunsCycle = grown_self b.devices
   grown_handled b (Feeds line number) = grown_given b.devices (giver machine b (Feeds line number))
-  grown_handled b (FeedsInCycle place) = grown_given b.devices (giver machine b (FeedsInCycle place))
+  grown_handled b (FeedsInCycle position) = grown_given b.devices (giver machine b (FeedsInCycle position))
   grown_handled b ShowsReg = grown_self b.devices
   grown_handled b (ShowsCell address) = grown_self b.devices
   grown_handled b (ShowsOut address) = grown_self b.devices
-  grown_handled b (ShowsDevice place) = grown_self b.devices
+  grown_handled b (ShowsDevice position) = grown_self b.devices
 
   grown_one : (b : Bench) (act : Act) (moments : List Moment) → HaveGrown (still_there b.devices (act ∷ [])) (bench_after machine b act moments).devices
   grown_one b act moments =

@@ -38,12 +38,14 @@ some_doing machine b RunsCycle h =
 some_doing machine b MakesStep h = made_by machine b MakesStep (event.Step ∷ []) (λ moments. refl)
 some_doing machine b Pulses h = made_by machine b Pulses (event.Pulse ∷ []) (λ moments. refl)
 some_doing machine b (Feeds line number) h = made_by machine b (Feeds line number) (put_events (put_by machine b (Feeds line number))) (λ moments. refl)
-some_doing machine b (FeedsInCycle place) h = made_by machine b (FeedsInCycle place) (put_events (put_by machine b (FeedsInCycle place))) (λ moments. refl)
+some_doing machine b (FeedsInCycle position) h =
+    made_by machine b (FeedsInCycle position) (put_events (put_by machine b (FeedsInCycle position))) (λ moments. refl)
 some_doing machine b ShowsReg h = made_by machine b ShowsReg (put_events (put_by machine b ShowsReg)) (λ moments. refl)
 some_doing machine b (ShowsCell address) h = made_by machine b (ShowsCell address) (put_events (put_by machine b (ShowsCell address))) (λ moments. refl)
 some_doing machine b (ShowsOut address) h = made_by machine b (ShowsOut address) (put_events (put_by machine b (ShowsOut address))) (λ moments. refl)
 some_doing machine b (Detaches line number) h = made_by machine b (Detaches line number) (put_events (put_by machine b (Detaches line number))) (λ moments. refl)
-some_doing machine b (ShowsDevice place) h = made_by machine b (ShowsDevice place) (put_events (put_by machine b (ShowsDevice place))) (λ moments. refl)
+some_doing machine b (ShowsDevice position) h =
+    made_by machine b (ShowsDevice position) (put_events (put_by machine b (ShowsDevice position))) (λ moments. refl)
 
 one_made : (machine : Machine) (b : Bench) (act : Act) (events others : List Event) (moments further : List Moment) → IsMachine machine
     → Makes machine b act events moments → Makes machine b act others further → events ≡ others
@@ -53,12 +55,12 @@ one_made machine b RunsCycle events others moments further h p r =
 one_made machine b MakesStep events others moments further h p r = p ∙ sym r
 one_made machine b Pulses events others moments further h p r = p ∙ sym r
 one_made machine b (Feeds line number) events others moments further h p r = p ∙ sym r
-one_made machine b (FeedsInCycle place) events others moments further h p r = p ∙ sym r
+one_made machine b (FeedsInCycle position) events others moments further h p r = p ∙ sym r
 one_made machine b ShowsReg events others moments further h p r = p ∙ sym r
 one_made machine b (ShowsCell address) events others moments further h p r = p ∙ sym r
 one_made machine b (ShowsOut address) events others moments further h p r = p ∙ sym r
 one_made machine b (Detaches line number) events others moments further h p r = p ∙ sym r
-one_made machine b (ShowsDevice place) events others moments further h p r = p ∙ sym r
+one_made machine b (ShowsDevice position) events others moments further h p r = p ∙ sym r
 
 one_moments : (machine : Machine) (b : Bench) (act : Act) (events others : List Event) (moments further : List Moment) → IsMachine machine
     → Does machine b act events moments → Does machine b act others further → moments ≡ further

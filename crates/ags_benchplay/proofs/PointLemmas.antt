@@ -17,7 +17,7 @@ use Rattle.ags_ports.specs.declared.machines.Machine.{Machine}
 use Rattle.ags_ports.specs.Machine.{IsMachine}
 use Rattle.ags_safe.specs.Certificate.{Certificate}
 use Rattle.ags_benchplay.specs.Act.{Act, MakesStep, Pulses, RunsCycle, Feeds, FeedsInCycle, ShowsReg, ShowsCell, ShowsOut, Detaches, ShowsDevice, acts_of_script}
-use Rattle.ags_benchplay.specs.Bench.{Bench, start_bench, place_of_number, device_at}
+use Rattle.ags_benchplay.specs.Bench.{Bench, start_bench, position_of_number, device_at}
 use Rattle.ags_benchplay.specs.BenchRun.{Met, OutsideStart, StopsAt, RunsOn, IsPointOfRun, IsFrontOfRun, acts_unless}
 use Rattle.ags_benchplay.specs.Doing.{Refusal, refusal, refused_detach, bench_after, shown_text}
 use Rattle.ags_benchplay.specs.Driven.{WroteFrontOfRun}
@@ -95,12 +95,12 @@ module _ (machine : Machine) (cert : Certificate Value) where
   refused_silent b Pulses why e = refl
   refused_silent b RunsCycle why e = refl
   refused_silent b (Feeds line number) why e = refl
-  refused_silent b (FeedsInCycle place) why e = refl
+  refused_silent b (FeedsInCycle position) why e = refl
   refused_silent b ShowsReg why e = absurd cc
   refused_silent b (ShowsCell address) why e = absurd cc
   refused_silent b (ShowsOut address) why e = absurd cc
-  refused_silent b (Detaches line number) why e = silent_detach line number (device_at b.devices (place_of_number number)) why e
-  refused_silent b (ShowsDevice place) why e = absurd cc
+  refused_silent b (Detaches line number) why e = silent_detach line number (device_at b.devices (position_of_number number)) why e
+  refused_silent b (ShowsDevice position) why e = absurd cc
 
   abbrev BeginsWith : (text front : List ℕ) → Type 0
   BeginsWith text front = (more : List ℕ) × (text ≡ front ++ more)

@@ -9,16 +9,16 @@ use Rattle.ags_play.specs.Guard.{lets_through, stopped_by}
 use Rattle.ags_ports.specs.declared.events.Event.{Event}
 use Rattle.ags_ports.specs.declared.events.Event.TheVariants as event
 use Rattle.ags_ports.specs.declared.machines.Machine.{Machine}
-use Rattle.ags_ports.specs.Port.{place_of}
+use Rattle.ags_ports.specs.Port.{position_of}
 use Rattle.ags_ports.specs.Run.{Moment, Run, RunsTo}
 use Rattle.ags_ports.proofs.RunLemmas.{run-append, last-append}
 use Rattle.ags_row.specs.Limit.{input_limit}
 use Rattle.ags_safe.specs.Certificate.{Certificate}
 use Rattle.ags_safe.specs.Start.{AreDeclared}
 use Rattle.ags_benchplay.specs.Act.{Act, MakesStep, Pulses, RunsCycle, Feeds, FeedsInCycle, ShowsReg, ShowsCell, ShowsOut, Detaches, ShowsDevice}
-use Rattle.ags_benchplay.specs.Doing.{Makes, Refusal, NoDevice, NoFeed, OutsidePut, fed_place, put_by, refused_put, refused_feed, refusal, bench_after}
+use Rattle.ags_benchplay.specs.Doing.{Makes, NoFeed, fed_position, put_by, refused_put, refused_feed, refusal, bench_after}
 use Rattle.ags_benchplay.specs.Played.{Plays}
-use Rattle.ags_benchplay.specs.Bench.{Bench, place_of_number, device_at}
+use Rattle.ags_benchplay.specs.Bench.{Bench, position_of_number, device_at}
 
 -- ---- one run
 
@@ -51,12 +51,12 @@ module _ (machine : Machine) (cert : Certificate Value) where
   declared_steps zero = tt
   declared_steps (suc count) = (tt, declared_steps count)
 
-  either_held : (place : Option ℕ) (held : Bool) → (is_none place || held) ≡ true → IsSome place → held ≡ true
+  either_held : (position : Option ℕ) (held : Bool) → (is_none position || held) ≡ true → IsSome position → held ≡ true
   either_held None held let_through some = grind arith
-  either_held (Some place) held let_through some = let_through
+  either_held (Some position) held let_through some = let_through
 
   let_put : (put : PutWord) (let_through : Bool) → lets_through machine cert put ≡ let_through → (if let_through then None else Some put) ≡ None → Declared (put_events (Some put))
-  let_put put true same none = (either_held (place_of machine.ports.inputs put.address) (value_meaning.held (input_limit cert.limits put.address) put.word) same, tt)
+  let_put put true same none = (either_held (position_of machine.ports.inputs put.address) (value_meaning.held (input_limit cert.limits put.address) put.word) same, tt)
   let_put put false same none = absurd (cc)
 
   put_declared : (put : Option PutWord) → stopped_by machine (Some cert) put ≡ None → Declared (put_events put)
@@ -70,11 +70,11 @@ module _ (machine : Machine) (cert : Certificate Value) where
 
   fed_through : (line number : ℕ) (o : Option DeviceRecord) (stopped : Option PutWord) → refused_feed machine line number o stopped ≡ None → stopped ≡ None
   fed_through line number None stopped e = absurd cc
-  fed_through line number (Some d) stopped e = by_place (is_some (fed_place machine d.feeds)) e
+  fed_through line number (Some d) stopped e = by_position (is_some (fed_position machine d.feeds)) e
     where
-      by_place : (there : Bool) → (if there then refused_put stopped else Some (NoFeed line number)) ≡ None → stopped ≡ None
-      by_place true e = none_outside stopped e
-      by_place false e = absurd cc
+      by_position : (there : Bool) → (if there then refused_put stopped else Some (NoFeed line number)) ≡ None → stopped ≡ None
+      by_position true e = none_outside stopped e
+      by_position false e = absurd cc
 
   made_declared : (b : Bench) (act : Act) (events : List Event) (moments : List Moment) → Makes machine b act events moments → refusal machine cert b act ≡ None → Declared events
   made_declared b MakesStep events moments p none = subst Declared (sym p) (tt, tt)
@@ -82,14 +82,14 @@ module _ (machine : Machine) (cert : Certificate Value) where
   made_declared b RunsCycle events moments p none = subst Declared (sym p.steps) (declared_steps (length moments))
   made_declared b (Feeds line number) events moments p none =
       subst Declared (sym p) (put_declared (put_by machine b (Feeds line number))
-      (fed_through line number (device_at b.devices (place_of_number number)) (stopped_by machine (Some cert) (put_by machine b (Feeds line number))) none))
-  made_declared b (FeedsInCycle place) events moments p none =
-      subst Declared (sym p) (put_declared (put_by machine b (FeedsInCycle place)) (none_outside (stopped_by machine (Some cert) (put_by machine b (FeedsInCycle place))) none))
+      (fed_through line number (device_at b.devices (position_of_number number)) (stopped_by machine (Some cert) (put_by machine b (Feeds line number))) none))
+  made_declared b (FeedsInCycle position) events moments p none =
+      subst Declared (sym p) (put_declared (put_by machine b (FeedsInCycle position)) (none_outside (stopped_by machine (Some cert) (put_by machine b (FeedsInCycle position))) none))
   made_declared b ShowsReg events moments p none = subst Declared (sym p) tt
   made_declared b (ShowsCell address) events moments p none = subst Declared (sym p) tt
   made_declared b (ShowsOut address) events moments p none = subst Declared (sym p) tt
   made_declared b (Detaches line number) events moments p none = subst Declared (sym p) tt
-  made_declared b (ShowsDevice place) events moments p none = subst Declared (sym p) tt
+  made_declared b (ShowsDevice position) events moments p none = subst Declared (sym p) tt
 
   pub play_declared : (b here : Bench) (acts : List Act) (events : List Event) (text : List ℕ) → Plays machine cert b acts events text here → Declared events
   play_declared b here [] events text p = subst Declared (sym p.0) tt

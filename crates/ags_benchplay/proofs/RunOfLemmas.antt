@@ -21,11 +21,10 @@ use Rattle.ags_safe.specs.Certificate.{Certificate}
 use Rattle.ags_safe.specs.Safe.{IsSafeState, IsSafeStep, Safe}
 use Rattle.ags_safe.specs.Start.{IsStart}
 use Rattle.ags_script.specs.Suiting.{NamesLocation, NamesWord}
-use Rattle.ags_benchplay.specs.Act.{Act, acts_of_script}
+use Rattle.ags_benchplay.specs.Act.{Act}
 use Rattle.ags_benchplay.specs.Bench.{Bench, start_bench}
 use Rattle.ags_benchplay.specs.BenchRun.{Met, OutsideStart, RunsUnless, StopsAt, IsBenchRun}
-use Rattle.ags_benchplay.specs.Cut.{IsRunAtPoint, IsRunWhereCut, IsSafeWhereCut}
-use Rattle.ags_benchplay.specs.Played.{IsPoint}
+use Rattle.ags_benchplay.specs.Cut.{IsRunWhereCut, IsSafeWhereCut}
 use Rattle.ags_benchplay.proofs.RunLemmas.{play_runs, play_declared}
 
 module _ (machine : Machine) (image : List (Option ℕ)) (cert : Certificate Value) (devices : List DeviceRecord) (is : IsImage image) (below : cert.start < 4096) where

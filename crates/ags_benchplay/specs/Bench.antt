@@ -22,22 +22,22 @@ start_bench machine image cert devices = record { core = start_state machine ima
 
 -- ---- devices by their numbers
 
--- the place of a number: places are counted from 0, and numbers from 1
-abbrev pub place_of_number : ℕ → Option ℕ
-place_of_number zero = None
-place_of_number (suc place) = Some place
+-- the position of a number: positions are counted from 0, and numbers from 1
+abbrev pub position_of_number : ℕ → Option ℕ
+position_of_number zero = None
+position_of_number (suc position) = Some position
 
--- the device at a place, where there is one
+-- the device at a position, where there is one
 abbrev pub device_at : List DeviceRecord → Option ℕ → Option DeviceRecord
 device_at devices None = None
-device_at devices (Some place) = slice_get devices place
+device_at devices (Some position) = slice_get devices position
 
--- the devices once the one at a place gave its next word
+-- the devices once the one at a position gave its next word
 abbrev pub with_given : List DeviceRecord → Option ℕ → List DeviceRecord
 with_given devices None = devices
-with_given devices (Some place) = changed_at given devices place
+with_given devices (Some position) = changed_at given devices position
 
--- the devices once the one at a place left; the list closes up
+-- the devices once the one at a position left; the list closes up
 abbrev pub with_detached : List DeviceRecord → Option ℕ → List DeviceRecord
 with_detached devices None = devices
-with_detached devices (Some place) = without devices place
+with_detached devices (Some position) = without devices position

@@ -1,10 +1,9 @@
 -- What is so of a bench run at each point: it is a run of its certificate, and safe where the certificate is. A device's plan is a list of
 -- numbers; so each fact is said of events whose words are below 2 ^ 18, as are those that devices give.
-use Rattle.std.specs.Prelude.{ℕ, List, Option, None}
+use Rattle.std.specs.Prelude.{ℕ, List, Option}
 use Rattle.ags_domain.specs.Value.{value_meaning}
 use Rattle.ags_domain.specs.declared.values.Value.{Value}
 use Rattle.ags_play.specs.Begun.{IsRunOf}
-use Rattle.ags_play.specs.Guard.{IsFirstOutside}
 use Rattle.ags_ports.specs.declared.events.Event.{Event}
 use Rattle.ags_ports.specs.declared.machines.Machine.{Machine}
 use Rattle.ags_ports.specs.Run.{AreEvents, RunsTo}

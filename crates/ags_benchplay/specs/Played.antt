@@ -1,6 +1,6 @@
 -- What playing acts on a bench means: the events that they make, the text that is printed, the bench that they leave, and the points
 -- on the way.
-use Rattle.std.specs.Prelude.{◌≡◌, ℕ, List, [], ◌∷◌, ◌++◌, Option, Some, None}
+use Rattle.std.specs.Prelude.{◌≡◌, ℕ, List, [], ◌∷◌, ◌++◌, None}
 use Rattle.ags_device.specs.Record.{DeviceRecord}
 use Rattle.ags_domain.specs.declared.values.Value.{Value}
 use Rattle.ags_ports.specs.declared.events.Event.{Event}
@@ -8,7 +8,7 @@ use Rattle.ags_ports.specs.declared.machines.Machine.{Machine}
 use Rattle.ags_ports.specs.Run.{Moment}
 use Rattle.ags_safe.specs.Certificate.{Certificate}
 use Rattle.ags_benchplay.specs.Act.{Act, Detaches}
-use Rattle.ags_benchplay.specs.Bench.{Bench, place_of_number, with_detached}
+use Rattle.ags_benchplay.specs.Bench.{Bench, position_of_number, with_detached}
 use Rattle.ags_benchplay.specs.Doing.{Does, refusal, bench_after, shown_text}
 
 -- Nothing refuses the act; it makes its events and prints its text; and what goes on from the bench that it leaves makes the other
@@ -44,5 +44,5 @@ next_text machine here (act ∷ acts) = shown_text machine here act
 -- of devices, those that are still there after some acts
 abbrev pub still_there : List DeviceRecord → List Act → List DeviceRecord
 still_there devices [] = devices
-still_there devices (Detaches line number ∷ acts) = still_there (with_detached devices (place_of_number number)) acts
+still_there devices (Detaches line number ∷ acts) = still_there (with_detached devices (position_of_number number)) acts
 still_there devices (act ∷ acts) = still_there devices acts

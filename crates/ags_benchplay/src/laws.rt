@@ -119,12 +119,12 @@ pub fn points_lie_on_the_run()
 
 /// At each point there are no more steps than the script's lines count for, and no more words were put than they may put.
 pub fn events_are_counted_for()
-    ensures steps { (machine : Machine) (cert : Certificate Value) (b here : Bench) (places : ℕ) (lines : List (ℕ × BenchCommand))
+    ensures steps { (machine : Machine) (cert : Certificate Value) (b here : Bench) (positions : ℕ) (lines : List (ℕ × BenchCommand))
         (done rest : List Act) (events : List Event) (text : List ℕ) → IsMachine machine
-        → IsPoint machine cert b (acts_of_script places lines) events text here done rest
+        → IsPoint machine cert b (acts_of_script positions lines) events text here done rest
         → count_by is_step events ≤ steps_of lines }
-    ensures puts { (machine : Machine) (cert : Certificate Value) (b here : Bench) (places : ℕ) (lines : List (ℕ × BenchCommand))
+    ensures puts { (machine : Machine) (cert : Certificate Value) (b here : Bench) (positions : ℕ) (lines : List (ℕ × BenchCommand))
         (done rest : List Act) (events : List Event) (text : List ℕ)
-        → IsPoint machine cert b (acts_of_script places lines) events text here done rest
-        → count_by is_put events ≤ puts_of places lines }
+        → IsPoint machine cert b (acts_of_script positions lines) events text here done rest
+        → count_by is_put events ≤ puts_of positions lines }
 {}

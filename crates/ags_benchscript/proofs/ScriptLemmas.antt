@@ -83,7 +83,7 @@ SoFar-more machine text left asked more number line so fine is =
 -- the next line is at fault
 pub SoFar-fault : (machine : Machine) (text : List ℕ) (left : List LineAt) (asked : List (ℕ × BenchCommand)) (number : ℕ) (line : LineAt) (error : ScriptError) → SoFar machine text (line ∷ left) asked number
     → TellsFault machine (number + 1) asked (reading line.bytes) error → IsRefused machine text error
-SoFar-fault machine text left asked number line (At place kind) so tells =
+SoFar-fault machine text left asked number line (At position kind) so tells =
     let here : line_fault machine so.before line ≡ Some kind = rw (← so.asked_are) tells.1 in
     record { first = so.on ∙ first_fault-faulty (line_fault machine) so.before line left kind here ∙ rw (tells.0, so.so_many) refl }
 SoFar-fault machine text left asked number line NoMemory so tells = tt

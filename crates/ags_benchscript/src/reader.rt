@@ -60,20 +60,14 @@ fn lacks_port(machine: &Machine, command: BenchCommand) -> bool
 fn shared_command(line: &[u8]) -> Option<BenchCommand>
     ensures { result ≡ shared_command line.now }
 {
-    match line_command(line) {
-        Some(command) => bench_command(command),
-        None => None,
-    }
+    bench_command(line_command(line)?)
 }
 
 /// The command of a line that isn't skipped.
 fn command_of(line: &[u8]) -> Option<BenchCommand>
     ensures { result ≡ option_or (shared_command line.now) (device_command line.now) }
 {
-    match shared_command(line) {
-        Some(command) => Some(command),
-        None => device_command(line),
-    }
+    shared_command(line).or_else(|| device_command(line))
 }
 
 impl Reader {

@@ -38,7 +38,7 @@ impl BenchScript {
         self.asked.len()
     }
 
-    /// The command at a place, counted from 0, with its line's number.
+    /// The command at a position, counted from 0, with its line's number.
     pub fn nth(&self, position: usize) -> (u32, BenchCommand)
         requires { position < length self.now }
         ensures { slice_get self.now position ≡ Some result }

@@ -51,10 +51,7 @@ fn verb_command(verb: Verb, number: u32) -> BenchCommand
 fn numbered_command(verb: Verb, fields: &[u8]) -> Option<BenchCommand>
     ensures { result ≡ numbered_command (Some verb) (fields_of fields.now) }
 {
-    match count_operand(fields) {
-        Some(number) => Some(verb_command(verb, number)),
-        None => None,
-    }
+    Some(verb_command(verb, count_operand(fields)?))
 }
 
 /// The command of a line that names a device, and nothing for any other line.
@@ -63,8 +60,5 @@ pub(crate) fn device_command(line: &[u8]) -> Option<BenchCommand>
     ensures { result ≡ device_command line.now }
 {
     let (name, fields) = split_field(line);
-    match verb_named(name) {
-        Some(verb) => numbered_command(verb, fields),
-        None => None,
-    }
+    numbered_command(verb_named(name)?, fields)
 }

@@ -29,16 +29,16 @@ is_at_most m n = ⊎_elim (λ less. no (λ most. omega (arith, less, most))) (λ
 module _ {D : Type 0} where
   -- a row has it at its number, and the rest have it at theirs
   behind : (has : ℕ → Row D → Type 0) (r : Row D) (rows : List (Row D)) → SomeRow (λ number row. has (number + 1) row) rows → SomeRow has (r ∷ rows)
-  behind has r rows (place, row, inside, stands, is) =
-      let number : (place + 1) + 1 ≡ suc place + 1 = omega arith in
-      (suc place, row, omega (arith, inside), stands, subst (λ (n : ℕ). has n row) number is)
+  behind has r rows (position, row, inside, stands, is) =
+      let number : (position + 1) + 1 ≡ suc position + 1 = omega arith in
+      (suc position, row, omega (arith, inside), stands, subst (λ (n : ℕ). has n row) number is)
 
   first_or_behind : (has : ℕ → Row D → Type 0) (r : Row D) (rows : List (Row D)) → SomeRow has (r ∷ rows) → (has 1 r → ⊥)
       → (SomeRow (λ number row. has (number + 1) row) rows → ⊥) → ⊥
   first_or_behind has r rows (zero, row, inside, stands, is) first rest = first (subst (λ (x : Row D). has 1 x) (sym stands) is)
-  first_or_behind has r rows (suc place, row, inside, stands, is) first rest =
-      let number : suc place + 1 ≡ (place + 1) + 1 = omega arith in
-      rest (place, row, omega (arith, inside), stands, subst (λ (n : ℕ). has n row) number is)
+  first_or_behind has r rows (suc position, row, inside, stands, is) first rest =
+      let number : suc position + 1 ≡ (position + 1) + 1 = omega arith in
+      rest (position, row, omega (arith, inside), stands, subst (λ (n : ℕ). has n row) number is)
 
   one_more : (has : ℕ → Row D → Type 0) (r : Row D) (rows : List (Row D)) → Dec (has 1 r) → Dec (SomeRow (λ number row. has (number + 1) row) rows)
       → Dec (SomeRow has (r ∷ rows))
@@ -54,7 +54,7 @@ module _ {D : Type 0} where
   module _ (meaning : Meaning D) (cert : Certificate D) (base : Row D) (post : Post D) where
     alone : (target : Row D) → IsCovered meaning (record cert { rows = target ∷ [] }) base post → Covers meaning target base post cert.limits
     alone target (zero, row, inside, stands, covers) = subst (λ (r : Row D). Covers meaning r base post cert.limits) (sym stands) covers
-    alone target (suc place, row, inside, stands, covers) = absurd (omega (arith, inside))
+    alone target (suc position, row, inside, stands, covers) = absurd (omega (arith, inside))
 
     covering : (target : Row D) → Dec (IsCovered meaning (record cert { rows = target ∷ [] }) base post) → Dec (Covers meaning target base post cert.limits)
     covering target (yes covered) = yes (alone target covered)

@@ -247,8 +247,8 @@ module _ {D : Type 0} (meaning : Meaning D) (cert : Certificate D) (bounds : Lis
     some_of_row : (number : ℕ) (row : Row D) → IsRowAccepted meaning machine image cert row
         → (outcome : Result ℕ LateCase) × IsWalked meaning image cert.limits (Ok 0) CaseTimed number row outcome
     some_of_row number row is =
-        let sum = some_in_order (λ place c o. CaseTimed number row c o) (CaseAccepted row)
-        (λ place c accepted. some_case number (case_in machine image cert.limits row c) accepted)
+        let sum = some_in_order (λ position c o. CaseTimed number row c o) (CaseAccepted row)
+        (λ position c accepted. some_case number (case_in machine image cert.limits row c) accepted)
         0 (cases_in row is.code.list) (cases_each row (CaseAccepted row) is.code.list is.cases) in
         (sum.0, (Some is.code, is.is_code, sum.1))
 

@@ -97,13 +97,13 @@ module _ {D : Type 0} (meaning : Meaning D) (lawful : IsMeaning D meaning) (mach
 
   -- the case of each state of a row is in time
   abbrev pub AreInTime : Type 0
-  AreInTime = (place : ℕ) (row : Row D) (s : State) → StandsAt cert place row → IsState machine s → IsInRow meaning image cert.limits row s
-      → IsCaseInTime meaning cert bounds (place + 1) (case_at row s)
+  AreInTime = (position : ℕ) (row : Row D) (s : State) → StandsAt cert position row → IsState machine s → IsInRow meaning image cert.limits row s
+      → IsCaseInTime meaning cert bounds (position + 1) (case_at row s)
 
   -- some row holds the state, and its bound is left of another one after the time that was spent
   abbrev IsLeft : (bound spent : ℕ) → State → Type 0
-  IsLeft bound spent s = (place : ℕ) × (row : Row D) × StandsAt cert place row × IsInRow meaning image cert.limits row s
-      × (spent + bound_of bounds (place + 1) ≤ bound)
+  IsLeft bound spent s = (position : ℕ) × (row : Row D) × StandsAt cert position row × IsInRow meaning image cert.limits row s
+      × (spent + bound_of bounds (position + 1) ≤ bound)
 
   -- where orders run, so it is; else the time is within the bound
   abbrev LeftIn : Phase → (bound spent : ℕ) → State → Type 0
@@ -125,13 +125,13 @@ module _ {D : Type 0} (meaning : Meaning D) (lawful : IsMeaning D meaning) (mach
 
   module _ (in_time : AreInTime) (s : State) (state : IsState machine s) (safe : IsSafeState meaning machine image cert s) (running : s.phase ≡ Running)
       (report : Report) (after : State) (step : Steps machine s Step report after) (bound spent : ℕ) where
-    module _ (place : ℕ) (row : Row D) (stands : StandsAt cert place row) (in_row : IsInRow meaning image cert.limits row s)
-        (left : spent + bound_of bounds (place + 1) ≤ bound) where
+    module _ (position : ℕ) (row : Row D) (stands : StandsAt cert position row) (in_row : IsInRow meaning image cert.limits row s)
+        (left : spent + bound_of bounds (position + 1) ≤ bound) where
       abbrev here : Case D
       here = case_at row s
 
-      abbrev timed : IsCaseInTime meaning cert bounds (place + 1) here
-      timed = in_time place row s stands state in_row
+      abbrev timed : IsCaseInTime meaning cert bounds (position + 1) here
+      timed = in_time position row s stands state in_row
 
       reads : Reads machine s timed.0
       reads = record {
@@ -165,7 +165,7 @@ module _ {D : Type 0} (meaning : Meaning D) (lawful : IsMeaning D meaning) (mach
         state_after = step_keeps machine s Step report after machine_is state tt step
 
         -- the row that the time allows holds the state after
-        in_covering : (time : ℕ) (post : Option (Post D)) → IfSome post (IsPostInTime meaning cert bounds (bound_of bounds (place + 1)) time row)
+        in_covering : (time : ℕ) (post : Option (Post D)) → IfSome post (IsPostInTime meaning cert bounds (bound_of bounds (position + 1)) time row)
             → AgreesWith meaning cert.limits row post after → IsLeft bound (spent + time) after
         in_covering time None covers agrees = absurd agrees
         in_covering time (Some post) covers agrees = (
@@ -192,8 +192,8 @@ module _ {D : Type 0} (meaning : Meaning D) (lawful : IsMeaning D meaning) (mach
 
   -- each row that held the state at the last resume leaves of its bound what is spent since
   abbrev IsKeptLeft : State → ℕ → State → Type 0
-  IsKeptLeft resumed spent s = (place : ℕ) (row : Row D) → StandsAt cert place row → IsInRow meaning image cert.limits row resumed
-      → LeftIn s.phase (bound_of bounds (place + 1)) spent s
+  IsKeptLeft resumed spent s = (position : ℕ) (row : Row D) → StandsAt cert position row → IsInRow meaning image cert.limits row resumed
+      → LeftIn s.phase (bound_of bounds (position + 1)) spent s
 
   row_moved : (s : State) (phase : Phase) (inputs : List ℕ) (row : Row D) → IsInRow meaning image cert.limits row s
       → IsInRow meaning image cert.limits row (record s { phase = phase; inputs = inputs })
@@ -223,16 +223,16 @@ module _ {D : Type 0} (meaning : Meaning D) (lawful : IsMeaning D meaning) (mach
   module _ (s after : State) (report : Report) (resumed : State) (spent : ℕ) (kept : IsKeptLeft resumed spent s) where
     idle_kept : (other : Phase) (inputs : List ℕ) → after ≡ record s { phase = other; inputs = inputs } → other ≡ s.phase → order_time machine report ≡ 0
         → IsKeptLeft resumed (spent + order_time machine report) after
-    idle_kept other inputs is same none place row stands held =
+    idle_kept other inputs is same none position row stands held =
         let phase : s.phase ≡ after.phase = sym same ∙ sym (ap (λ (t : State). t.phase) is) in
         let time : spent ≡ spent + order_time machine report = omega (arith, none) in
-        subst (λ (n : ℕ). LeftIn after.phase (bound_of bounds (place + 1)) n after) time
-        (subst (λ (p : Phase). LeftIn p (bound_of bounds (place + 1)) spent after) phase
-        (idle_left s.phase (bound_of bounds (place + 1)) spent s after other inputs is (kept place row stands held)))
+        subst (λ (n : ℕ). LeftIn after.phase (bound_of bounds (position + 1)) n after) time
+        (subst (λ (p : Phase). LeftIn p (bound_of bounds (position + 1)) spent after) phase
+        (idle_left s.phase (bound_of bounds (position + 1)) spent s after other inputs is (kept position row stands held)))
 
     resumed_kept : after.phase ≡ Running → IsKeptLeft after 0 after
-    resumed_kept running place row stands held = subst (λ (p : Phase). LeftIn p (bound_of bounds (place + 1)) 0 after) (sym running)
-        (place, row, stands, held, omega arith)
+    resumed_kept running position row stands held = subst (λ (p : Phase). LeftIn p (bound_of bounds (position + 1)) 0 after) (sym running)
+        (position, row, stands, held, omega arith)
 
     module _ (in_time : AreInTime) (state : IsState machine s) (safe : IsSafeState meaning machine image cert s) where
       abbrev KeptAfter : Phase → Event → Type 0
@@ -240,9 +240,9 @@ module _ {D : Type 0} (meaning : Meaning D) (lawful : IsMeaning D meaning) (mach
           (spent_after machine phase event (record { report = report; after = after }) spent) after
 
       kept_in : (phase : Phase) (event : Event) → s.phase ≡ phase → Steps machine s event report after → KeptAfter phase event
-      kept_in Running Step is step = λ place row stands held.
-          running_left in_time s state safe is report after step (bound_of bounds (place + 1)) spent
-          (subst (λ (p : Phase). LeftIn p (bound_of bounds (place + 1)) spent s) is (kept place row stands held))
+      kept_in Running Step is step = λ position row stands held.
+          running_left in_time s state safe is report after step (bound_of bounds (position + 1)) spent
+          (subst (λ (p : Phase). LeftIn p (bound_of bounds (position + 1)) spent s) is (kept position row stands held))
       kept_in Running Pulse is step = idle_kept (phase_after_pulse s.phase) s.inputs step.1 (ap phase_after_pulse is ∙ sym is) (time-other machine s Pulse report after step pulse_step)
       kept_in Running (Put address word) is step = idle_kept s.phase _ step.1 refl (time-other machine s (Put address word) report after step (put_step address word))
       kept_in Waiting Step is step =
@@ -260,7 +260,7 @@ module _ {D : Type 0} (meaning : Meaning D) (lawful : IsMeaning D meaning) (mach
 
   -- some row holds the state
   abbrev IsHeld : State → Type 0
-  IsHeld s = (place : ℕ) × (row : Row D) × StandsAt cert place row × IsInRow meaning image cert.limits row s
+  IsHeld s = (position : ℕ) × (row : Row D) × StandsAt cert position row × IsInRow meaning image cert.limits row s
 
   held_safe : (s : State) → IsSafeState meaning machine image cert s → IsHeld s
   held_safe s safe = (safe.row.0, safe.row.1, (safe.row.2, safe.row.3), safe.row.4)
@@ -271,7 +271,8 @@ module _ {D : Type 0} (meaning : Meaning D) (lawful : IsMeaning D meaning) (mach
 
   in_time_at : (s resumed : State) (spent : ℕ) → IsHeld resumed → IsKeptLeft resumed spent s → IsInTime meaning machine image cert bounds resumed spent
   in_time_at s resumed spent held kept =
-      let rows : IsInBounds meaning machine image cert bounds resumed spent = λ place row stands is. left_within s.phase _ spent s (kept place row stands is) in
+      let rows : IsInBounds meaning machine image cert bounds resumed spent =
+      λ position row stands is. left_within s.phase _ spent s (kept position row stands is) in
       let within = rows held.0 held.1 held.2 held.3 in
       let most = times (held.0 + 1) in
       record { rows = rows; cycle = omega (arith, within, most) }
@@ -294,7 +295,8 @@ module _ {D : Type 0} (meaning : Meaning D) (lawful : IsMeaning D meaning) (mach
   pub bounds_kept : AreInTime → Safe meaning machine image cert → KeepsBounds meaning machine image cert bounds
   bounds_kept in_time safe s events moments start are declared run = run_spent in_time s events moments s 0 start.state (safe.start s start)
       (held_safe s (safe.start s start))
-      (λ place row stands held. subst (λ (p : Phase). LeftIn p (bound_of bounds (place + 1)) 0 s) (sym start.running) (place, row, stands, held, omega arith))
+      (λ position row stands held. subst (λ (p : Phase). LeftIn p (bound_of bounds (position + 1)) 0 s) (sym start.running)
+      (position, row, stands, held, omega arith))
       are run (safe.steps s events moments start are declared run)
 
   -- ---- the rows of an accepted budget
@@ -303,14 +305,15 @@ module _ {D : Type 0} (meaning : Meaning D) (lawful : IsMeaning D meaning) (mach
       → InOrder judged first xs (Ok count) → (one : ℕ) × judged (i + first) x (Ok one)
   each_at judged first [] count i x inside is order = absurd (omega (arith, inside))
   each_at judged first (y ∷ ys) count zero x inside is order =
-      let place : first ≡ 0 + first = omega arith in
-      (order.0, subst (λ (n : ℕ). judged n x (Ok order.0)) place (subst (λ (z : _). judged first z (Ok order.0)) is order.2))
+      let position : first ≡ 0 + first = omega arith in
+      (order.0, subst (λ (n : ℕ). judged n x (Ok order.0)) position (subst (λ (z : _). judged first z (Ok order.0)) is order.2))
   each_at judged first (y ∷ ys) count (suc i) x inside is order =
-      let place : i + (first + 1) ≡ suc i + first = omega arith in
+      let position : i + (first + 1) ≡ suc i + first = omega arith in
       let rest = each_at judged (first + 1) ys order.1 i x (omega (arith, inside)) is order.3 in
-      (rest.0, subst (λ (n : ℕ). judged n x (Ok rest.0)) place rest.1)
+      (rest.0, subst (λ (n : ℕ). judged n x (Ok rest.0)) position rest.1)
 
-  each_passes : {X F : Type 0} (judged : ℕ → X → Result ℕ F → Type 0) (P : X → Type 0) → ((place : ℕ) (x : X) (count : ℕ) → judged place x (Ok count) → P x)
+  each_passes : {X F : Type 0} (judged : ℕ → X → Result ℕ F → Type 0) (P : X → Type 0)
+      → ((position : ℕ) (x : X) (count : ℕ) → judged position x (Ok count) → P x)
       → (first : ℕ) (xs : List X) (count : ℕ) → InOrder judged first xs (Ok count) → AllByRecursion P xs
   each_passes judged P passes first [] count order = tt
   each_passes judged P passes first (x ∷ xs) count order = (passes first x order.0 order.2, each_passes judged P passes (first + 1) xs order.1 order.3)
@@ -323,16 +326,16 @@ module _ {D : Type 0} (meaning : Meaning D) (lawful : IsMeaning D meaning) (mach
       → (word index : ℕ) (indicator : Bool) → lists code.list word ≡ true → has_flag row.x index ≡ true → has_flag row.v (indicator_number indicator) ≡ true
       → IsCaseInTime meaning cert bounds number (case_of machine image cert.limits row word index indicator)
   with_code number row code count walked = each_cases row (CaseTimed number row) code.list
-      (each_passes (λ place c o. IsCaseTimed meaning cert bounds number (case_in machine image cert.limits row c) o) (CaseTimed number row)
-      (λ place c count timed. timed.0) 0 (cases_in row code.list) count walked)
+      (each_passes (λ position c o. IsCaseTimed meaning cert bounds number (case_in machine image cert.limits row c) o) (CaseTimed number row)
+      (λ position c count timed. timed.0) 0 (cases_in row code.list) count walked)
 
   pub rows_in_time : (count : ℕ) → Accepted meaning machine image cert → AreRowsTimed meaning machine image cert bounds (Ok count) → AreInTime
-  rows_in_time count accepted timed place row s stands state in_row =
+  rows_in_time count accepted timed position row s stands state in_row =
       let walked = each_at (λ n r o. IsWalkedAt meaning image cert.limits (Ok 0) (λ n r c o. IsCaseTimed meaning cert bounds n (case_in machine image cert.limits r c) o) n r o)
-      1 cert.rows count place row stands.0 stands.1 timed in
+      1 cert.rows count position row stands.0 stands.1 timed in
       let row_is : IsRowAccepted meaning machine image cert row =
-      subst (λ (r : Row D). IsRowAccepted meaning machine image cert r) stands.1 (accepted.rows place row stands.0) in
+      subst (λ (r : Row D). IsRowAccepted meaning machine image cert r) stands.1 (accepted.rows position row stands.0) in
       let same = code_one meaning image cert.limits row walked.1.0 (Some row_is.code) walked.1.1 row_is.is_code in
-      with_code (place + 1) row row_is.code walked.0
-      (subst (λ (o : Option WordSet). IsWalkedWith meaning image cert.limits (Ok 0) (λ n r c o. IsCaseTimed meaning cert bounds n (case_in machine image cert.limits r c) o) (place + 1) row o (Ok walked.0)) same walked.1.2)
+      with_code (position + 1) row row_is.code walked.0
+      (subst (λ (o : Option WordSet). IsWalkedWith meaning image cert.limits (Ok 0) (λ n r c o. IsCaseTimed meaning cert bounds n (case_in machine image cert.limits r c) o) (position + 1) row o (Ok walked.0)) same walked.1.2)
       (word_here s) s.index s.indicator (code_has_word meaning image cert.limits row row_is.code machine s state in_row row_is.is_code) in_row.index in_row.indicator

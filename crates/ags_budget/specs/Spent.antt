@@ -41,8 +41,8 @@ AtEachSpent P machine resumed spent s (event ∷ events) [] = ⊥
 module _ {D : Type 0} (meaning : Meaning D) (machine : Machine) (image : List (Option ℕ)) (cert : Certificate D) (bounds : List ℕ) where
   -- the time is within the bound of each row that holds the state
   abbrev pub IsInBounds : State → ℕ → Type 0
-  IsInBounds resumed spent = (place : ℕ) (row : Row D) → StandsAt cert place row → IsInRow meaning image cert.limits row resumed
-      → spent ≤ bound_of bounds (place + 1)
+  IsInBounds resumed spent = (position : ℕ) (row : Row D) → StandsAt cert position row → IsInRow meaning image cert.limits row resumed
+      → spent ≤ bound_of bounds (position + 1)
 
   -- So it is, and the time is within the cycle's 20,000 microseconds.
   pub record IsInTime (resumed : State) (spent : ℕ) : Type 0 where

@@ -2,18 +2,16 @@
 --
 -- The lemmas that the crates above may cite, each of them behind a clause of `reading_laws.rt`: reading-spells and
 -- spelled-reading.
-use Rattle.std.proofs.Common.{◌≡◌, ◌≢◌, ℕ, ◌<◌, ◌==◌, ◌||◌, Bool, true, false, not, List, [], ◌∷◌, ◌++◌, length, Option, Some, None, unwrap_or, codes, nat_eq, refl, sym, ap, ◌∙◌, inl, inr, arith}
+use Rattle.std.proofs.Common.{◌≡◌, ℕ, ◌<◌, ◌==◌, ◌||◌, Bool, true, false, List, [], ◌∷◌, ◌++◌, length, Option, Some, None, unwrap_or, refl, sym, ap, ◌∙◌, inl, inr, arith}
 use Rattle.std.specs.Prelude.{nat_lt, slice_index, Result, Ok}
-use Rattle.std.specs.Cmp.Lexicographic.{pointwise, same_text}
 use Rattle.std.specs.List.{list_all}
-use Rattle.std.proofs.lemmas.Bool.{cases_Bool, lt-ltb, ltb-true, eqb-true, eq-eqb, ne_eqb, or_cases, or_left, or_right, or_from, true≢false, false_from_ne_true}
+use Rattle.std.proofs.lemmas.Bool.{cases_Bool, lt-ltb, ltb-true, eqb-true, eq-eqb, ne_eqb, or_cases, or_left, or_right, or_from, false_from_ne_true}
 use Rattle.std.proofs.lemmas.Bool.Decides.{nat_tests}
 use Rattle.ags_text.specs.Field.{is_blank}
 use Rattle.ags_card.specs.declared.cards.Card.{Card}
 use Rattle.ags_card.specs.declared.cards.Body.{Body}
 use Rattle.ags_card.specs.declared.cards.CardFault.TheVariants.{BadByte, LongCard, BadSymbol}
 use Rattle.ags_card.specs.declared.operations.Operation.{Operation}
-use Rattle.ags_card.specs.declared.operations.Operation.TheVariants as op
 use Rattle.ags_card.specs.Operation.{operation_name, operation_named, gives_value}
 use Rattle.ags_card.specs.Symbol.{is_capital, is_symbol}
 use Rattle.ags_card.specs.Spelling.{is_allowed, IsComment, comment_card, HasCardFields, FitsSymbol, WritesCard, Spells}
@@ -81,7 +79,7 @@ fits_field symbol operation fits =
 
 -- ---- from what is read to what is spelled
 
--- what stands behind the operands is the remark
+-- what stands after the operands is the remark
 record IsRemark (operands others : List (List ℕ)) : Type 0 where
   remark : List (List ℕ)
   whole : others ≡ operands ++ remark

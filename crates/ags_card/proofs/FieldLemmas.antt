@@ -10,7 +10,7 @@ use Rattle.ags_card.specs.Spelling.{HasCardFields}
 use Rattle.ags_card.proofs.ByteLemmas.{list_cases}
 use Rattle.ags_card.specs.Reading.{symbol_field, operation_field, operand_field}
 
--- what stands behind a field is shorter than the text
+-- what stands after a field is shorter than the text
 behind_field_shorter : (text : List ℕ) → 0 < length (next_field text) → length (behind_field text) < length text
 unfolding next_field behind_field leading_field behind_leading_field behind_blanks
 behind_field_shorter text some =

@@ -1,6 +1,6 @@
 -- Lists between commas: what is read is what is written, both ways, and where nothing is read some part is at fault.
-use Rattle.std.proofs.Common.{◌≡◌, ℕ, ◌+◌, ◌*◌, ◌<◌, ◌≤◌, ◌⊎◌, ◌==◌, Bool, true, false, not, List, [], ◌∷◌, ◌++◌, length, take, drop, Option, Some, None, refl, sym, ap, ◌∙◌, inl, inr, one-add, append_assoc, length-drop, arith}
-use Rattle.std.specs.Prelude.{All, IsTrue}
+use Rattle.std.proofs.Common.{◌≡◌, ℕ, ◌+◌, ◌*◌, ◌<◌, ◌≤◌, ◌⊎◌, ◌==◌, Bool, true, false, not, List, [], ◌∷◌, ◌++◌, length, take, drop, Option, Some, None, refl, sym, ap, ◌∙◌, inl, inr, one-add, append_assoc, arith}
+use Rattle.std.specs.Prelude.{All}
 use Rattle.std.specs.Option.{option_map}
 use Rattle.std.specs.List.{list_all, position_or_len}
 use Rattle.std.proofs.lemmas.Bool.{cases_Bool, and_parts, and_from, eqb-true}
@@ -23,7 +23,7 @@ comma_len text = position_or_len is_comma text
 
 -- ---- the loop over a text
 
--- the list of a text whose first element has these bytes, with what stands behind them
+-- the list of a text whose first element has these bytes, with what stands after them
 abbrev pub list_cut : {X : Type 0} → (List ℕ → Option X) → List ℕ → List ℕ → Option (List X)
 list_cut read front [] = with_item (read front) (Some [])
 list_cut read front (b ∷ behind) = with_item (read front) (list_reading read [] behind)
@@ -67,7 +67,7 @@ list_last read items text front behind x whole so front_is behind_is some last =
     let one : list_cut read front behind ≡ Some (x ∷ []) = rw (last, some) refl in
     sym so ∙ ap (listed items) (cut_whole read text front behind front_is behind_is) ∙ ap (listed items) one
 
--- an element with others behind it
+-- an element with others after it
 pub list_more : {X : Type 0} (read : List ℕ → Option X) (items : List X) (text front behind : List ℕ) (x : X) (whole : Option (List X)) → listed items (list_reading read [] text) ≡ whole
     → front ≡ take (comma_len text) text → behind ≡ drop (comma_len text) text → read front ≡ Some x → 0 < length behind → listed (items ++ x ∷ []) (list_reading read [] (drop 1 behind)) ≡ whole
 list_more read items text front behind x whole so front_is behind_is some more =
@@ -227,7 +227,7 @@ fails_from read before (b ∷ text) alone is =
 pub list_fails : {X : Type 0} (read : List ℕ → Option X) (text : List ℕ) → list_reading read [] text ≡ None → FailsAt read text
 list_fails read text is = fails_from read [] text refl is
 
--- nothing is read behind the comma before a text of which nothing is read
+-- nothing is read after the comma before a text of which nothing is read
 behind_fails : {X : Type 0} (read : List ℕ → Option X) (before front rest : List ℕ) → list_reading read [] rest ≡ None → list_reading read before (front ++ 44 ∷ rest) ≡ None
 unfolding list_reading
 behind_fails read before [] rest none = nothing (read before) none

@@ -23,7 +23,7 @@ position_or_len_is p text =
       | inr le ↦ rw (le-ltb _ _ le) (omega arith)
     ]
 
--- the terms of a text whose first one has these bytes, with what stands behind them
+-- the terms of a text whose first one has these bytes, with what stands after them
 abbrev pub terms_cut : Bool → List ℕ → List ℕ → Option (List Term)
 terms_cut minus front [] = with_term minus (atom_reading front) (Some [])
 terms_cut minus front (b ∷ behind) = with_term minus (atom_reading front) (terms_reading (b == 45) [] behind)
@@ -80,7 +80,7 @@ read_last items minus text front behind atom whole so front_is behind_is some la
     let one : terms_cut minus front behind ≡ Some (record { minus = minus; atom = atom } ∷ []) = rw (last, some) refl in
     sym (ap (prepended items) one) ∙ sym (ap (prepended items) cut) ∙ so
 
--- a term with others behind it
+-- a term with others after it
 pub read_more : (items : List Term) (minus : Bool) (text front behind : List ℕ) (atom : Atom) (whole : Option (List Term)) → prepended items (terms_reading minus [] text) ≡ whole
     → front ≡ take (front_len text) text → behind ≡ drop (front_len text) text → atom_reading front ≡ Some atom → 0 < length behind
     → prepended (items ++ record { minus = minus; atom = atom } ∷ []) (terms_reading (starts_with_minus behind) [] (drop 1 behind)) ≡ whole
@@ -106,7 +106,7 @@ pub is_empty : (text : List ℕ) (empty : Bool) → empty ≡ (length text == 0)
 is_empty [] empty is holds = refl
 is_empty (b ∷ text) empty is holds = let none : (length (b ∷ text) == 0) ≡ true = sym is ∙ holds in absurd (grind (arith, nat_tests))
 
--- what stands behind the first byte
+-- what stands after the first byte
 pub behind_first : (text : List ℕ) → take (length text - 1) (drop 1 text) ≡ drop 1 text
 behind_first [] = refl
 behind_first (b ∷ text) = take_all (length (b ∷ text) - 1) text (omega arith)
@@ -123,7 +123,7 @@ field_short text =
     let rest = drop blanks text in
     omega (arith, length-drop blanks text, front_short (position_or_len is_blank rest) rest)
 
--- nor is what stands behind it, or behind the field at the start
+-- nor is what stands after it, or after the field at the start
 pub behind_field_short : (text : List ℕ) → length (behind_field text) ≤ length text
 unfolding behind_field behind_leading_field behind_blanks
 behind_field_short text =

@@ -43,7 +43,7 @@ with_term minus (Some atom) (Some terms) = Some (record { minus = minus; atom = 
 with_term minus (Some atom) None = None
 with_term minus None terms = None
 
--- the terms of a text behind the bytes of a first one, whose sign is given
+-- the terms of a text after the bytes of a first one, whose sign is given
 unfoldable pub terms_reading : (minus : Bool) (before text : List ℕ) → Option (List Term)
 terms_reading minus before [] = with_term minus (atom_reading before) (Some [])
 terms_reading minus before (b ∷ text) = if is_sign b then with_term minus (atom_reading before) (terms_reading (b == 45) [] text) else terms_reading minus (before ++ b ∷ []) text
@@ -97,7 +97,7 @@ with_item (Some x) (Some xs) = Some (x ∷ xs)
 with_item (Some x) None = None
 with_item None xs = None
 
--- what the texts between commas are read as, behind the bytes of a first one, where each of them is something
+-- what the texts between commas are read as, after the bytes of a first one, where each of them is something
 unfoldable pub list_reading : {X : Type 0} → (List ℕ → Option X) → (before text : List ℕ) → Option (List X)
 list_reading read before [] = with_item (read before) (Some [])
 list_reading read before (b ∷ text) = if b == 44 then with_item (read before) (list_reading read [] text) else list_reading read (before ++ b ∷ []) text
@@ -156,7 +156,7 @@ symbol_field line = leading_field line
 abbrev pub operation_field : List ℕ → List ℕ
 operation_field line = next_field (behind_leading_field line)
 
--- its operand: the field behind that
+-- its operand: the field after that
 abbrev pub operand_field : List ℕ → List ℕ
 operand_field line = next_field (behind_field (behind_leading_field line))
 

@@ -1,6 +1,6 @@
 -- How a card is written, forwards from the card to the lines that write it, and when a line has a fault: each fault by
 -- a condition of its own.
-use Rattle.std.specs.Prelude.{◌≡◌, ◌≢◌, ℕ, ◌<◌, ◌≤◌, ◌⊎◌, Bool, true, false, not, ◌&&◌, ◌||◌, ◌==◌, nat_lt, pos, neg_ℤ, List, [], ◌∷◌, ◌++◌, length, slice_index, Option, Some, None, unwrap_or, if◌then◌else◌, IsTrue, codes}
+use Rattle.std.specs.Prelude.{◌≡◌, ℕ, ◌<◌, ◌≤◌, ◌⊎◌, Bool, true, false, not, ◌&&◌, ◌||◌, ◌==◌, nat_lt, pos, neg_ℤ, List, [], ◌∷◌, ◌++◌, length, slice_index, Option, Some, None, unwrap_or, if◌then◌else◌, IsTrue, codes}
 use Rattle.std.specs.List.{list_all}
 use Rattle.ags_text.specs.Field.{AreBlanks, HasNoBlank, AreFields, Behind}
 use Rattle.ags_text.specs.Numeral.{IsOctal, IsDecimal}
@@ -43,7 +43,7 @@ abbrev pub sign_byte : (minus : Bool) → ℕ
 sign_byte true = 45
 sign_byte false = 43
 
--- terms without the sign of the first one, and each other one behind its sign
+-- terms without the sign of the first one, and each other one after its sign
 abbrev pub IsSum : List ℕ → List Term → Type 0
 IsSum text [] = ⊥
 IsSum text (term ∷ []) = IsAtom text term.atom
@@ -54,12 +54,12 @@ abbrev pub IsExpression : List ℕ → List Term → Type 0
 IsExpression text [] = ⊥
 IsExpression text (term ∷ terms) = (sign : List ℕ) × (behind : List ℕ) × (text ≡ sign ++ behind) × decimal.IsSign term.minus sign × IsSum behind (term ∷ terms)
 
--- what stands behind an order's expression where its index bit is set
+-- what stands after an order's expression where its index bit is set
 abbrev pub index_mark : (indexed : Bool) → List ℕ
 index_mark true = codes ",1"
 index_mark false = []
 
--- the operand of an order: an expression, and behind it the mark of the index or nothing
+-- the operand of an order: an expression, and after it the mark of the index or nothing
 abbrev pub IsOrderOperand : List Term → (indexed : Bool) → List ℕ → Type 0
 IsOrderOperand terms indexed operand = (expression : List ℕ) × (operand ≡ expression ++ index_mark indexed) × IsExpression expression terms
 
@@ -107,8 +107,8 @@ IsWritten body.End operation operands = (operation ≡ op.End) × (operands ≡ 
 
 -- ---- lines
 
--- The line is a symbol field, which is empty where column 1 is blank, and further fields, each behind a gap of blanks.
--- Behind the last field only blanks stand.
+-- The line is a symbol field, which is empty where column 1 is blank, and further fields, each after a gap of blanks.
+-- After the last field only blanks stand.
 pub record HasCardFields (line symbol : List ℕ) (fields : List (List ℕ)) : Type 0 where
   pub behind : List ℕ
   pub whole : line ≡ symbol ++ behind
@@ -129,7 +129,7 @@ abbrev pub FitsSymbol : Option (List ℕ) → Operation → Type 0
 FitsSymbol (Some symbol) operation = IsSymbol symbol
 FitsSymbol None operation = gives_value operation ≡ false
 
--- the line has the card's symbol or none, its operation and its operands, and any remark behind them
+-- the line has the card's symbol or none, its operation and its operands, and any remark after them
 pub record WritesCard (line : List ℕ) (card : Card) : Type 0 where
   pub operation : Operation
   pub operands : List (List ℕ)
@@ -183,7 +183,7 @@ HasComma operation operand = (takes_one operation ≡ true) × Holds (λ b. b ==
 abbrev pub IsNoExpression : Operation → List ℕ → Type 0
 IsNoExpression operation operand = (takes_expression operation ≡ true) × ((asked : Body) → IsWritten asked operation (operand ∷ []) → ⊥)
 
--- what stands in the text between two commas, or before the first or behind the last
+-- what stands in the text between two commas, or before the first or after the last
 pub record IsPart (text part : List ℕ) : Type 0 where
   pub front : List ℕ
   pub behind : List ℕ
@@ -223,6 +223,18 @@ fault_number ExtraOperand = 6
 fault_number BadExpression = 7
 fault_number BadDecimal = 8
 fault_number BadOctal = 9
+
+-- what is printed of a fault: its number and its name
+abbrev pub card_fault_text : CardFault → List ℕ
+card_fault_text BadByte = codes "1 BadByte"
+card_fault_text LongCard = codes "2 LongCard"
+card_fault_text BadSymbol = codes "3 BadSymbol"
+card_fault_text UnknownOperation = codes "4 UnknownOperation"
+card_fault_text MissingOperand = codes "5 MissingOperand"
+card_fault_text ExtraOperand = codes "6 ExtraOperand"
+card_fault_text BadExpression = codes "7 BadExpression"
+card_fault_text BadDecimal = codes "8 BadDecimal"
+card_fault_text BadOctal = codes "9 BadOctal"
 
 -- the line has the fault, and no other one with a lesser number
 pub record IsLeastFault (line : List ℕ) (fault : CardFault) : Type 0 where

@@ -7,6 +7,7 @@ use crate::lists::{DecList, OctList};
 use crate::names::Name;
 use crate::terms::Terms;
 use ags_isa::Order;
+use std::fmt;
 
 /// What a card asks for (docs/SOURCE.md, Cards).
 #[derive(Drop)]
@@ -30,9 +31,9 @@ pub enum Body {
     Bss(Terms),
     /// That the place be moved by this, and that the card's symbol have the new place.
     Bes(Terms),
-    /// The words of decimal numbers, one behind the other.
+    /// The words of decimal numbers, one after the other.
     Dec(DecList),
-    /// These words, one behind the other.
+    /// These words, one after the other.
     Oct(OctList),
     /// That the source end.
     End,
@@ -80,4 +81,26 @@ pub enum CardFault {
     BadDecimal,
     /// Some operand of OCT, an empty one too, is no octal number.
     BadOctal,
+}
+
+/// Prints the fault as it stands in the line of a source's fault: its number and its name.
+impl fmt::Display for CardFault {
+    ghost use Rattle.std.specs.Prelude.{Some};
+    ghost use Rattle.ags_card.specs.Spelling.{card_fault_text};
+
+    ghost output = { λ fault. Some (card_fault_text fault) };
+
+    fn fmt<W: fmt::Write>(&self, f: &mut fmt::Formatter<W>) -> fmt::Result {
+        f.write_str(match self {
+            CardFault::BadByte => "1 BadByte",
+            CardFault::LongCard => "2 LongCard",
+            CardFault::BadSymbol => "3 BadSymbol",
+            CardFault::UnknownOperation => "4 UnknownOperation",
+            CardFault::MissingOperand => "5 MissingOperand",
+            CardFault::ExtraOperand => "6 ExtraOperand",
+            CardFault::BadExpression => "7 BadExpression",
+            CardFault::BadDecimal => "8 BadDecimal",
+            CardFault::BadOctal => "9 BadOctal",
+        })
+    }
 }

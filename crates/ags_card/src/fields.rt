@@ -10,9 +10,9 @@ use ags_text::{split_field, split_leading_field};
 pub(crate) struct Fields<'a> {
     /// What stands before the first blank: a card's symbol, where it has one.
     pub(crate) symbol: &'a [u8],
-    /// The field behind it.
+    /// The field after it.
     pub(crate) operation: &'a [u8],
-    /// The field behind that.
+    /// The field after that.
     pub(crate) operand: &'a [u8],
 }
 

@@ -19,7 +19,7 @@ pub const MOST_CONSTANTS: usize = 64;
 /// The words of an OCT, of which there are 1 to 64.
 #[derive(Drop)]
 pub struct OctList {
-    /// The words, and further ones behind them.
+    /// The words, and further ones after them.
     words: [Word; MOST_CONSTANTS],
     /// How many of them are the list's.
     count: usize,

@@ -21,7 +21,7 @@ const MOST_BYTES: usize = 6;
 /// A symbol (docs/SOURCE.md, Symbols): one to six capital letters and digits, with a letter among them.
 #[derive(Clone, Copy)]
 pub struct Name {
-    /// The symbol's bytes, with zeros behind them.
+    /// The symbol's bytes, with zeros after them.
     bytes: [u8; 6],
     length: u8,
 }
@@ -42,7 +42,7 @@ impl Model for Name {
     ghost inverse_ok = { λ n h i. record { bytes = h.0 i; length = h.1 i } };
 }
 
-/// A byte of a text, and 0 behind its end.
+/// A byte of a text, and 0 after its end.
 fn byte_or_zero(text: &[u8], position: usize) -> u8
     ensures { result ≡ get_or text.now position 0 }
 {
@@ -53,7 +53,7 @@ fn byte_or_zero(text: &[u8], position: usize) -> u8
     }
 }
 
-/// The first six bytes of a text, with zeros behind it where it is shorter.
+/// The first six bytes of a text, with zeros after it where it is shorter.
 #[tactic(auto, unfolding(crate::specs::Padding::padded))]
 fn pad(text: &[u8]) -> [u8; 6]
     ensures { result ≡ padded text.now }

@@ -17,7 +17,7 @@ pub(crate) enum Operation {
     Equ,
     /// Another name of EQU.
     Syn,
-    /// The place is moved, behind its symbol.
+    /// The place is moved, after its symbol.
     Bss,
     /// The place is moved, before its symbol.
     Bes,

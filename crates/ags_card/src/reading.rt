@@ -82,9 +82,7 @@ fn read_fields(
     if !fits_symbol(symbol, operation) {
         return Err(CardFault::BadSymbol);
     }
-    let Some(operation) = operation_named(operation) else {
-        return Err(CardFault::UnknownOperation);
-    };
+    let operation = operation_named(operation).ok_or(CardFault::UnknownOperation)?;
     card.symbol = Name::of(symbol);
     read_body(&mut card.body, operation, operand)
 }
@@ -115,8 +113,6 @@ pub fn read_card(line: &[u8]) -> Result<Card, CardFault>
     ensures { result ≡ reading line.now }
 {
     let mut card = Card::comment();
-    match read_card_into(&mut card, line) {
-        Ok(()) => Ok(card),
-        Err(fault) => Err(fault),
-    }
+    read_card_into(&mut card, line)?;
+    Ok(card)
 }

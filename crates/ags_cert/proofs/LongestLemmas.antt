@@ -1,4 +1,4 @@
--- The values that begin at a place of a line, the shorter ones first.
+-- The values that begin at a position of a line, the shorter ones first.
 use Rattle.std.proofs.Common.{◌≡◌, ℕ, ◌+◌, ◌-◌, ◌<◌, ◌≤◌, true, false, List, [], ◌∷◌, ◌++◌, length, take, drop, Option, Some, None, refl, sym, ap, inl, inr, ◌∙◌, append_assoc, arith}
 use Rattle.std.specs.Prelude.{◌==◌, IfSome, IfNone}
 use Rattle.std.proofs.lemmas.Bool.{cases_lt, eqb-true, true≢false}
@@ -10,8 +10,8 @@ use Rattle.ags_certtext.specs.Front.{AreAtFront, BeginsWithWord, BeginsWithValue
 use Rattle.ags_certtext.specs.Spelling.{AreWords, StateValue}
 use Rattle.ags_certtext.proofs.FrontLemmas.{no_word, value_fields}
 use Rattle.ags_cert.specs.ValueAt.{StandsAt, IsLongestAt}
-use Rattle.ags_cert.proofs.FieldLemmas.{Stops, field_parts}
-use Rattle.ags_cert.proofs.CutLemmas.{cut_off, put_on, one_more, no_longer}
+use Rattle.ags_text.proofs.FieldLaws.{field_parts}
+use Rattle.ags_cert.proofs.CutLemmas.{Stops, cut_off, put_on, one_more, no_longer}
 
 -- ---- the fields of a value
 
@@ -28,12 +28,6 @@ words_count [] (word ∷ words) are = absurd are
 words_count (field ∷ fields) [] are = absurd are
 words_count (field ∷ fields) (word ∷ words) are = omega (arith, words_count fields words are.1)
 
--- they are one to 17
-one_field : (fields : List (List ℕ)) (value : Value) → StateValue fields (Some value) → 1 ≤ length fields
-one_field fields (Range range) (inl every) = omega (arith, ap length every.0)
-one_field fields (Range range) (inr between) = omega (arith, ap length between.2.are)
-one_field fields (Words set) is = omega (arith, ap length is.1)
-
 few_fields : (fields : List (List ℕ)) (value : Value) → StateValue fields (Some value) → length fields ≤ 17
 few_fields fields (Range range) (inl every) = omega (arith, ap length every.0)
 few_fields fields (Range range) (inr between) = omega (arith, ap length between.2.are)
@@ -41,30 +35,30 @@ few_fields fields (Words set) is = let few = set.few in omega (arith, ap length 
 
 -- ---- a part of a line
 
--- what stands behind a field from a place on is the line from a further place on
+-- what stands after a field from a position on is the line from a further position on
 pub left_is : (line rest : List ℕ) (from : ℕ) → from ≤ length line → rest ≡ behind_field (drop from line)
     → (from ≤ length line - length rest) × (length rest ≤ length line) × (drop (length line - length rest) line ≡ rest)
 left_is line rest from within is =
     let parts = field_parts (drop from line) in
-    let mid : List ℕ = parts.blanks ++ next_field (drop from line) in
+    let mid : List ℕ = parts.0 ++ next_field (drop from line) in
     let front : List ℕ = take from line ++ mid in
-    let part : drop from line ≡ mid ++ rest = parts.whole ∙ sym (append_assoc parts.blanks (next_field (drop from line)) (behind_field (drop from line)))
+    let part : drop from line ≡ mid ++ rest = parts.2 ∙ sym (append_assoc parts.0 (next_field (drop from line)) (behind_field (drop from line)))
     ∙ ap (λ (r : List ℕ). mid ++ r) (sym is) in
     let whole : line ≡ front ++ rest = sym (take-append-drop from line) ∙ ap (λ (r : List ℕ). take from line ++ r) part ∙ sym (append_assoc (take from line) mid rest) in
     let long : length line ≡ length front + length rest = ap length whole ∙ length-append front rest in
     let further : from ≤ length front = omega (arith, length-append (take from line) mid, length-take from line, within) in
-    let place : length front ≡ length line - length rest = omega (arith, long) in
-    (omega (arith, further, place), omega (arith, long), ap (λ (l : List ℕ). drop (length line - length rest) l) whole ∙ drop_at front rest (length line - length rest) place)
+    let position : length front ≡ length line - length rest = omega (arith, long) in
+    (omega (arith, further, position), omega (arith, long), ap (λ (l : List ℕ). drop (length line - length rest) l) whole ∙ drop_at front rest (length line - length rest) position)
 
--- a line from a place on
+-- a line from a position on
 pub all_left : (line : List ℕ) (from : ℕ) → take (length line - from) (drop from line) ≡ drop from line
 all_left line from = take_all (length line - from) (drop from line) (omega (arith, length-drop from line))
 
--- a part of a line, and what stands behind it
+-- a part of a line, and what stands after it
 pub part_whole : (line : List ℕ) (from behind : ℕ) → from ≤ behind → take (behind - from) (drop from line) ++ drop behind line ≡ drop from line
 part_whole line from behind ordered =
-    let place : drop (behind - from) (drop from line) ≡ drop behind line = drop-drop (behind - from) from line ∙ ap (λ (n : ℕ). drop n line) (omega (arith, ordered)) in
-    rw (← place) (take-append-drop (behind - from) (drop from line))
+    let position : drop (behind - from) (drop from line) ≡ drop behind line = drop-drop (behind - from) from line ∙ ap (λ (n : ℕ). drop n line) (omega (arith, ordered)) in
+    rw (← position) (take-append-drop (behind - from) (drop from line))
 
 -- the value of such a part stands in the line
 pub part_stands : (line text : List ℕ) (from behind : ℕ) (value : Value) → behind ≤ length line → Stops (drop behind line) → text ++ drop behind line ≡ drop from line
@@ -84,12 +78,12 @@ part_begins line text from behind value whole is =
     let same : cut.front ≡ text = append_cancel_right cut.front text (drop behind line) (sym cut.whole ∙ sym whole) in
     record { taken = is.taken; front = rw (← same) cut.are; value_is = is.value_is }
 
--- what is told of a part that ends behind a field
+-- what is told of a part that ends after a field
 pub told_stands : (line text rest before : List ℕ) (from behind : ℕ) (value : Option Value) → behind ≤ length line → drop behind line ≡ behind_field before
     → text ++ drop behind line ≡ drop from line → rest ≡ [] → BeginsWithValue text value rest → IfSome value (λ v. StandsAt line from v behind)
 told_stands line text rest before from behind None within left whole none is = tt
 told_stands line text rest before from behind (Some value) within left whole none is =
-    part_stands line text from behind value within (rw left (field_parts before).stops) whole (rw none at is)
+    part_stands line text from behind value within (rw left (field_parts before).4) whole (rw none at is)
 
 pub no_word_behind : BeginsWithWord [] → ⊥
 no_word_behind word = no_word [] refl word
@@ -103,7 +97,7 @@ some_left rest some none = let test = rw none at some in true≢false (sym test)
 
 -- ---- one field further each time
 
--- so many fields stand from one place of a line to another
+-- so many fields stand from one position of a line to another
 pub record Counted (line : List ℕ) (from count behind : ℕ) : Type 0 where
   pub ordered : from ≤ behind
   pub within : behind ≤ length line
@@ -149,12 +143,6 @@ LongestOf count line from None = (value : Value) (behind : ℕ) → (is : Stands
 pub record Searched (line : List ℕ) (from count behind : ℕ) (found : Option (Value × ℕ)) : Type 0 where
   pub counted : Counted line from count behind
   pub longest : LongestOf count line from found
-
-pub searched_none : (line : List ℕ) (from : ℕ) → from ≤ length line → Searched line from 0 from None
-searched_none line from within = record {
-  counted = record { ordered = omega arith; within = within; fields = []; count_is = refl; are = refl };
-  longest = λ value behind is few. let one = one_field is.taken value is.value_is in absurd (omega (arith, one, few));
-}
 
 -- a value ends at the next field
 pub searched_some : (line : List ℕ) (from count next : ℕ) (value : Value) → Counted line from (count + 1) next → StandsAt line from value next
@@ -212,8 +200,8 @@ all_only line from count behind None all so value end is = absurd (so.longest va
 all_only line from count behind (Some (first, last)) all so value end is =
     let no_further = so.longest.longest value end is.stands (fields_within count is.stands.taken value is.stands.value_is all) in
     let no_earlier = is.longest first last so.longest.stands in
-    let place : last ≡ end = omega (arith, no_further, no_earlier) in
-    let same = so.longest.one value (rw place is.stands) in
+    let position : last ≡ end = omega (arith, no_further, no_earlier) in
+    let same = so.longest.one value (rw position is.stands) in
     cc
 
 pub all_none : (line : List ℕ) (from count behind : ℕ) (found : Option (Value × ℕ)) → 17 ≤ count → Searched line from count behind found

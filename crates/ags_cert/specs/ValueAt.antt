@@ -1,10 +1,10 @@
--- What value stands at a place of a line.
+-- What value stands at a position of a line.
 use Rattle.std.specs.Prelude.{ℕ, ◌≤◌, List, length, drop, Some}
 use Rattle.ags_domain.specs.declared.values.Value.{Value}
 use Rattle.ags_certtext.specs.Front.{AreAtFront}
 use Rattle.ags_certtext.specs.Spelling.{StateValue}
 
--- A value stands in the line from one place to another: the fields from the one to the other state it.
+-- A value stands in the line from one position to another: the fields from the one to the other state it.
 pub record StandsAt (line : List ℕ) (from : ℕ) (value : Value) (behind : ℕ) : Type 0 where
   pub within : behind ≤ length line
   pub taken : List (List ℕ)

@@ -1,7 +1,7 @@
 //! Certificates under one path (docs/CERTIFICATE.md): `Cert`, its reader `read`, the same for pieces, `CertReader`, its writer
 //! `send_cert`, and what a text that is none is told as. The work stands in four crates below, so that each is proved beside the others: `ags_certtype` has
 //! the type, `ags_certtext` what a line states, `ags_certread` the reader and `ags_certsend` the writer. Here stands
-//! the reader of one value at a place of a line, `read_value`; the definitions that the contracts of the others cite are handed on in `specs/`.
+//! the reader of one value at a position of a line, `read_value`; the definitions that the contracts of the others cite are handed on in `specs/`.
 #![tactic(auto)]
 
 mod values;

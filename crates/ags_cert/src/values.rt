@@ -1,4 +1,4 @@
-//! The value at a place of a line.
+//! The value at a position of a line.
 
 ghost use Rattle.std.specs.Prelude.{◌≡◌, ℕ, ◌≤◌, List, length, drop, Some, IfSome, IfNone};
 ghost use Rattle.ags_text.specs.Field.{behind_field};
@@ -11,7 +11,7 @@ use ags_text::split_field;
 /// The most fields of a value: its keyword, and the words of a set.
 const MOST_FIELDS: usize = 1 + MOST_WORDS;
 
-/// The place behind the next field, from a place of a line on. Where no field is left it is the end of the line.
+/// The position after the next field, from a position of a line on. Where no field is left it is the end of the line.
 fn field_end(line: &[u8], from: usize) -> usize
     requires { from ≤ length line.now }
     ensures ordered { from ≤ result }
@@ -22,7 +22,7 @@ fn field_end(line: &[u8], from: usize) -> usize
     line.len() - rest.len()
 }
 
-/// The value that the fields from one place of a line to another state, where the other is behind a field.
+/// The value that the fields from one position of a line to another state, where the other is after a field.
 fn value_between(line: &[u8], from: usize, behind: usize) -> Option<Value>
     requires ordered { from ≤ behind }
     requires within { behind ≤ length line.now }
@@ -36,7 +36,7 @@ fn value_between(line: &[u8], from: usize, behind: usize) -> Option<Value>
     if rest.is_empty() { value } else { None }
 }
 
-/// The value that begins at a place of a line, as long as can be, and the place behind it, or nothing where none begins there, a range whose
+/// The value that begins at a position of a line, as long as can be, and the position after it, or nothing where none begins there, a range whose
 /// least is above its greatest among them (docs/CERTIFICATE.md, Values). Blanks may stand before it. It takes no memory.
 pub fn read_value(line: &[u8], from: usize) -> Option<(Value, usize)>
     requires { from ≤ length line.now }

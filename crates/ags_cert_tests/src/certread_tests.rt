@@ -71,7 +71,7 @@ fn a_certificate_is_read(rt: HostRuntime) {
     }
 }
 
-/// A certificate of version 2 whose rows have a link before, between and behind their cells, and none.
+/// A certificate of version 2 whose rows have a link before, between and after their cells, and none.
 const LINKED: &[u8] = b"AGSCERT 2\n\
     ROW 4000 A ANY Q ANY X 0 V 0\nLINK 0020 10\nAT 0017 RANGE 3 3\nAT 0020 RANGE 1 2\n\
     ROW 4001 A ANY Q ANY X 0 V 0\nAT 0020 RANGE 1 2\nLINK 3777 -262143\nAT 0017 RANGE 3 3\n\
@@ -140,7 +140,7 @@ const FAULTS: [(&[u8], u32, CertKind); 36] = [
         4,
         CertKind::BadLine,
     ),
-    // a link stands in version 2, behind a row
+    // a link stands in version 2, after a row
     (
         b"AGSCERT 1\nROW 4000 A ANY Q ANY X 0 V 0\nLINK 0020 0\n",
         3,

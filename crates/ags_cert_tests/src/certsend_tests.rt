@@ -1,13 +1,12 @@
 //! Certificates whose texts were worked out outside the crate: octal numbers are typed as octal.
 
-ghost use Rattle.std.specs.Prelude.{None};
-
 use crate::common::{expect_same, range};
 use ags_certread::{CERT_LIMIT, read};
 use ags_certsend::{send_cert, sent_certificate_reads_back, sent_lines_are_read};
 use ags_certtype::{Cert, CertParts};
+use ags_decks::FailingSink;
 use ags_domain::{Domain, Range, Value, WordSet};
-use ags_outside::{PutDone, SendError, Sink, SteadySink};
+use ags_outside::{SendError, SteadySink};
 use ags_ports::Ports;
 use ags_row::{At, Limits, Row, RowParts};
 use ags_word::Word;
@@ -282,38 +281,11 @@ fn sent_texts_read_back(rt: HostRuntime) {
     expect_sent_as(&rt, alloc, UNLINKED, PLAIN);
 }
 
-/// A sink that tells nothing, takes each piece whole, and fails at one of its puts.
-#[derive(Drop)]
-struct FailingSink {
-    at: u64,
-    puts: u64,
-    faults: u64,
-}
-
-impl Sink for FailingSink {
-    ghost told = { λ _. None };
-
-    ghost faults = { λ sink. sink.faults };
-
-    fn put(&mut self, piece: &[u8]) -> PutDone {
-        self.puts = self.puts.saturating_add(1);
-        if self.puts == self.at {
-            self.faults = self.faults.saturating_add(1);
-            return PutDone::Failed;
-        }
-        PutDone::Took(piece.len())
-    }
-}
-
 /// Sends a certificate to a sink that fails at a put, and looks at the answer and at how many puts there were.
 fn expect_puts(rt: &impl Abort, cert: &Cert, at: u64, wanted: Result<(), SendError>, puts: u64) {
-    let mut out = FailingSink {
-        at,
-        puts: 0,
-        faults: 0,
-    };
+    let mut out = FailingSink::at(at);
     let answer = send_cert(cert, &mut out);
-    expect_same(rt, &(answer, out.puts), &(wanted, puts));
+    expect_same(rt, &(answer, out.puts()), &(wanted, puts));
 }
 
 #[test]

@@ -1,4 +1,4 @@
-//! Tests of certificates: of those in hand, of their texts read, whole and in pieces, and written, and of the values at places of
+//! Tests of certificates: of those in hand, of their texts read, whole and in pieces, and written, and of the values at positions of
 //! lines, over what their crates make public. They stand in a crate of their own, so that the proofs of those crates aren't done a
 //! second time for them.
 #![tactic(auto)]

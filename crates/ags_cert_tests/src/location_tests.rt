@@ -45,7 +45,7 @@ fn certificate(rt: &impl Abort, alloc: Global, locations: &[u16]) -> Cert {
     made.expect(rt, "the parts of a certificate")
 }
 
-/// Asserts that the numbers of the rows at a location are those of its places among some locations.
+/// Asserts that the numbers of the rows at a location are those of its positions among some locations.
 fn expect_numbers(rt: &impl Abort, cert: &Cert, locations: &[u16], location: u16) {
     assert!(rt; location < 4096);
     let numbers = cert.at_location(location);

@@ -23,7 +23,7 @@ const RETURN_WORD: &[u8] = b"AGSCERT 1\nSTART 4000\n\
     AT 0017 WORDS 404001\n\
     END\n";
 
-/// One with a line of each kind and a comment, whose lines end in several ways, and a lone return behind the last line feed.
+/// One with a line of each kind and a comment, whose lines end in several ways, and a lone return after the last line feed.
 const EVERY_KIND: &[u8] = b"AGSCERT 1\r\n# a comment\nSTART 4000\r\nCELL 0017 RANGE -5 9\n\n\
     INIT 0017 RANGE 0 9\nIN 2200 RANGE 0 31\nOUT 6001 WORDS 000001 777777\nMAY 4001\n\
     ROW 4000 A ANY Q WORDS 404001 X 0127 V 01\r\nAT 0020 RANGE 1 2\n AT\t0017 RANGE 3 4 \n\
@@ -228,7 +228,7 @@ fn a_line_over_three_pieces_is_read_alike(rt: HostRuntime) {
     }
 }
 
-/// The answer for pieces, one behind the other.
+/// The answer for pieces, one after the other.
 fn of_pieces(rt: &impl Abort, alloc: Global, pieces: &[&[u8]]) -> Result<Cert, CertError> {
     let mut reader = reader(rt, alloc);
     for piece in pieces {
@@ -237,7 +237,7 @@ fn of_pieces(rt: &impl Abort, alloc: Global, pieces: &[&[u8]]) -> Result<Cert, C
     reader.finish()
 }
 
-/// A row and the end, as they stand behind lines that do nothing.
+/// A row and the end, as they stand after lines that do nothing.
 const ROW_AND_END: &[u8] = b"ROW 4000 A ANY Q ANY X 0 V 0\nEND\n";
 
 #[test]
@@ -256,7 +256,7 @@ fn line_feeds_alone_are_lines(rt: HostRuntime) {
     );
 }
 
-/// What may stand behind a fault.
+/// What may stand after a fault.
 const BEHIND_A_FAULT: [&[u8]; 6] = [
     b"",
     b"\n",

@@ -1,4 +1,4 @@
-//! Values read at places of lines: the places that are wanted are counted by hand, and octal numbers are typed as octal.
+//! Values read at positions of lines: the positions that are wanted are counted by hand, and octal numbers are typed as octal.
 
 use crate::common::{expect_same, range};
 use ags_cert::read_value;
@@ -16,7 +16,7 @@ fn words(rt: &impl Abort, numbers: &[u32]) -> Value {
     Value::Words(WordSet::of(&words[..numbers.len()]).expect(rt, "some words that ascend"))
 }
 
-/// Expects what value begins at a place of a line, and where it ends.
+/// Expects what value begins at a position of a line, and where it ends.
 fn expect_value(rt: &impl Abort, line: &[u8], from: usize, wanted: Option<(Value, usize)>) {
     assert!(rt; from <= line.len());
     expect_same(rt, &read_value(line, from), &wanted);
@@ -55,7 +55,7 @@ fn nothing_is_read(rt: HostRuntime) {
     }
 }
 
-/// The value of every word: from which place of a line, and to which.
+/// The value of every word: from which position of a line, and to which.
 const EVERY_WORD: [(&[u8], usize, usize); 8] = [
     (b"ANY", 0, 3),
     (b"\t ANY \t", 0, 5),
@@ -74,7 +74,7 @@ fn every_word_is_read(rt: HostRuntime) {
     }
 }
 
-/// Ranges: from which place of a line, their ends, and to which place.
+/// Ranges: from which position of a line, their ends, and to which position.
 const RANGES: [(&[u8], usize, i32, i32, usize); 8] = [
     (b"RANGE -131072 131071", 0, -131_072, 131_071, 20),
     (b"RANGE 4 6", 0, 4, 6, 9),
@@ -96,7 +96,7 @@ fn ranges_are_read(rt: HostRuntime) {
 /// The words 0 to 15.
 const SIXTEEN: [u32; 16] = [0, 1, 2, 3, 4, 5, 6, 7, 8, 9, 10, 11, 12, 13, 14, 15];
 
-/// Word sets: from which place of a line, their words, and to which place.
+/// Word sets: from which position of a line, their words, and to which position.
 const WORD_SETS: [(&[u8], usize, &[u32], usize); 13] = [
     (b"WORDS 404001", 0, &[0o404001], 12),
     (b"WORDS 000001 000003 000002", 0, &[1, 3], 19),

@@ -1,4 +1,4 @@
--- What the checks of one statement cite: a value within another, told by a test, and the first place in a list that passes a test.
+-- What the checks of one statement cite: a value within another, told by a test, and the first position in a list that passes a test.
 use Rattle.std.proofs.Common.{◌≡◌, ℕ, zero, suc, ◌<◌, ◌≤◌, Bool, true, false, not, ◌||◌, refl, subst, ⊎_elim, List, length, unwrap_or, position, inl, inr, arith}
 use Rattle.std.specs.Prelude.{IsTrue}
 use Rattle.std.specs.List.{position_or_len}
@@ -57,15 +57,15 @@ pub within_told : (inner outer : Value) (told : Bool) → (IsTrue told → IsWit
 within_told inner outer true only found = is_within_is inner outer (only refl)
 within_told inner outer false only found = is_false (is_within inner outer) (λ is. let clash : false ≡ true = found (within_is inner outer is) in absurd cc)
 
--- ---- the first place that passes
+-- ---- the first position that passes
 
-pub first_place : {X : Type 0} (p : X → Bool) (xs : List X) → unwrap_or (position p xs) (length xs) ≡ position_or_len p xs
-first_place p xs =
+pub first_position : {X : Type 0} (p : X → Bool) (xs : List X) → unwrap_or (position p xs) (length xs) ≡ position_or_len p xs
+first_position p xs =
     let most : position_or_len p xs ≤ length xs = prefix_len-le-length (λ x. not (p x)) xs in
     elim (cases_lt (position_or_len p xs) (length xs)) [
       | inl lt ↦ rw (lt-ltb _ _ lt) refl
       | inr le ↦ rw (le-ltb _ _ le) (omega arith)
     ]
 
-pub place_within : {X : Type 0} (p : X → Bool) (xs : List X) → position_or_len p xs ≤ length xs
-place_within p xs = prefix_len-le-length (λ x. not (p x)) xs
+pub position_within : {X : Type 0} (p : X → Bool) (xs : List X) → position_or_len p xs ≤ length xs
+position_within p xs = prefix_len-le-length (λ x. not (p x)) xs

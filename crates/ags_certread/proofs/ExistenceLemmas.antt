@@ -157,7 +157,7 @@ module _ (ports : Registers) (text : List ℕ) where
       inl (cert, SoFar-all ports text g number so cert ended is)
   at_end g number false missing so = inr (number + 1, BadLine, SoFar-missing ports text g number so missing)
 
-  -- the rest of the lines, behind those that were read
+  -- the rest of the lines, after those that were read
   Onward : List LineAt → Type 0
   Onward left = (g : Gathering) (number : ℕ) → SoFar ports text left g number → Meaning
 

@@ -134,7 +134,7 @@ stated_before before g is In address = is.tables.inputs.has address
 stated_before before g is Out address = is.tables.outputs.has address
 stated_before before g is At address = is.rows.cells.has address
 
--- and has room where there is some behind them
+-- and has room where there is some after them
 pub full_before : (before : List Statement) (g : Gathering) → Gathered before g → (table : Table)
     → is_full_with (length g.row_cells) table ≡ is_full_with (length (entries_before table before)) table
 full_before before g is Cell = refl
@@ -221,15 +221,6 @@ module _ (ports : Registers) (before : List Statement) (g : Gathering) (is : Gat
 pub after_none : (ports : Registers) (version : ℕ) (before : List Statement) (statement : Statement) → fault_in ports version before statement ≡ None
     → fault_after ports before statement ≡ None
 after_none ports version before statement none = (clear (not (is_of_version version statement)) BadLine (fault_after ports before statement) none).1
-
--- what is not of the version is a bad line
-pub other_version : (ports : Registers) (version : ℕ) (before : List Statement) (statement : Statement) → is_of_version version statement ≡ false
-    → fault_in ports version before statement ≡ Some BadLine
-other_version ports version before statement other = rw other refl
-
-pub same_version : (ports : Registers) (version : ℕ) (before : List Statement) (statement : Statement) → is_of_version version statement ≡ true
-    → fault_in ports version before statement ≡ fault_after ports before statement
-same_version ports version before statement its = rw its refl
 
 -- ---- a statement without a fault can be added
 

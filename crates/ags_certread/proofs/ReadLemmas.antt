@@ -60,7 +60,7 @@ lines-more : (first : LineAt) (more : List LineAt) (readings : List Reading) (ot
 lines-more first more [] others rest are too = absurd are
 lines-more first more (reading ∷ readings) others rest are too = (are.0, further-more more readings others rest are.1 too)
 
--- the readings of the lines behind some
+-- the readings of the lines after some
 pub left_readings : (lines others : List LineAt) (readings : List Reading) → AreReadingsBy IsReading (lines ++ others) readings → HaveReadings others
 left_readings [] others readings are = (readings, are)
 left_readings (line ∷ lines) others [] are = absurd are

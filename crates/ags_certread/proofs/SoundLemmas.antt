@@ -292,7 +292,7 @@ module _ (m : Gathering) (sound : IsSound m) (shut : m.line ≡ None) where
   inside_more (EntryOf At entry) fine inside ends = absurd ends
   inside_more _ fine inside ends = sound.inside
 
-  -- what is in the table of the start says nothing to a kind behind it
+  -- what is in the table of the start says nothing to a kind after it
   behind_start : (least : ℕ) (init : List (Option Value)) → 3 ≤ least → least ≤ 2 → (address : ℕ) → stated init address ≡ None
   behind_start least init late low = absurd (omega (arith, late, low))
 

@@ -29,10 +29,10 @@ use Rattle.ags_certread.specs.Gathered.{Gathers, IsOpening, AreTaken}
 use Rattle.ags_certread.specs.declared.states.State.{State}
 use Rattle.ags_certread.specs.declared.states.State.TheVariants as state
 use Rattle.ags_certread.proofs.ExistenceLemmas.{have_readings}
-use Rattle.ags_certread.proofs.GatherLemmas.{Gathered-none, Gathered-opened}
+use Rattle.ags_certread.proofs.GatherLemmas.{Gathered-none}
 use Rattle.ags_text.proofs.PieceLemmas.{ended_none, ended_more, ended_feed, ended_all, ended_long}
 use Rattle.ags_certread.proofs.ReadLemmas.{SoFar, SoFar-first, SoFar-more, SoFar-fault, SoFar-missing, SoFar-all, opening_refused, empty_refused}
-use Rattle.ags_certread.proofs.SoundLemmas.{IsSound-none, sound_opened}
+use Rattle.ags_certread.proofs.SoundLemmas.{IsSound-none}
 
 -- ---- what was gathered of lines is sound
 
@@ -52,11 +52,6 @@ gathers_push ports g (first ∷ lines) m h line (mid, took, rest) takes = (mid, 
 
 pub stood_more : (ports : Registers) (g h : Gathering) (bytes : List ℕ) → IsOfStatements g → TakesLine ports g bytes h → IsOfStatements h
 stood_more ports g h bytes (before, stands) (reading, is, takes) = stands_line ports before g h stands reading takes
-
--- the version that was opened says nothing of the statements
-pub stood_opened : (g : Gathering) (version : ℕ) → IsOfStatements g → IsOfStatements (record g { version = version })
-stood_opened g version (before, stands) =
-    (before, record { gathered = Gathered-opened before g version stands.gathered; sound = sound_opened g version stands.sound })
 
 pub stood_nothing : (g : Gathering) → g ≡ nothing_stated → IsOfStatements g
 stood_nothing g same = subst (λ (h : Gathering). IsOfStatements h) (sym same) ([], record { gathered = Gathered-none; sound = IsSound-none })
@@ -206,7 +201,7 @@ open_of : (ports : Registers) (rest : List ℕ) (number : ℕ) (g : Gathering) (
     → Standing ports rest number g text
 open_of ports rest number g st text is took = subst (λ (s : State). TookCert ports rest number g s text) is took
 
--- behind a fault bytes change nothing
+-- after a fault bytes change nothing
 told_on : (ports : Registers) (rest newer : List ℕ) (number next : ℕ) (g h : Gathering) (l : ℕ) (kind : CertKind) (text bytes : List ℕ)
     → TookCert ports rest number g (state.Told l kind) text → TookCert ports newer next h (state.Told l kind) (text ++ bytes)
 told_on ports rest newer number next g h l kind text bytes told = λ more short.
@@ -289,7 +284,7 @@ module _ (ports : Registers) (text : List ℕ) (g : Gathering) (number : ℕ) (a
   pub whole_read : 0 < number → (cert : Cert_stated) → is_last kind.End g.last ≡ true → IsCertOfGathering g cert → IsCertOf ports text cert
   whole_read some cert ended is = SoFar-all ports text g number (so_far_all some) cert ended is
 
--- nothing stands behind the last feed, or a line does
+-- nothing stands after the last feed, or a line does
 module _ (ports : Registers) (rest : List ℕ) (number : ℕ) (g : Gathering) (text : List ℕ) (so : Standing ports rest number g text) (within : length text ≤ certificate_limit) where
   pub all_taken : eqb (length (strip_carriage_return rest)) 0 ≡ true → IsWhole ports text g number
   all_taken none =
@@ -337,7 +332,7 @@ told_now ports text l kind told short = subst (λ (whole : List ℕ). IsFaultyCe
 
 -- ---- the answer
 
--- nothing stands behind the last feed
+-- nothing stands after the last feed
 pub all_read : (st : State) (lines : KeptLines) (rest text : List ℕ) → TookCert lines.ports rest lines.number lines.gathered st text → length text ≤ certificate_limit
     → eqb (length (strip_carriage_return rest)) 0 ≡ true → HasRead st lines text
 all_read state.Open lines rest text took short none = all_taken lines.ports rest lines.number lines.gathered text took short none

@@ -9,7 +9,7 @@ use Rattle.ags_text.specs.Fault.{first_fault, or_later}
 use Rattle.ags_domain.specs.Domain.{IsFull}
 use Rattle.ags_domain.specs.Value.{value_meaning, value_held}
 use Rattle.ags_domain.specs.declared.values.Value.{Value}
-use Rattle.ags_ports.specs.Port.{Registers, place_of}
+use Rattle.ags_ports.specs.Port.{Registers, position_of}
 use Rattle.ags_ports.specs.declared.machines.Machine.{Machine}
 use Rattle.ags_ports.specs.declared.registers.Port.{Port}
 use Rattle.ags_row.specs.Limit.{Limiting, AreLimits, input_limit, output_limit}
@@ -116,19 +116,19 @@ any_below {X} p (x ∷ xs) some = by_test (λ too. any_below p xs too) (p x) ref
     by_test again true is = rw is (omega arith)
     by_test again false is = let less = again (rw is at some) in rw is (omega (arith, less))
 
-never_placed : (ports : List Port) (address : ℕ) → has_register ports address ≡ true → place_of ports address ≡ None → ⊥
+never_placed : (ports : List Port) (address : ℕ) → has_register ports address ≡ true → position_of ports address ≡ None → ⊥
 never_placed ports address has none =
     let less = any_below (λ (port : Port). port.address == address) ports has in
     let found : ◌≡◌ {A = Option ℕ} (Some (position_or_len (λ (port : Port). port.address == address) ports)) None = rw (lt-ltb _ _ less) at none in
     absurd cc
 
 full_input : (ports : Registers) (address : ℕ) (value : Option Value) (limit : Value) → HoldsOfFound (InputSuits ports) address value → IsLimit value limit
-    → place_of ports.inputs address ≡ None → IsFull value_meaning limit
+    → position_of ports.inputs address ≡ None → IsFull value_meaning limit
 full_input ports address None limit suits is none = is
 full_input ports address (Some value) limit suits is none = absurd (never_placed ports.inputs address suits.0 none)
 
 full_output : (ports : Registers) (address : ℕ) (value : Option Value) (limit : Value) → HoldsOfFound (OutputSuits ports) address value → IsLimit value limit
-    → place_of ports.outputs address ≡ None → IsFull value_meaning limit
+    → position_of ports.outputs address ≡ None → IsFull value_meaning limit
 full_output ports address None limit suits is none = is
 full_output ports address (Some value) limit suits is none = absurd (never_placed ports.outputs address suits none)
 

@@ -134,7 +134,7 @@ no_lower from cell first cells firsts ascends same = ⊎_elim
     (λ least. least)
     (cases_lt cell.address first.address)
 
--- what stands behind the first cells, which are at one address
+-- what stands after the first cells, which are at one address
 rest_same : (cell first : Cell_at Value) (cells firsts : List (Cell_at Value)) → cell.address ≡ first.address
     → cells_ascend (cell.address + 1) cells ≡ true → cells_ascend (first.address + 1) firsts ≡ true
     → SameAmong (cell ∷ cells) (first ∷ firsts) → SameAmong cells firsts

@@ -41,7 +41,7 @@ pub record AreCells (found : List Entry) (cells : List (Cell_at Value)) : Type 0
 
 -- ---- rows
 
--- the rows of statements, where these cells and links stand behind them
+-- the rows of statements, where these cells and links stand after them
 abbrev pub rows_back : List Entry → List Link → List Statement → List RowOfLines
 rows_back cells links [] = []
 rows_back cells links (EntryOf At entry ∷ before) = rows_back (entry ∷ cells) links before
@@ -49,7 +49,7 @@ rows_back cells links (Linked link ∷ before) = rows_back cells (link ∷ links
 rows_back cells links (Row line ∷ before) = record { line = line; cells = cells; links = links } ∷ rows_back [] [] before
 rows_back cells links (_ ∷ before) = rows_back [] [] before
 
--- the line of the row that is open behind the statements
+-- the line of the row that is open after the statements
 abbrev pub open_line : List Statement → Option RowLine
 open_line [] = None
 open_line (EntryOf At entry ∷ before) = open_line before

@@ -91,7 +91,7 @@ nothing_stated = record {
   row_link = None;
 }
 
--- nothing is stated behind a first line that opened a version
+-- nothing is stated after a first line that opened a version
 abbrev pub opened : (version : ℕ) → Gathering
 opened version = record nothing_stated { version = version }
 

@@ -23,7 +23,7 @@ opening_fault (Stated statement) = None
 opening_fault Skipped = None
 opening_fault Ended = None
 
--- The statement is taken, whatever the statements are that what is kept stands for: it has no fault behind them in a text of the version,
+-- The statement is taken, whatever the statements are that what is kept stands for: it has no fault after them in a text of the version,
 -- which stays, and what is kept then stands for it too.
 abbrev pub TakesStatement : Registers → (old : Gathering) → Statement → (new : Gathering) → Type 0
 TakesStatement ports old statement new =
@@ -71,7 +71,7 @@ TellsStatementFault ports g statement number NoMemory = Unit {0}
 abbrev pub HaveReadings : List LineAt → Type 0
 HaveReadings lines = (readings : List Reading) × AreReadingsBy IsReading lines readings
 
--- the lines behind the first
+-- the lines after the first
 abbrev pub behind_first : List LineAt → List LineAt
 behind_first [] = []
 behind_first (line ∷ lines) = lines

@@ -13,7 +13,7 @@ use Rattle.ags_certread.specs.LineTaken.{TakesLine, TellsFault, opening_fault}
 use Rattle.ags_certread.specs.declared.states.State.{State}
 use Rattle.ags_certread.specs.declared.states.State.TheVariants.{Open, Told, Spent}
 
--- what comes of the next line, behind so many: what is gathered with it, and how far the reader is
+-- what comes of the next line, after so many: what is gathered with it, and how far the reader is
 abbrev pub IsNext : Registers → (number : ℕ) → (old : Gathering) → List ℕ → (new : Gathering) → State → Type 0
 IsNext ports number old line new Open =
     (number ≡ 0 → (version : ℕ) × IsFirstReading line (Opening version) × (new ≡ record old { version = version }))

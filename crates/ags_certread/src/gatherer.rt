@@ -7,7 +7,7 @@ ghost use Rattle.ags_certtext.specs.declared.statements.Statement.{Statement};
 ghost use Rattle.ags_certtext.specs.Fault.{fault_in};
 ghost use Rattle.ags_certtext.specs.Statement.{IsStatement};
 ghost use Rattle.ags_certread.specs.Before.{Stands};
-ghost use Rattle.ags_certread.specs.Gathering.{Closes, ClosesBefore, IsClosable, IsCounting, IsPlaced, IsSized, gathering_of, nothing_stated, with_entry_in, with_part, with_statement};
+ghost use Rattle.ags_certread.specs.Gathering.{Closes, ClosesBefore, IsClosable, IsPlaced, IsSized, gathering_of, nothing_stated, with_entry_in, with_part, with_statement};
 
 use crate::open_rows::{add_cell, row_of};
 use ags_certtext::{CertKind, Entry, Kind, RowLine, Statement, Table};

@@ -34,7 +34,7 @@ fn first_state(gatherer: &mut Gatherer, line: &[u8]) -> State
     }
 }
 
-/// What comes of a further line, behind so many.
+/// What comes of a further line, after so many.
 fn further_state(
     alloc: Global,
     ports: &Ports,
@@ -54,7 +54,7 @@ fn further_state(
     }
 }
 
-/// What comes of the next line, behind so many.
+/// What comes of the next line, after so many.
 fn next_state(
     alloc: Global,
     ports: &Ports,

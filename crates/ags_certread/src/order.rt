@@ -52,17 +52,17 @@ fn stands_behind_start(last: Option<Kind>) -> bool
     }
 }
 
-/// Whether a kind may stand behind the last one.
+/// Whether a kind may stand after the last one.
 fn follows(last: Option<Kind>, kind: Kind) -> bool
     ensures { result ≡ follows last kind }
 {
     match last {
-        Some(last) => last.place() <= kind.place() && !is_end(last),
+        Some(last) => last.position() <= kind.position() && !is_end(last),
         None => true,
     }
 }
 
-/// Whether an entry of a table may stand behind the last kind.
+/// Whether an entry of a table may stand after the last kind.
 fn entry_follows(last: Option<Kind>, table: Table) -> bool
     ensures { result ≡ entry_follows last table }
 {
@@ -75,7 +75,7 @@ fn entry_follows(last: Option<Kind>, table: Table) -> bool
     }
 }
 
-/// Whether a statement's kind may stand behind the last one.
+/// Whether a statement's kind may stand after the last one.
 pub(crate) fn stands_in_order(last: Option<Kind>, statement: &Statement) -> bool
     ensures { result ≡ stands_in_order last statement.now }
 {
@@ -89,7 +89,7 @@ pub(crate) fn stands_in_order(last: Option<Kind>, statement: &Statement) -> bool
     }
 }
 
-/// Whether a statement is a second START right behind the first.
+/// Whether a statement is a second START right after the first.
 pub(crate) fn is_second_start(last: Option<Kind>, statement: &Statement) -> bool
     ensures { result ≡ is_second_start last statement.now }
 {

@@ -22,16 +22,6 @@ use std::alloc::{AllocError, Global};
 /// The most bytes of a line with the one return that may end it.
 const MOST_REST: usize = MOST_LINE_BYTES + 1;
 
-/// A copy of some registers.
-fn copy_of(ports: &Ports) -> Ports
-    ensures { result ≡ ports.now }
-{
-    match Ports::of(ports.inputs(), ports.outputs()) {
-        Some(copy) => copy,
-        None => unreachable!(),
-    }
-}
-
 impl CertReader {
     /// A reader for a machine's registers that took nothing.
     pub fn new(alloc: Global, ports: &Ports) -> Result<CertReader, AllocError>
@@ -43,7 +33,7 @@ impl CertReader {
             rest: Vec::new(alloc),
             lines: EndedLines {
                 alloc,
-                ports: copy_of(ports),
+                ports: ports.copy(),
                 number: 0,
                 gatherer,
                 state: State::Open,
@@ -83,7 +73,7 @@ impl CertReader {
         Ok(())
     }
 
-    /// Takes bytes without a line feed, and the line feed behind them. A line of which nothing is kept is read where it stands.
+    /// Takes bytes without a line feed, and the line feed after them. A line of which nothing is kept is read where it stands.
     fn end_line(&mut self, bytes: &[u8]) -> Result<(), AllocError>
         requires faultless { self.old.state ≡ State.Open }
         requires unbroken { HasNoFeed bytes.now }

@@ -14,7 +14,7 @@ use Rattle.ags_domain.specs.LowBits.{all_ones}
 use Rattle.ags_domain.specs.Value.{value_held, value_meaning}
 use Rattle.ags_domain.specs.declared.values.Value.{Value}
 use Rattle.ags_domain.specs.declared.values.Value.TheVariants.{Range, Words}
-use Rattle.ags_ports.specs.Port.{Registers, place_of}
+use Rattle.ags_ports.specs.Port.{Registers, position_of}
 use Rattle.ags_ports.specs.declared.machines.Machine.{Machine}
 use Rattle.ags_ports.specs.declared.registers.Port.{Port}
 use Rattle.ags_row.specs.Limit.{cell_limit, input_limit, output_limit, is_named}
@@ -64,10 +64,10 @@ no_place test (port ∷ ports) none =
 not_less : (n : ℕ) → nat_lt n n ≡ false
 not_less n = grind (arith, nat_tests)
 
-no_register : (ports : List Port) (address : ℕ) → has_register ports address ≡ false → place_of ports address ≡ None
+no_register : (ports : List Port) (address : ℕ) → has_register ports address ≡ false → position_of ports address ≡ None
 no_register ports address none = rw (no_place (λ (port : Port). port.address == address) ports none, not_less (length ports)) refl
 
-pub registered : (ports : List Port) (address : ℕ) (limit : Value) → (place_of ports address ≡ None → IsFull value_meaning limit) → is_full limit ≡ false → has_register ports address ≡ true
+pub registered : (ports : List Port) (address : ℕ) (limit : Value) → (position_of ports address ≡ None → IsFull value_meaning limit) → is_full limit ≡ false → has_register ports address ≡ true
 registered ports address limit suits limited =
     elim (cases_Bool (has_register ports address)) [
       | inl is ↦ is

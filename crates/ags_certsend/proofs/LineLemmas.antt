@@ -146,7 +146,7 @@ row_spaced row a q a_is q_is =
     = spaced-append a_is.fields (codes "Q" ∷ (q_is.fields ++ flag_fields row)) ∙ rw (a_is.text, q_spaced row q q_is) refl in
     ap (λ (text : List ℕ). codes " " ++ (octal4_text row.location ++ (codes " A" ++ text))) behind
 
--- its text, one part behind the other
+-- its text, one part after the other
 row_parts : (row : RowLine) (a q : Value) → row.a ≡ Some a → row.q ≡ Some q → row_text row
     ≡ octal4_text row.location ++ (codes " A " ++ (value_text a ++ (codes " Q " ++ (value_text q ++ (codes " X " ++ (flag_digits 48 row.x ++ (codes " V " ++ flag_digits 48 row.v)))))))
 row_parts row a q a_is q_is = rw (a_is, q_is) (simp append_assoc refl)

@@ -1,4 +1,4 @@
--- No statement of a certificate is at fault behind those before it: what is kept along the kinds that stand by address.
+-- No statement of a certificate is at fault after those before it: what is kept along the kinds that stand by address.
 use Rattle.std.proofs.Common.{◌≡◌, ℕ, zero, suc, ◌+◌, ◌<◌, ◌≤◌, ◌⊎◌, Bool, true, false, not, ◌==◌, ◌||◌, List, [], ◌∷◌, ◌++◌, map, Option, Some, None, refl, sym, ap, ◌∙◌, inl, inr, arith}
 use Rattle.std.specs.Prelude.{nat_le}
 use Rattle.std.proofs.lemmas.Bool.Decides.{nat_tests}
@@ -25,14 +25,14 @@ use Rattle.ags_certtext.specs.declared.statements.Table.{Table}
 use Rattle.ags_certtext.specs.declared.statements.Table.TheVariants.{Cell, Init, In, Out, At as InRow}
 use Rattle.ags_certsend.specs.CertText.{entry_of, ascending}
 
--- ---- statements one behind the other
+-- ---- statements one after the other
 
--- those before, nearest first, once some more stand behind them
+-- those before, nearest first, once some more stand after them
 unfoldable pub onto : List Statement → List Statement → List Statement
 onto before [] = before
 onto before (statement ∷ statements) = onto (statement ∷ before) statements
 
--- none is at fault behind those before it
+-- none is at fault after those before it
 unfoldable pub NoFault : Registers → (version : ℕ) → List Statement → List Statement → Type 0
 NoFault ports version before [] = Unit {0}
 NoFault ports version before (statement ∷ statements) = (fault_in ports version before statement ≡ None) × NoFault ports version (statement ∷ before) statements
@@ -107,7 +107,7 @@ not_end End few = absurd (omega (arith, few))
 not_end (EntryOf Cell entry) few = refl
 not_end _ few = refl
 
--- behind kinds that are no later a kind stands in order
+-- after kinds that are no later a kind stands in order
 pub in_order : (before : List Statement) (its : Kind) (number : ℕ) → kinds_before its + 1 ≡ number → last_number before ≤ number → last_number before ≤ 7
     → follows (last_kind before) its ≡ true
 in_order [] its number is low few = refl
@@ -117,7 +117,7 @@ in_order (statement ∷ before) its number is low few =
     no_later : (one other : ℕ) → one ≤ other → nat_le one other ≡ true
     no_later one other is = grind (arith, nat_tests)
 
--- behind a row its number is the last
+-- after a row its number is the last
 pub row_number : (before : List Statement) → last_kind before ≡ Some kind.Row → last_number before ≡ 7
 row_number [] is = absurd cc
 row_number (statement ∷ before) is =

@@ -224,7 +224,7 @@ rows_passed ports version cert good (row ∷ rows) within are before state =
 
 -- ---- the end
 
--- no fault, and the text may end behind them
+-- no fault, and the text may end after them
 pub record Finishes (ports : Registers) (version : ℕ) (before statements : List Statement) : Type 0 where
   pub none : NoFault ports version before statements
   pub ended : end_fault (faults ports) (onto before statements) ≡ None
@@ -245,7 +245,7 @@ end_finishes ports version cert before good state =
       ended = refl;
     }
 
--- behind the kinds that stand by address there is no row yet
+-- after the kinds that stand by address there is no row yet
 before_rows : (cert : Stated) (before : List Statement) → IsCert cert → AreLower 7 0 before → AreCellsOf cert before → IsBeforeRows cert before cert.rows
 before_rows cert before good lower cells =
     let none = no_lines before lower in

@@ -127,7 +127,7 @@ cert_cut cert = rw (
   end_cut,
 ) (simp append_assoc refl)
 
--- ---- three parts that are sent one behind the other
+-- ---- three parts that are sent one after the other
 
 module _ (p1 p2 p3 : List ℕ) (old : Option (List ℕ)) where
   first_sent : (t1 : Option (List ℕ)) → t1 ≡ appended old p1 → Wrote old t1 (p1 ++ (p2 ++ p3)) (p2 ++ p3)
@@ -148,7 +148,7 @@ module _ (p1 p2 p3 : List ℕ) (old : Option (List ℕ)) where
   pub all_3 : (t1 t2 t3 : Option (List ℕ)) → t1 ≡ appended old p1 → t2 ≡ appended t1 p2 → t3 ≡ appended t2 p3 → t3 ≡ appended old (p1 ++ (p2 ++ p3))
   all_3 t1 t2 t3 is1 is2 is3 = wrote_all (wrote_piece p3 [] (second_sent t1 t2 is1 is2) (sym (append-nil p3)) is3)
 
--- ---- five parts that are sent one behind the other
+-- ---- five parts that are sent one after the other
 
 module _ (p1 p2 p3 p4 p5 : List ℕ) (old : Option (List ℕ)) where
   abbrev whole : List ℕ

@@ -1,4 +1,4 @@
-//! The laws of what is written: what its lines say, and that it reads back. Behind each is a lemma of `proofs/`.
+//! The laws of what is written: what its lines say, and that it reads back. After each is a lemma of `proofs/`.
 
 ghost use Rattle.std.specs.Prelude.{◌∷◌, ◌++◌, [], map};
 ghost use Rattle.ags_text.specs.Line.{lines_of};

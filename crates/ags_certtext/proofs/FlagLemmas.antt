@@ -1,7 +1,7 @@
 -- The digits of flags.
 use Rattle.std.proofs.Common.{◌≡◌, ℕ, ◌+◌, ◌<◌, ◌≤◌, ◌==◌, Bool, true, false, List, [], ◌∷◌, ◌++◌, length, take, drop, get_or, set, refl, sym, ap, ◌∙◌, append_assoc, inl, inr, arith}
 use Rattle.std.proofs.lemmas.Bool.{cases_Bool, eqb-true}
-use Rattle.std.proofs.lemmas.List.{take_more_set, take_more, drop_more, length-set, take_all, drop_all, append-nil}
+use Rattle.std.proofs.lemmas.List.{take_more_set, take_more, drop_more, length-set, take_all, append-nil}
 use Rattle.ags_row.specs.Flag.{some_flag}
 use Rattle.ags_certtext.specs.Spelling.{flag_digits}
 use Rattle.ags_certtext.specs.Front.{digit_front, AreFlags}
@@ -67,9 +67,6 @@ pub record Marking (text : List ℕ) (flags : List Bool) (rest : List ℕ) (inde
   pub found : (tail : List Bool) → flag_digits (48 + index) tail ≡ rest → flag_digits 48 (take index flags ++ tail) ≡ text
   pub only : (marked : List Bool) → length marked ≡ 8 → flag_digits 48 marked ≡ text → (take index marked ≡ take index flags) × (flag_digits (48 + index) (drop index marked) ≡ rest)
 
-pub marking_none : (text : List ℕ) (flags : List Bool) → length flags ≡ 8 → Marking text flags text 0
-marking_none text flags long = record { long = long; found = λ tail is. is; only = λ marked eight is. (refl, is) }
-
 pub marking_more : (text : List ℕ) (flags : List Bool) (rest : List ℕ) (index : ℕ) (found : Bool) (behind : List ℕ) → index < 8 → Marking text flags rest index
     → rest ≡ digit_front (48 + index) found behind → (found ≡ false → (others : List ℕ) → rest ≡ digit_front (48 + index) true others → ⊥)
     → Marking text (set flags index found) behind (index + 1)
@@ -97,21 +94,6 @@ marking_whole text flags rest index past some so none =
     let whole : flag_digits 48 flags ≡ text =
     ap (flag_digits 48) (sym (append-nil flags) ∙ ap (λ (front : List Bool). front ++ []) (sym (take_all index flags (rw so.long past)))) ∙ so.found [] (sym (none_left rest none)) in
     record { count_is = so.long; some = some_set 48 flags text whole some; digits = sym whole }
-
-pub marking_one : (text : List ℕ) (flags : List Bool) (rest : List ℕ) (index : ℕ) (marked : List Bool) → 8 ≤ index → Marking text flags rest index → AreFlags 8 text marked
-    → (flags ≡ marked) × (rest ≡ [])
-marking_one text flags rest index marked past so are =
-    let one = so.only marked are.count_is (sym are.digits) in (
-      sym (take_all index flags (rw so.long past)) ∙ sym one.0 ∙ take_all index marked (rw are.count_is past),
-      sym one.1 ∙ ap (flag_digits (48 + index)) (drop_all index marked (rw are.count_is past)),
-    )
-
--- two flags
-pub two_found : (text : List ℕ) (clear set : Bool) (behind rest : List ℕ) → text ≡ digit_front 48 clear behind → behind ≡ digit_front 49 set rest → length rest ≡ 0 → 0 < length text
-    → AreFlags 2 text (clear ∷ set ∷ [])
-two_found text clear set behind rest first second none some =
-    let whole : flag_digits 48 (clear ∷ set ∷ []) ≡ text = flag_front 48 clear (set ∷ []) text behind first (flag_front 49 set [] behind rest second (sym (none_left rest none))) in
-    record { count_is = refl; some = some_set 48 (clear ∷ set ∷ []) text whole some; digits = sym whole }
 
 pub two_only : (text : List ℕ) (clear set : Bool) (behind rest : List ℕ) (flags : List Bool) → text ≡ digit_front 48 clear behind → behind ≡ digit_front 49 set rest
     → (clear ≡ false → (others : List ℕ) → text ≡ digit_front 48 true others → ⊥) → (set ≡ false → (others : List ℕ) → behind ≡ digit_front 49 true others → ⊥)

@@ -36,7 +36,7 @@ pub record Only (A : Type 0) (P : A → Type 0) : Type 0 where
 abbrev pub OneFound : (A : Type 0) → (A → Type 0) → Type 0
 OneFound A P = Only A P ⊎ ((x : A) → P x → ⊥)
 
--- a value stands at a front before this rest, and no other, where no word stands behind it
+-- a value stands at a front before this rest, and no other, where no word stands after it
 pub record OnlyFront (P : Option Value → List ℕ → Type 0) : Type 0 where
   pub value : Option Value
   pub rest : List ℕ

@@ -106,7 +106,7 @@ value_form text value rest is = value_in_form text rest is.taken value is.value_
 
 -- ---- fields
 
--- the fields at a front, and those behind it
+-- the fields at a front, and those after it
 pub front_cut : (taken others : List (List ℕ)) (text rest : List ℕ) → AreAtFront taken text rest → AreCut others rest → AreCut (taken ++ others) text
 front_cut [] others text rest front are = rw front are
 front_cut (field ∷ taken) others text rest front are = (front.0, front_cut taken others (behind_field text) rest front.1 are)

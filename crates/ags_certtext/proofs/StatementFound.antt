@@ -1,4 +1,4 @@
--- What each line is read as, over every text: the one statement that stands behind its keyword, or none.
+-- What each line is read as, over every text: the one statement that stands after its keyword, or none.
 use Rattle.std.proofs.Common.{◌≡◌, ℕ, cond, eqb, Bool, List, length, get_or, Option, ◌⊎◌, refl, sym, ap, ◌∙◌, inl, inr, arith}
 use Rattle.std.specs.Prelude.{ℤ}
 use Rattle.std.specs.List.{list_all}
@@ -112,7 +112,7 @@ row_parts : (row : RowLine) (location : ℕ) (a q : Option Value) (x v : List Bo
     → row ≡ record { location = location; a = a; q = q; x = x; v = v }
 row_parts row location a q x v place same_a same_q same_x same_v = rw (← place, ← same_a, ← same_q, ← same_x, ← same_v) refl
 
--- no word stands behind the value of A, nor behind that of Q
+-- no word stands after the value of A, nor after that of Q
 behind_a : (text : List ℕ) (row : RowLine) (front : OnlyFront (BeginsWithNamed 65 (behind_field text))) → (is : IsRow text row) → (row.a ≡ front.value) × (is.behind_a ≡ front.rest)
 behind_a text row front is = front.one row.a is.behind_a is.a_is (no_word_name is.behind_a _ is.q_is.named (omega arith))
 

@@ -1,9 +1,9 @@
--- What a line states, and what stands behind its keyword.
+-- What a line states, and what stands after its keyword.
 --
 -- The crates above may cite stated_is, which is behind the law spelled_statements_are_lawful, and row_states and row_stands, which are
 -- behind the law row_fields_have_one_reading.
 use Rattle.std.proofs.Common.{◌≡◌, ℕ, ◌<◌, ◌^◌, ◌⊎◌, Bool, List, [], ◌∷◌, ◌++◌, length, slice_index, get_or, Option, Some, refl, sym, ap, ◌∙◌, inl, inr, arith}
-use Rattle.std.specs.Prelude.{ℤ, codes}
+use Rattle.std.specs.Prelude.{codes}
 use Rattle.std.specs.Option.{option_map}
 use Rattle.std.proofs.lemmas.Int.Digits.{digits_value-lt}
 use Rattle.ags_text.specs.Field.{AreBlanks, IsField, AreFields, AreCut, next_field, behind_field}
@@ -29,15 +29,11 @@ pub entry_same : (entry : Entry) (address : ℕ) (value : Option Value) → Some
     → Some (record { address = address; value = value }) ≡ Some entry
 entry_same entry address value place same = let at : address ≡ entry.address = cc in rw (at, same) refl
 
-pub link_same : (link : Link) (address : ℕ) (offset : ℤ) → Some address ≡ Some link.address → Some offset ≡ Some link.offset
-    → Some (record { address = address; offset = offset }) ≡ Some link
-link_same link address offset place same = let at : address ≡ link.address = cc in let by : offset ≡ link.offset = cc in rw (at, by) refl
-
 pub row_same : (row : RowLine) (location : ℕ) (a q : Option Value) (x v : List Bool) → Some location ≡ Some row.location → a ≡ row.a → q ≡ row.q → x ≡ row.x → v ≡ row.v
     → Some (record { location = location; a = a; q = q; x = x; v = v }) ≡ Some row
 row_same row location a q x v place same_a same_q same_x same_v = let at : location ≡ row.location = cc in rw (at, same_a, same_q, same_x, same_v) refl
 
--- ---- what stands behind a keyword makes a statement
+-- ---- what stands after a keyword makes a statement
 
 keyword_field : (its : Keyword) → IsField (keyword_name its)
 keyword_field keyword.Start = record { some = omega arith; marks = refl }
@@ -84,7 +80,7 @@ link_states line link named is =
           (named, (refl, (refl, is.ends)));
     }
 
--- the fields of a row behind others
+-- the fields of a row after others
 pub row_states : (front : List (List ℕ)) (line text : List ℕ) (row : RowLine) → AreFields front → AreAtFront front line text → IsRow text row → StatesRowBehind front line row
 row_states front line text row front_are at_front is =
     let a = is.a_is.value_is in
@@ -162,7 +158,7 @@ link_stands line link is =
       },
     )
 
--- the fields of a row stand behind others
+-- the fields of a row stand after others
 pub record RowStands (front : List (List ℕ)) (line : List ℕ) (row : RowLine) : Type 0 where
   pub text : List ℕ
   pub at_front : AreAtFront front line text

@@ -25,9 +25,6 @@ pub record Gathered (text words rest : List ℕ) (count : ℕ) : Type 0 where
   pub front : AreAtFront fields text rest
   pub are : AreWords fields (take count words)
 
-pub gathered_none : (text words : List ℕ) → length words ≡ 16 → Gathered text words text 0
-gathered_none text words long = record { long = long; fields = []; front = refl; are = tt }
-
 pub gathered_more : (text words rest : List ℕ) (count word : ℕ) → count < 16 → Gathered text words rest count → Writes 8 6 (next_field rest) word
     → Gathered text (set words count word) (behind_field rest) (count + 1)
 gathered_more text words rest count word within so is = record {

@@ -15,7 +15,7 @@ use Rattle.ags_certtext.specs.Spelling.{IsSigned, is_offset, AreWords, StateValu
 use Rattle.ags_certtext.specs.declared.forms.Form.{Form}
 use Rattle.ags_certtext.specs.declared.forms.Form.TheVariants as form
 
--- the fields are cut from the text one after another, and this is left behind them
+-- the fields are cut from the text one after another, and this is left after them
 abbrev pub AreAtFront : List (List ℕ) → (text rest : List ℕ) → Type 0
 AreAtFront [] text rest = text ≡ rest
 AreAtFront (field ∷ fields) text rest = (next_field text ≡ field) × AreAtFront fields (behind_field text) rest
@@ -63,7 +63,7 @@ pub record BeginsWithWords (text : List ℕ) (value : Option Value) (rest : List
   pub front : AreAtFront words text rest
   pub are : AreWords words set.list
 
--- the set of some words as a value, before what stands behind them
+-- the set of some words as a value, before what stands after them
 pub record IsSetFront (words behind : List ℕ) (value : Option Value) (rest : List ℕ) : Type 0 where
   pub set : WordSet
   pub value_is : value ≡ Some (Words set)
@@ -82,13 +82,13 @@ form_name form.Any = codes "ANY"
 form_name form.Ends = codes "RANGE"
 form_name form.Listed = codes "WORDS"
 
--- what stands behind a value's first field
+-- what stands after a value's first field
 abbrev pub IsInForm : Form → (text : List ℕ) → Option Value → (rest : List ℕ) → Type 0
 IsInForm form.Any text value rest = IsEveryWord value × (text ≡ rest)
 IsInForm form.Ends text value rest = BeginsWithEnds text value rest
 IsInForm form.Listed text value rest = BeginsWithWords text value rest
 
--- the name of one byte, and a value behind it
+-- the name of one byte, and a value after it
 pub record BeginsWithNamed (name : ℕ) (text : List ℕ) (value : Option Value) (rest : List ℕ) : Type 0 where
   pub named : next_field text ≡ name ∷ []
   pub value_is : BeginsWithValue (behind_field text) value rest
@@ -104,12 +104,12 @@ pub record AreFlags (count : ℕ) (text : List ℕ) (flags : List Bool) : Type 0
   pub some : some_flag flags ≡ true
   pub digits : text ≡ flag_digits 48 flags
 
--- the name of one byte, and the digits of flags behind it
+-- the name of one byte, and the digits of flags after it
 pub record BeginsWithFlags (count name : ℕ) (text : List ℕ) (flags : List Bool) : Type 0 where
   pub named : next_field text ≡ name ∷ []
   pub flags_are : AreFlags count (next_field (behind_field text)) flags
 
--- a number of so many octal digits, and nothing behind it
+-- a number of so many octal digits, and nothing after it
 pub record IsPlace (text : List ℕ) (location : ℕ) : Type 0 where
   pub location_is : Writes 8 4 (next_field text) location
   pub ends : AreBlanks (behind_field text)

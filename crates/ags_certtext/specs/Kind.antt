@@ -1,6 +1,6 @@
 -- The kinds of statements, and the order in which they stand.
 use Rattle.std.specs.Prelude.{ℕ, Bool, true, false, not, List, [], ◌∷◌, Option, Some, None, is_some}
-use Rattle.ags_frame.specs.Order.{place_in, follows_in}
+use Rattle.ags_frame.specs.Order.{position_in, follows_in}
 use Rattle.ags_certtext.specs.declared.kinds.Kind.{Kind}
 use Rattle.ags_certtext.specs.declared.kinds.Kind.TheVariants as kind
 use Rattle.ags_certtext.specs.declared.statements.Statement.{Statement}
@@ -26,7 +26,7 @@ is_kind _ _ = false
 
 -- how many kinds stand before one
 abbrev pub kinds_before : Kind → ℕ
-kinds_before its = place_in is_kind kinds_in_order its
+kinds_before its = position_in is_kind kinds_in_order its
 
 -- the kind of a table's entries; those of a row's cells are of the row's kind
 abbrev pub table_kind : Table → Kind
@@ -55,24 +55,24 @@ abbrev pub is_last : Kind → (last : Option Kind) → Bool
 is_last its None = false
 is_last its (Some last) = is_kind its last
 
--- a kind may stand behind the last, in that order
+-- a kind may stand after the last, in that order
 abbrev pub follows : (last : Option Kind) → Kind → Bool
 follows last its = follows_in is_kind kinds_in_order kind.End last its
 
--- so may the entry of a table; that of a row's cell stands behind its row
+-- so may the entry of a table; that of a row's cell stands after its row
 abbrev pub entry_follows : (last : Option Kind) → Table → Bool
 entry_follows last At = is_last kind.Row last
 entry_follows last table = follows last (table_kind table)
 
--- A statement's kind may stand behind those before it: the kinds come in their order, each of any number of lines but START and END. The
--- link of a row stands behind its row.
+-- A statement's kind may stand after those before it: the kinds come in their order, each of any number of lines but START and END. The
+-- link of a row stands after its row.
 abbrev pub stands_in_order : (last : Option Kind) → Statement → Bool
 stands_in_order last (Start location) = not (is_some last)
 stands_in_order last (EntryOf table entry) = entry_follows last table
 stands_in_order last (Linked link) = is_last kind.Row last
 stands_in_order last statement = follows last (kind_of statement)
 
--- a second START right behind the first
+-- a second START right after the first
 abbrev pub is_second_start : (last : Option Kind) → Statement → Bool
 is_second_start last (Start location) = is_last kind.Start last
 is_second_start last _ = false

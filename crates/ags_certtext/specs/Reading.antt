@@ -14,7 +14,7 @@ cert_name = codes "AGSCERT"
 abbrev pub latest_version : ℕ
 latest_version = 2
 
--- what a line is, and what stands behind the last one
+-- what a line is, and what stands after the last one
 abbrev pub Reading : Type 0
 Reading = ReadingOf Statement
 
@@ -30,6 +30,6 @@ IsReading line reading = IsReadingOf States line reading
 abbrev pub AreLineReadings : List LineAt → List Reading → Type 0
 AreLineReadings lines readings = AreLineReadingsOf cert_name latest_version States lines readings
 
--- the readings of a text: those of its lines, and its end behind them
+-- the readings of a text: those of its lines, and its end after them
 abbrev pub AreReadings : List LineAt → List Reading → Type 0
 AreReadings lines readings = AreReadingsOf cert_name latest_version States lines readings

@@ -89,7 +89,7 @@ flag_digits digit [] = []
 flag_digits digit (true ∷ flags) = digit ∷ flag_digits (digit + 1) flags
 flag_digits digit (false ∷ flags) = flag_digits (digit + 1) flags
 
--- the line has some fields, and behind them those of a row: its location, what A and Q may hold, and the digits of each index and each
+-- the line has some fields, and after them those of a row: its location, what A and Q may hold, and the digits of each index and each
 -- indicator that may stand
 pub record StatesRowBehind (front : List (List ℕ)) (line : List ℕ) (row : RowLine) : Type 0 where
   pub place : List ℕ
@@ -105,7 +105,7 @@ pub record StatesRowBehind (front : List (List ℕ)) (line : List ℕ) (row : Ro
   pub fields : HasFields line (front ++ (place ∷ codes "A" ∷ (a ++ (codes "Q" ∷ (q
       ++ (codes "X" ∷ flag_digits 48 row.x ∷ codes "V" ∷ flag_digits 48 row.v ∷ []))))))
 
--- the line of a row has them behind its keyword
+-- the line of a row has them after its keyword
 abbrev pub StatesRow : (line : List ℕ) → RowLine → Type 0
 StatesRow line row = StatesRowBehind (codes "ROW" ∷ []) line row
 

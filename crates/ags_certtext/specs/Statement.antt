@@ -71,7 +71,7 @@ abbrev pub value_at : List Entry → ℕ → Option Value
 value_at [] address = None
 value_at (entry ∷ others) address = if entry.address == address then entry.value else value_at others address
 
--- The AT and LINK lines that stand right at the front of the statements: behind a row they are the row's, and of the statements before
+-- The AT and LINK lines that stand right at the front of the statements: after a row they are the row's, and of the statements before
 -- one, told nearest first, they are those of the row that it would belong to. Of these the entries, and the links.
 abbrev pub row_entries : List Statement → List Entry
 row_entries [] = []

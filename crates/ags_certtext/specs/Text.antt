@@ -52,7 +52,7 @@ pub record RowOfLines : Type 0 where
   pub cells : List Entry
   pub links : List Link
 
--- each row with the AT and LINK lines behind it
+-- each row with the AT and LINK lines after it
 abbrev pub rows_of : List Statement → List RowOfLines
 rows_of [] = []
 rows_of (RowOf line ∷ statements) = record { line = line; cells = row_entries statements; links = row_links statements } ∷ rows_of statements

@@ -22,8 +22,6 @@ pub(crate) fn read_end(text: &[u8]) -> Option<i32>
     ensures found { IfSome result (λ number. IsEnd text.now number) }
     ensures only { (number : ℤ) → IsEnd text.now number → result ≡ Some number }
 {
-    match read_signed(text) {
-        Some(number) => { if is_value(number) { Some(number) } else { None } }
-        None => None,
-    }
+    let number = read_signed(text)?;
+    is_value(number).then_some(number)
 }

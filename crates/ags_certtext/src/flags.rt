@@ -6,7 +6,7 @@ ghost use Rattle.ags_certtext.specs.Front.{AreFlags, digit_front};
 /// How many values the index register has.
 const INDICES: usize = 8;
 
-/// Whether a text begins with this byte, and what stands behind it; the whole text where it doesn't.
+/// Whether a text begins with this byte, and what stands after it; the whole text where it doesn't.
 fn split_digit(digit: u8, text: &[u8]) -> (bool, &[u8])
     ensures whole { text.now ≡ digit_front digit result.0 result.1.now }
     ensures other { result.0 ≡ false → (rest : List ℕ) → text.now ≡ digit_front digit true rest → ⊥ }

@@ -4,7 +4,7 @@ ghost use Rattle.std.specs.Prelude.{◌≡◌, IfSome, Some};
 ghost use Rattle.ags_certtext.specs.declared.forms.Form.{Form};
 ghost use Rattle.ags_certtext.specs.Front.{form_name};
 
-/// What a value's first field says of those behind it.
+/// What a value's first field says of those after it.
 #[derive(Clone, Copy)]
 pub(crate) enum Form {
     /// ANY: there are none.

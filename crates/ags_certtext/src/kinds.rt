@@ -29,7 +29,7 @@ pub enum Kind {
 
 impl Kind {
     /// How many kinds stand before this one.
-    pub fn place(self) -> usize
+    pub fn position(self) -> usize
         ensures { result ≡ kinds_before self }
     {
         self as usize

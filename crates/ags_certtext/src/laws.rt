@@ -28,7 +28,7 @@ pub fn spelled_statements_are_lawful()
     ensures { (line : List ℕ) (statement : Statement) → Spells States line statement → IsStatement statement }
 {}
 
-/// A text's fields state one row, or none. What `read_row` reads behind some fields of a line is the row that the line states behind them.
+/// A text's fields state one row, or none. What `read_row` reads after some fields of a line is the row that the line states after them.
 pub fn row_fields_have_one_reading()
     ensures some { (text : List ℕ) → ((row : RowLine) × IsRow text row) ⊎ ((row : RowLine) → IsRow text row → ⊥) }
     ensures one { (text : List ℕ) (row other : RowLine) → IsRow text row → IsRow text other → row ≡ other }

@@ -15,7 +15,7 @@ use ags_text::{are_blanks, split_field};
 /// The latest version of certificates.
 const LATEST_VERSION: u32 = 2;
 
-/// The statement of a keyword and the text behind it.
+/// The statement of a keyword and the text after it.
 fn read_operands(keyword: Keyword, text: &[u8]) -> Option<Statement>
     ensures found { IfSome result (λ statement. AreOperands keyword text.now statement) }
     ensures only { (statement : Statement) → AreOperands keyword text.now statement → result ≡ Some statement }
@@ -42,10 +42,8 @@ impl Statements for CertLines {
 
     fn read_statement(line: &[u8]) -> Option<Statement> {
         let (name, behind) = split_field(line);
-        match keyword_named(name) {
-            Some(keyword) => read_operands(keyword, behind),
-            None => None,
-        }
+        let keyword = keyword_named(name)?;
+        read_operands(keyword, behind)
     }
 
     fn lines_state_one_thing_at_most() {}

@@ -1,4 +1,4 @@
-//! What stands behind the keyword of a line.
+//! What stands after the keyword of a line.
 
 ghost use Rattle.std.specs.Prelude.{◌≡◌, [], ◌∷◌, ℕ, Bool, List, Option, IfSome, IfNone, IsSomeAnd, Some};
 ghost use Rattle.ags_domain.specs.declared.values.Value.{Value};
@@ -57,12 +57,8 @@ pub(crate) fn read_link(text: &[u8]) -> Option<Link>
 {
     let (place, behind) = split_field(text);
     let (number, rest) = split_field(behind);
-    let Some(address) = read_address(place) else {
-        return None;
-    };
-    let Some(offset) = read_offset(number) else {
-        return None;
-    };
+    let address = read_address(place)?;
+    let offset = read_offset(number)?;
     if are_blanks(rest) {
         Some(Link { address, offset })
     } else {
@@ -70,7 +66,7 @@ pub(crate) fn read_link(text: &[u8]) -> Option<Link>
     }
 }
 
-/// What stands behind the next field of a text, where that is this byte alone.
+/// What stands after the next field of a text, where that is this byte alone.
 fn behind_name(name: u8, text: &[u8]) -> Option<&[u8]>
     ensures found { IfSome result (λ behind. (next_field text.now ≡ name ∷ []) × (behind.now ≡ behind_field text.now)) }
     ensures none { IfNone result (next_field text.now ≡ name ∷ [] → ⊥) }
@@ -82,7 +78,7 @@ fn behind_name(name: u8, text: &[u8]) -> Option<&[u8]>
     }
 }
 
-/// The value that stands behind a name of one byte, and what stands behind it.
+/// The value that stands after a name of one byte, and what stands after it.
 fn read_named_value(name: u8, text: &[u8]) -> Option<(Option<Value>, &[u8])>
     ensures found { IfSome result (λ front. BeginsWithNamed name text.now front.0 front.1.now) }
     ensures only { (value : Option Value) (rest : List ℕ) → BeginsWithNamed name text.now value rest → (BeginsWithWord rest → ⊥)
@@ -91,7 +87,7 @@ fn read_named_value(name: u8, text: &[u8]) -> Option<(Option<Value>, &[u8])>
     read_value(behind_name(name, text)?)
 }
 
-/// The index digits that stand behind X.
+/// The index digits that stand after X.
 fn read_x(text: &[u8]) -> Option<[bool; 8]>
     ensures found { IfSome result (λ flags. BeginsWithFlags 8 88 text.now flags) }
     ensures only { (flags : List Bool) → BeginsWithFlags 8 88 text.now flags → result ≡ Some flags }
@@ -100,7 +96,7 @@ fn read_x(text: &[u8]) -> Option<[bool; 8]>
     read_indices(digits)
 }
 
-/// The indicator digits that stand behind V.
+/// The indicator digits that stand after V.
 fn read_v(text: &[u8]) -> Option<[bool; 2]>
     ensures found { IfSome result (λ flags. BeginsWithFlags 2 86 text.now flags) }
     ensures only { (flags : List Bool) → BeginsWithFlags 2 86 text.now flags → result ≡ Some flags }
@@ -109,7 +105,7 @@ fn read_v(text: &[u8]) -> Option<[bool; 2]>
     read_indicators(digits)
 }
 
-/// What stands behind the next two fields of a text.
+/// What stands after the next two fields of a text.
 fn behind_two(text: &[u8]) -> &[u8]
     ensures { result.now ≡ behind_field (behind_field text.now) }
 {
@@ -133,7 +129,7 @@ fn read_flags(text: &[u8]) -> Option<([bool; 8], [bool; 2])>
     }
 }
 
-/// The row that a text's fields state: a location, what A and Q may hold, the index digits and the indicator digits, and nothing behind
+/// The row that a text's fields state: a location, what A and Q may hold, the index digits and the indicator digits, and nothing after
 /// them (docs/CERTIFICATE.md, Rows).
 pub fn read_row(text: &[u8]) -> Option<RowLine>
     ensures found { IfSome result (λ row. IsRow text.now row) }

@@ -9,7 +9,7 @@ use ags_frame::read_size;
 /// The greatest difference of two words' values.
 const MOST_OFFSET: i32 = 262_143;
 
-/// What stands behind a minus, where a text begins with one.
+/// What stands after a minus, where a text begins with one.
 fn behind_minus(text: &[u8]) -> Option<&[u8]>
     ensures found { IfSome result (λ digits. text.now ≡ 45 ∷ digits.now) }
     ensures none { IfNone result ((digits : List ℕ) → text.now ≡ 45 ∷ digits → ⊥) }
@@ -26,14 +26,8 @@ pub fn read_signed(text: &[u8]) -> Option<i32>
     ensures only { (number : ℤ) → IsSigned text.now number → result ≡ Some number }
 {
     match behind_minus(text) {
-        Some(digits) => match read_size(digits) {
-            Some(size) => Some(-(size as i32)),
-            None => None,
-        },
-        None => match read_size(text) {
-            Some(size) => Some(size as i32),
-            None => None,
-        },
+        Some(digits) => read_size(digits).map(|size| -(size as i32)),
+        None => read_size(text).map(|size| size as i32),
     }
 }
 
@@ -49,14 +43,6 @@ pub(crate) fn read_offset(text: &[u8]) -> Option<i32>
     ensures found { IfSome result (λ number. IsOffset text.now number) }
     ensures only { (number : ℤ) → IsOffset text.now number → result ≡ Some number }
 {
-    match read_signed(text) {
-        Some(number) => {
-            if is_offset(number) {
-                Some(number)
-            } else {
-                None
-            }
-        }
-        None => None,
-    }
+    let number = read_signed(text)?;
+    is_offset(number).then_some(number)
 }

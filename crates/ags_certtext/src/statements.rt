@@ -3,7 +3,7 @@
 use ags_domain::Value;
 use ags_row::Link;
 
-/// An address and the value behind it.
+/// An address and the value after it.
 #[derive(Clone, Copy, PartialEq, Eq)]
 pub struct Entry {
     /// The address, below 4096.

@@ -32,7 +32,7 @@ fn value_between(least: i32, greatest: i32) -> Option<Value>
     }
 }
 
-/// The range whose two ends stand at the front of a text, and what stands behind them.
+/// The range whose two ends stand at the front of a text, and what stands after them.
 fn read_range(text: &[u8]) -> Option<(Option<Value>, &[u8])>
     ensures found { IfSome result (λ front. BeginsWithEnds text.now front.0 front.1.now) }
     ensures only { (value : Option Value) (rest : List ℕ) → BeginsWithEnds text.now value rest
@@ -40,16 +40,12 @@ fn read_range(text: &[u8]) -> Option<(Option<Value>, &[u8])>
 {
     let (first, behind) = split_field(text);
     let (second, rest) = split_field(behind);
-    let Some(least) = read_end(first) else {
-        return None;
-    };
-    let Some(greatest) = read_end(second) else {
-        return None;
-    };
+    let least = read_end(first)?;
+    let greatest = read_end(second)?;
     Some((value_between(least, greatest), rest))
 }
 
-/// The value of this form that stands at the front of a text, and what stands behind it.
+/// The value of this form that stands at the front of a text, and what stands after it.
 fn read_form(form: Form, text: &[u8]) -> Option<(Option<Value>, &[u8])>
     ensures found { IfSome result (λ front. IsInForm form text.now front.0 front.1.now) }
     ensures only { (value : Option Value) (rest : List ℕ) → IsInForm form text.now value rest → (BeginsWithWord rest → ⊥)
@@ -62,16 +58,14 @@ fn read_form(form: Form, text: &[u8]) -> Option<(Option<Value>, &[u8])>
     }
 }
 
-/// The value that the fields at the front of a text state, and what stands behind them (docs/CERTIFICATE.md, Values). There is no value
-/// in it where it is a range whose least is above its greatest; and nothing is told where a further word stands behind the words of a set.
+/// The value that the fields at the front of a text state, and what stands after them (docs/CERTIFICATE.md, Values). There is no value
+/// in it where it is a range whose least is above its greatest; and nothing is told where a further word stands after the words of a set.
 pub fn read_value(text: &[u8]) -> Option<(Option<Value>, &[u8])>
     ensures found { IfSome result (λ front. BeginsWithValue text.now front.0 front.1.now) }
     ensures only { (value : Option Value) (rest : List ℕ) → BeginsWithValue text.now value rest → (BeginsWithWord rest → ⊥)
         → IsSomeAnd result (λ front. (front.0 ≡ value) × (front.1.now ≡ rest)) }
 {
     let (name, behind) = split_field(text);
-    match form_named(name) {
-        Some(form) => read_form(form, behind),
-        None => None,
-    }
+    let form = form_named(name)?;
+    read_form(form, behind)
 }

@@ -9,19 +9,17 @@ use ags_domain::{MOST_WORDS, Value, WordSet};
 use ags_text::split_field;
 use ags_word::Word;
 
-/// The set of some words as a value, beside what stands behind them.
+/// The set of some words as a value, beside what stands after them.
 fn set_front<'a>(words: &[Word], behind: &'a [u8]) -> Option<(Option<Value>, &'a [u8])>
     ensures found { IfSome result (λ front. IsSetFront words.now behind.now front.0 front.1.now) }
     ensures only { (value : Option Value) (rest : List ℕ) → IsSetFront words.now behind.now value rest
         → IsSomeAnd result (λ front. (front.0 ≡ value) × (front.1.now ≡ rest)) }
 {
-    match WordSet::of(words) {
-        Some(set) => Some((Some(Value::Words(set)), behind)),
-        None => None,
-    }
+    let set = WordSet::of(words)?;
+    Some((Some(Value::Words(set)), behind))
 }
 
-/// The word set that the fields at the front of a text state, and what stands behind them: as many fields as are words, and
+/// The word set that the fields at the front of a text state, and what stands after them: as many fields as are words, and
 /// no more than a word set has.
 pub(crate) fn read_words(text: &[u8]) -> Option<(Option<Value>, &[u8])>
     ensures found { IfSome result (λ front. BeginsWithWords text.now front.0 front.1.now) }

@@ -22,7 +22,7 @@ use Rattle.ags_certtype.specs.Index.{numbers_from, numbers_at, locations_of}
 
 -- ---- the first cell outside its limit
 
--- a cell stands before that of a place, or has no lesser address
+-- a cell stands before that of a position, or has no lesser address
 before : (cells : List (At Value)) (i : ℕ) (e : At Value) → cells_ascend 0 cells ≡ true → i < length cells
     → (k : ℕ) (d : At Value) → k < length cells → (get_or cells k d).address < (get_or cells i e).address → k < i
 before cells i e ascends inside k d here less =
@@ -42,7 +42,7 @@ pub least_outside : (limits : Limiting Value) (cells : List (At Value)) (i : ℕ
 least_outside limits cells i cell ascends inside is outside earlier =
     let here : (d : At Value) → get_or cells i d ≡ cell = λ d. get_or_default cells i d cell inside ∙ sym is in
     record {
-      place = i;
+      position = i;
       inside = inside;
       here = λ d. ap (λ (at : At Value). at.address) (here d);
       outside = λ d within. outside (subst (λ (at : At Value). IsWithin value_meaning at.value (cell_limit limits cell.address)) (here d) within);
@@ -68,7 +68,7 @@ counted rows location = counted_from 1 rows location
 abbrev one_at : ℕ → Row Value → ℕ
 one_at location row = if row.location == location then 1 else 0
 
--- the row of a place and the others are all
+-- the row of a position and the others are all
 all_but_one : (rows : List (Row Value)) (i location : ℕ) (d : Row Value) → i < length rows
     → rows_at (remove rows i) location + one_at location (get_or rows i d) ≡ rows_at rows location
 all_but_one rows i location d inside = sum_by-remove (one_at location) rows i d inside

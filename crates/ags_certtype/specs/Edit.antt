@@ -28,10 +28,10 @@ AreCellsWithin limits cells = All (λ at. IsWithin value_meaning at.value (cell_
 
 -- one of the cells may hold more than its limit says, and it is the one with the least address
 pub record IsLeastOutside (limits : Limiting Value) (cells : List (At Value)) (address : ℕ) : Type 0 where
-  pub place : ℕ
-  pub inside : place < length cells
-  pub here : (d : At Value) → (get_or cells place d).address ≡ address
-  pub outside : (d : At Value) → ¬ IsWithin value_meaning (get_or cells place d).value (cell_limit limits address)
+  pub position : ℕ
+  pub inside : position < length cells
+  pub here : (d : At Value) → (get_or cells position d).address ≡ address
+  pub outside : (d : At Value) → ¬ IsWithin value_meaning (get_or cells position d).value (cell_limit limits address)
   pub least : All (λ at. at.address < address → IsWithin value_meaning at.value (cell_limit limits at.address)) cells
 
 -- how many rows stand at a location beside the row of a number

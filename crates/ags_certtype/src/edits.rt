@@ -89,14 +89,14 @@ impl Cert {
     }
 
     /// Puts a row in the place of another, where it may stand. Where that moves a row, the index of the rows is filled anew.
-    fn put_row(&mut self, place: usize, new: Row<Value>)
-        requires inside { place < length self.old.rows }
+    fn put_row(&mut self, position: usize, new: Row<Value>)
+        requires inside { position < length self.old.rows }
         requires within { AreCellsWithin self.old.limits new.at }
-        requires room { rows_at (remove self.old.rows place) new.location < most_rows_at_one }
-        ensures { self.new ≡ record self.old { rows = set self.old.rows place new } }
+        requires room { rows_at (remove self.old.rows position) new.location < most_rows_at_one }
+        ensures { self.new ≡ record self.old { rows = set self.old.rows position new } }
     {
-        let moves = self.rows[place].location() != new.location();
-        self.rows[place] = new;
+        let moves = self.rows[position].location() != new.location();
+        self.rows[position] = new;
         if moves {
             refill(self.rows.as_slice(), &mut self.starts, &mut self.numbers);
         }

@@ -11,8 +11,8 @@ pub fn numbers_are_of_the_rows_at_a_location()
     ensures each { (rows : List (Row Value)) (location i : ℕ) → i < length (numbers_at rows location)
         → let number = slice_index_or (numbers_at rows location) i 0 in
         (1 ≤ number) × (number ≤ length rows) × ((d : Row Value) → (slice_index_or rows (number - 1) d).location ≡ location) }
-    ensures all { (rows : List (Row Value)) (location place : ℕ) (d : Row Value) → place < length rows
-        → (slice_index_or rows place d).location ≡ location → StandsAmong (numbers_at rows location) (place + 1) }
+    ensures all { (rows : List (Row Value)) (location position : ℕ) (d : Row Value) → position < length rows
+        → (slice_index_or rows position d).location ≡ location → StandsAmong (numbers_at rows location) (position + 1) }
     ensures ascending { (rows : List (Row Value)) (location i j : ℕ) → i < j → j < length (numbers_at rows location)
         → slice_index_or (numbers_at rows location) i 0 < slice_index_or (numbers_at rows location) j 0 }
 {}

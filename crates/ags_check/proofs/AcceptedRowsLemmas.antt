@@ -22,15 +22,15 @@ use Rattle.ags_certtype.specs.Cert.{Stated, certificate_of}
 
 -- where a fact holds of each thing, what comes of each by one judgement comes of it by another
 each_moved_where : {X F : Type 0} (P : X → Type 0) (one other : ℕ → X → Result ℕ F → Type 0)
-    → ((place : ℕ) (x : X) (outcome : Result ℕ F) → P x → one place x outcome → other place x outcome)
-    → (place : ℕ) (xs : List X) (outcome : Result ℕ F) → AllByRecursion P xs → InOrder one place xs outcome → InOrder other place xs outcome
-each_moved_where P one other moved place [] (Ok count) each is = is
-each_moved_where P one other moved place [] (Err fault) each is = is
-each_moved_where P one other moved place (x ∷ xs) (Ok count) each is =
-    (is.0, is.1, moved place x (Ok is.0) each.0 is.2, each_moved_where P one other moved (place + 1) xs (Ok is.1) each.1 is.3, is.4)
-each_moved_where P one other moved place (x ∷ xs) (Err fault) each (inl fails) = inl (moved place x (Err fault) each.0 fails)
-each_moved_where P one other moved place (x ∷ xs) (Err fault) each (inr later) =
-    inr (later.0, moved place x (Ok later.0) each.0 later.1, each_moved_where P one other moved (place + 1) xs (Err fault) each.1 later.2)
+    → ((position : ℕ) (x : X) (outcome : Result ℕ F) → P x → one position x outcome → other position x outcome)
+    → (position : ℕ) (xs : List X) (outcome : Result ℕ F) → AllByRecursion P xs → InOrder one position xs outcome → InOrder other position xs outcome
+each_moved_where P one other moved position [] (Ok count) each is = is
+each_moved_where P one other moved position [] (Err fault) each is = is
+each_moved_where P one other moved position (x ∷ xs) (Ok count) each is =
+    (is.0, is.1, moved position x (Ok is.0) each.0 is.2, each_moved_where P one other moved (position + 1) xs (Ok is.1) each.1 is.3, is.4)
+each_moved_where P one other moved position (x ∷ xs) (Err fault) each (inl fails) = inl (moved position x (Err fault) each.0 fails)
+each_moved_where P one other moved position (x ∷ xs) (Err fault) each (inr later) =
+    inr (later.0, moved position x (Ok later.0) each.0 later.1, each_moved_where P one other moved (position + 1) xs (Err fault) each.1 later.2)
 
 module _ (machine : Machine) (image : List (Option ℕ)) (stated : Stated) {F : Type 0} (judges : ℕ → Row Value → RowCase → Result ℕ F → Type 0) where
   abbrev cert : Certificate Value
@@ -51,8 +51,8 @@ module _ (machine : Machine) (image : List (Option ℕ)) (stated : Stated) {F : 
       let same : ◌≡◌ {A = Option WordSet} (Some accepted.code) (Some code) =
       code_one value_meaning image cert.limits row (Some accepted.code) (Some code) accepted.is_code is_code in
       let code_same : accepted.code ≡ code = cc in
-      each_moved_where (CaseAccepted row) (λ place c o. Asked number row c o) (λ place c o. judges number row c o)
-      (λ place c o yes asked. asked yes) 0 (cases_in row code.list) outcome
+      each_moved_where (CaseAccepted row) (λ position c o. Asked number row c o) (λ position c o. judges number row c o)
+      (λ position c o yes asked. asked yes) 0 (cases_in row code.list) outcome
       (subst (λ (set : WordSet). AllByRecursion (CaseAccepted row) (cases_in row set.list)) code_same
       (cases_each row (CaseAccepted row) accepted.code.list accepted.cases)) is
 

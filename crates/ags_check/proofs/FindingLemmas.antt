@@ -40,21 +40,21 @@ module _ (has : ℕ → Row Value → Type 0) (rows : List (Row Value)) (numbers
 
   -- no row has it where none of the listed ones has, and only rows at the location can
   pub none_found : ((number : ℕ) (row : Row Value) → has number row → row.location ≡ location) → NoneSoFar has rows numbers (length numbers) → ¬ SomeRow has rows
-  none_found there none (place, row, inside, stands, passes) =
-      let at = subst (λ (r : Row Value). r.location ≡ location) (sym stands) (there (place + 1) row passes) in
-      let (i, within, number) = subst (λ ns. StandsAmong ns (place + 1)) (sym listed) (each_listed rows location place row inside at) in
-      let same : get_or numbers i 0 - 1 ≡ place = omega (arith, number) in
+  none_found there none (position, row, inside, stands, passes) =
+      let at = subst (λ (r : Row Value). r.location ≡ location) (sym stands) (there (position + 1) row passes) in
+      let (i, within, number) = subst (λ ns. StandsAmong ns (position + 1)) (sym listed) (each_listed rows location position row inside at) in
+      let same : get_or numbers i 0 - 1 ≡ position = omega (arith, number) in
       none i row within (subst (λ n. has n (get_or rows (get_or numbers i 0 - 1) row)) (sym number)
-      (subst (λ r. has (place + 1) r) (sym (ap (λ n. get_or rows n row) same ∙ stands)) passes))
+      (subst (λ r. has (position + 1) r) (sym (ap (λ n. get_or rows n row) same ∙ stands)) passes))
 
 -- ---- where nothing is asked of the number
 
 module _ (P : Row Value → Type 0) (rows : List (Row Value)) where
   pub some_has : (number : ℕ) → IsFound (λ n row. P row × ⊤) rows (Some number) → Any P rows
-  some_has number (place, row, inside, stands, has, is) = (place, row, inside, stands, has.0)
+  some_has number (position, row, inside, stands, has, is) = (position, row, inside, stands, has.0)
 
   pub none_has : IsFound (λ n row. P row × ⊤) rows None → ¬ Any P rows
-  none_has none (place, row, inside, stands, has) = none (place, row, inside, stands, (has, tt))
+  none_has none (position, row, inside, stands, has) = none (position, row, inside, stands, (has, tt))
 
   -- so told by a test of what was found
   pub has_where_some : (found : Option ℕ) → IsFound (λ n row. P row × ⊤) rows found → is_some found ≡ true → Any P rows

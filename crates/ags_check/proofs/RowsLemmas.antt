@@ -19,21 +19,21 @@ use Rattle.ags_walk.specs.declared.walks.AtRow.{AtRow}
 
 -- what is counted by one judgement is counted by another
 each_counted : {X F G : Type 0} (one : ℕ → X → Result ℕ F → Type 0) (other : ℕ → X → Result ℕ G → Type 0)
-    → ((place : ℕ) (x : X) (count : ℕ) → one place x (Ok count) → other place x (Ok count))
-    → (place : ℕ) (xs : List X) (count : ℕ) → InOrder one place xs (Ok count) → InOrder other place xs (Ok count)
-each_counted one other moved place [] count is = is
-each_counted one other moved place (x ∷ xs) count is =
-    (is.0, is.1, moved place x is.0 is.2, each_counted one other moved (place + 1) xs is.1 is.3, is.4)
+    → ((position : ℕ) (x : X) (count : ℕ) → one position x (Ok count) → other position x (Ok count))
+    → (position : ℕ) (xs : List X) (count : ℕ) → InOrder one position xs (Ok count) → InOrder other position xs (Ok count)
+each_counted one other moved position [] count is = is
+each_counted one other moved position (x ∷ xs) count is =
+    (is.0, is.1, moved position x is.0 is.2, each_counted one other moved (position + 1) xs is.1 is.3, is.4)
 
 -- a fault by one judgement is told by another
 each_told : {X F G : Type 0} (one : ℕ → X → Result ℕ F → Type 0) (other : ℕ → X → Result ℕ G → Type 0) (tell : F → G)
-    → ((place : ℕ) (x : X) (count : ℕ) → one place x (Ok count) → other place x (Ok count))
-    → ((place : ℕ) (x : X) (fault : F) → one place x (Err fault) → other place x (Err (tell fault)))
-    → (place : ℕ) (xs : List X) (fault : F) → InOrder one place xs (Err fault) → InOrder other place xs (Err (tell fault))
-each_told one other tell moved told place [] fault is = is
-each_told one other tell moved told place (x ∷ xs) fault (inl fails) = inl (told place x fault fails)
-each_told one other tell moved told place (x ∷ xs) fault (inr later) =
-    inr (later.0, moved place x later.0 later.1, each_told one other tell moved told (place + 1) xs fault later.2)
+    → ((position : ℕ) (x : X) (count : ℕ) → one position x (Ok count) → other position x (Ok count))
+    → ((position : ℕ) (x : X) (fault : F) → one position x (Err fault) → other position x (Err (tell fault)))
+    → (position : ℕ) (xs : List X) (fault : F) → InOrder one position xs (Err fault) → InOrder other position xs (Err (tell fault))
+each_told one other tell moved told position [] fault is = is
+each_told one other tell moved told position (x ∷ xs) fault (inl fails) = inl (told position x fault fails)
+each_told one other tell moved told position (x ∷ xs) fault (inr later) =
+    inr (later.0, moved position x later.0 later.1, each_told one other tell moved told (position + 1) xs fault later.2)
 
 module _ (machine : Machine) (image : List (Option ℕ)) (cert : Certificate Value) where
   abbrev Judges : ℕ → Row Value → RowCase → Result ℕ (RowFault Value) → Type 0

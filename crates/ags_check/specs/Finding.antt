@@ -9,12 +9,12 @@ use Rattle.ags_safe.specs.Accepted.{HoldsStart}
 
 -- some one row has a property, which may speak of its number too
 abbrev pub SomeRow : {D : Type 0} → (ℕ → Row D → Type 0) → List (Row D) → Type 0
-SomeRow {D} has rows = (place : ℕ) × (row : Row D) × (place < length rows) × (slice_index_or rows place row ≡ row) × has (place + 1) row
+SomeRow {D} has rows = (position : ℕ) × (row : Row D) × (position < length rows) × (slice_index_or rows position row ≡ row) × has (position + 1) row
 
 -- the number of a row that has it, and nothing where no row has
 abbrev pub IsFound : {D : Type 0} → (ℕ → Row D → Type 0) → List (Row D) → Option ℕ → Type 0
-IsFound {D} has rows (Some number) = (place : ℕ) × (row : Row D) × (place < length rows) × (slice_index_or rows place row ≡ row)
-    × has number row × (number ≡ place + 1)
+IsFound {D} has rows (Some number) = (position : ℕ) × (row : Row D) × (position < length rows) × (slice_index_or rows position row ≡ row)
+    × has number row × (number ≡ position + 1)
 IsFound has rows None = ¬ SomeRow has rows
 
 -- a row covers a post of a base row, and a further condition holds of its number

@@ -13,46 +13,50 @@ use ags_walk::AtRow;
 use ags_word::Word;
 
 /// The refusal that tells a stop, by the row's number and the case's word.
-fn refusal_of_stop(row: u32, word: Word, stop: Stop<Value>) -> Refusal
-    ensures { result ≡ refusal_of_stop row word stop }
+fn refusal_of_stop(row: u32, word: Word, stop: &Stop<Value>) -> Refusal
+    ensures { result ≡ refusal_of_stop row word stop.now }
 {
     match stop {
         Stop::NoOrder => Refusal::NoOrder { row, word },
         Stop::BadPort => Refusal::BadPort { row, word },
-        Stop::FixedWrite { address } => Refusal::FixedWrite { row, word, address },
+        Stop::FixedWrite { address } => Refusal::FixedWrite {
+            row,
+            word,
+            address: *address,
+        },
         Stop::MayOverflow(operands) => Refusal::MayOverflow {
             row,
             word,
-            operands,
+            operands: *operands,
         },
         Stop::CellRange { address, value } => Refusal::CellRange {
             row,
             word,
-            address,
-            value,
+            address: *address,
+            value: *value,
         },
         Stop::OutputRange { address, value } => Refusal::OutputRange {
             row,
             word,
-            address,
-            value,
+            address: *address,
+            value: *value,
         },
     }
 }
 
 /// The refusal that tells what fails in a row, by the row's number.
-pub fn refusal_of(row: u32, fault: RowFault) -> Refusal
-    ensures { result ≡ refusal_of row fault }
+pub fn refusal_of(row: u32, fault: &RowFault) -> Refusal
+    ensures { result ≡ refusal_of row fault.now }
 {
     match fault {
         RowFault::CodeUnknown => Refusal::CodeUnknown { row },
-        RowFault::Stops { word, stop } => refusal_of_stop(row, word, stop),
+        RowFault::Stops { word, stop } => refusal_of_stop(row, *word, stop),
         RowFault::NotCovered { word, x, v, next } => Refusal::NotCovered {
             row,
-            word,
-            x,
-            v,
-            next,
+            word: *word,
+            x: *x,
+            v: *v,
+            next: *next,
         },
     }
 }
@@ -64,6 +68,6 @@ pub(crate) fn refusal_at(outcome: Result<u64, AtRow<RowFault>>) -> Result<u64, R
 {
     match outcome {
         Ok(count) => Ok(count),
-        Err(told) => Err(refusal_of(told.row, told.fault)),
+        Err(told) => Err(refusal_of(told.row, &told.fault)),
     }
 }

@@ -140,7 +140,7 @@ fn judged_from<L: Ledger>(
     assert!(rt; rows.len() <= 20_000);
     let outcome = match walk_rows(&counting, image, cert.limits(), rows, &mut steps) {
         Ok(cases) => Ok(cases),
-        Err(told) => Err(refusal_of(told.row, told.fault)),
+        Err(told) => Err(refusal_of(told.row, &told.fault)),
     };
     Judged {
         outcome,

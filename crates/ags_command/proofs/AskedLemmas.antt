@@ -1,4 +1,4 @@
--- What is asked for, and the arguments that ask for it. Behind `arguments_ask_for_one_thing` of `laws.rt` stand
+-- What is asked for, and the arguments that ask for it. After `arguments_ask_for_one_thing` of `laws.rt` stand
 --     asked_of-asked_arguments   what can be asked for is asked for by its arguments
 --     asked_arguments-asked_of   and by no others
 use Rattle.std.proofs.Common.{◌≡◌, ℕ, ◌≤◌, Bool, true, false, List, [], ◌∷◌, ◌++◌, length, get_or, Option, Some, None, refl, sym, ap, ◌∙◌, arith}

@@ -1,4 +1,4 @@
--- Command lines and their arguments. Behind `arguments_ask_for_one_command` of `answer_laws.rt` stand
+-- Command lines and their arguments. After `arguments_ask_for_one_command` of `answer_laws.rt` stand
 --     line_of-line_arguments   a command line's arguments ask for it
 --     line_arguments-line_of   and no others do
 use Rattle.std.proofs.Common.{◌≡◌, ℕ, Bool, true, false, List, [], ◌∷◌, ◌++◌, Option, Some, None, codes, refl, sym, ap, ◌∙◌}
@@ -9,7 +9,7 @@ use Rattle.ags_command.specs.declared.source_texts.SourceText.{SourceText}
 use Rattle.ags_command.specs.declared.source_texts.SourceText.TheVariants.{Listing, Tape, CrossReference}
 use Rattle.ags_command.specs.Command.{Command, Write, Compare, Certify, Run, Guard, Budget, Scales, Edits, CommandLine, verb_of, arguments_of, machine_argument, line_arguments, line_with, one_name, two_names, three_names, Form, form_of, forms, line_named, line_of}
 
--- what stands behind a command's names is read back
+-- what stands after a command's names is read back
 line_with-machine_argument : (command : Command) (machine : Option (List ℕ)) → line_with command (machine_argument machine) ≡ Some (record { command = command; machine = machine })
 line_with-machine_argument command None = refl
 line_with-machine_argument command (Some name) = refl

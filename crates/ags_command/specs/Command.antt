@@ -1,4 +1,4 @@
--- The commands, by the arguments of a command line: a verb, the names of files behind it, and, last, the name of a machine file
+-- The commands, by the arguments of a command line: a verb, the names of files after it, and, last, the name of a machine file
 -- where one is given; and the workload, by its verb and its size.
 use Rattle.std.specs.Prelude.{◌≡◌, ℕ, ◌≤◌, ◌==◌, ◌&&◌, nat_le, List, [], ◌∷◌, ◌++◌, slice_index, Option, Some, None, codes, if◌then◌else◌}
 use Rattle.std.specs.Fmt.{decimal}
@@ -55,11 +55,11 @@ abbrev pub machine_argument : Option (List ℕ) → List (List ℕ)
 machine_argument None = []
 machine_argument (Some name) = name ∷ []
 
--- the arguments of a command line: those of its command, and the machine file's behind them
+-- the arguments of a command line: those of its command, and the machine file's after them
 abbrev pub line_arguments : CommandLine → List (List ℕ)
 line_arguments line = arguments_of line.command ++ machine_argument line.machine
 
--- a command with what stands behind its names: nothing, or a machine file's name
+-- a command with what stands after its names: nothing, or a machine file's name
 abbrev pub line_with : Command → List (List ℕ) → Option CommandLine
 line_with command [] = Some (record { command = command; machine = None })
 line_with command (machine ∷ []) = Some (record { command = command; machine = Some machine })
@@ -80,7 +80,7 @@ abbrev pub three_names : (List ℕ → List ℕ → List ℕ → Command) → Li
 three_names command (name ∷ other ∷ third ∷ behind) = line_with (command name other third) behind
 three_names command _ = None
 
--- A form: a verb, and what the names behind it ask for.
+-- A form: a verb, and what the names after it ask for.
 pub record Form : Type 0 where
   pub verb : List ℕ
   pub line_of : List (List ℕ) → Option CommandLine
@@ -104,7 +104,7 @@ forms =
     ∷ record { verb = codes "edits"; line_of = three_names Edits }
     ∷ []
 
--- what a verb and the names behind it ask for, by the form of that verb
+-- what a verb and the names after it ask for, by the form of that verb
 abbrev pub line_named : List Form → (verb : List ℕ) (names : List (List ℕ)) → Option CommandLine
 line_named [] verb names = None
 line_named (form ∷ others) verb names = if bytes_eq verb form.verb then form.line_of names else line_named others verb names
@@ -142,12 +142,12 @@ size_within (Some number) = if nat_le 1 number && nat_le number 400 then Some nu
 abbrev pub size_of : (text : List ℕ) → Option ℕ
 size_of text = if slice_index text 0 == 48 then None else size_within (number_of 10 9 text)
 
--- what the names behind the workload's verb ask for: one size
+-- what the names after the workload's verb ask for: one size
 abbrev pub workload_of : List (List ℕ) → Option Asked
 workload_of (text ∷ []) = option_map Workload (size_of text)
 workload_of _ = None
 
--- what a verb and the names behind it ask for
+-- what a verb and the names after it ask for
 abbrev pub asked_named : (verb : List ℕ) (names : List (List ℕ)) → Option Asked
 asked_named verb names = if bytes_eq verb workload_verb then workload_of names else option_map OnMachine (line_named forms verb names)
 

@@ -49,26 +49,20 @@ fn read_size(text: &str) -> Option<u32>
 fn on_machine(line: Option<CommandLine<'_>>) -> Option<Asked<'_>>
     ensures { option_map asked_view result ≡ option_map asked.OnMachine (option_map line_view line.entry) }
 {
-    match line {
-        Some(line) => Some(Asked::OnMachine(line)),
-        None => None,
-    }
+    line.map(Asked::OnMachine)
 }
 
-/// What the names behind the workload's verb ask for.
+/// What the names after the workload's verb ask for.
 fn read_workload(names: &[String]) -> Option<Asked<'_>>
     ensures { option_map asked_view result ≡ asked.workload_of (map string_bytes names.now) }
 {
     match names {
-        [size] => match read_size(size.as_str()) {
-            Some(size) => Some(Asked::Workload(size)),
-            None => None,
-        },
+        [size] => Some(Asked::Workload(read_size(size.as_str())?)),
         _ => None,
     }
 }
 
-/// What a verb and the names behind it ask for.
+/// What a verb and the names after it ask for.
 fn read_verb<'a>(verb: &str, names: &'a [String]) -> Option<Asked<'a>>
     ensures { option_map asked_view result ≡ asked.asked_named verb.now (map string_bytes names.entry.now) }
 {

@@ -86,7 +86,7 @@ pub struct CommandLine<'a> {
     pub machine: Option<&'a str>,
 }
 
-/// A command with what stands behind its names: nothing, or a machine file's name.
+/// A command with what stands after its names: nothing, or a machine file's name.
 fn line_with<'a>(command: Command<'a>, behind: &'a [String]) -> Option<CommandLine<'a>>
     ensures { option_map line_view result ≡ asked.line_with (command_view command.entry) (map string_bytes behind.entry.now) }
 {
@@ -235,7 +235,7 @@ fn read_edits(names: &[String]) -> Option<CommandLine<'_>>
     }
 }
 
-/// What a verb and the names behind it ask for.
+/// What a verb and the names after it ask for.
 pub(crate) fn read_names<'a>(verb: &str, names: &'a [String]) -> Option<CommandLine<'a>>
     ensures { option_map line_view result ≡ asked.line_named asked.forms verb.now (map string_bytes names.entry.now) }
 {

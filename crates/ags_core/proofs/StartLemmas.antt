@@ -17,7 +17,7 @@ cells_more image location cells inside so = rw so (sym (map_more (λ entry. unwr
 cells_words : (image : List (Option ℕ)) → IsImage image → All (λ word. word < 2 ^ 18) (cells_of image)
 unfolding word_at entry_at
 cells_words image is = All-map (λ word. word < 2 ^ 18) (λ entry. unwrap_or entry 0) image
-    (λ place entry inside. rw (get_or_default image place entry None inside) (is.words place))
+    (λ location entry inside. rw (get_or_default image location entry None inside) (is.words location))
 
 word_from : (image : List (Option ℕ)) (address : ℕ) → get_or (cells_of image) address 0 ≡ unwrap_or (get_or image address None) 0
 word_from [] address = refl

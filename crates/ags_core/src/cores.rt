@@ -136,7 +136,7 @@ impl Core {
         self.cells[address as usize]
     }
 
-    /// The word of the input register at a place of the machine's table.
+    /// The word of the input register at a position of the machine's table.
     pub fn input(&self, position: usize) -> Word
         requires { position < length self.now.inputs }
         ensures word { result ≡ slice_index self.now.inputs position }
@@ -145,7 +145,7 @@ impl Core {
         self.inputs[position]
     }
 
-    /// The word of the output register at a place of the machine's table.
+    /// The word of the output register at a position of the machine's table.
     pub fn output(&self, position: usize) -> Word
         requires { position < length self.now.outputs }
         ensures word { result ≡ slice_index self.now.outputs position }
@@ -163,7 +163,7 @@ impl Core {
         self.cells[address as usize] = word;
     }
 
-    /// Sets the input register at a place of the machine's table, and changes nothing else.
+    /// Sets the input register at a position of the machine's table, and changes nothing else.
     pub fn set_input(&mut self, position: usize, word: Word)
         requires { position < length self.old.inputs }
         ensures after { self.new ≡ record self.old { inputs = slice_set self.old.inputs position word } }

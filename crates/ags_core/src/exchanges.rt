@@ -2,7 +2,7 @@
 
 ghost use Rattle.std.specs.Prelude.{◌≡◌, ◌<◌, IfSome, length};
 ghost use Rattle.ags_isa.specs.declared.orders.Order.TheVariants.{Inp, Out};
-ghost use Rattle.ags_ports.specs.Port.{place_of, read_at, register_at, set_at};
+ghost use Rattle.ags_ports.specs.Port.{position_of, read_at, register_at, set_at};
 ghost use Rattle.ags_ports.specs.Effect.{effect};
 ghost use Rattle.ags_core.specs.OrderReport.{Does};
 
@@ -17,9 +17,9 @@ impl Core {
         requires { length self.old.inputs ≡ length machine.now.ports.inputs }
         ensures { Does (effect machine.now self.old Inp y y) self.new result }
     {
-        let place = machine.ports.find_input(y);
-        self.a = self.register_at(place);
-        self.read(machine, place);
+        let position = machine.ports.find_input(y);
+        self.a = self.register_at(position);
+        self.read(machine, position);
         self.move_on();
         OrderReport {
             took: Some(y),
@@ -33,8 +33,8 @@ impl Core {
         ensures { Does (effect machine.now self.old Out y y) self.new result }
     {
         let word = self.a();
-        if let Some(place) = machine.ports.find_output(y) {
-            self.outputs[place] = word;
+        if let Some(position) = machine.ports.find_output(y) {
+            self.outputs[position] = word;
         }
         self.move_on();
         OrderReport {
@@ -43,26 +43,26 @@ impl Core {
         }
     }
 
-    /// The word of the input register at a place, and 0 where there is none.
-    fn register_at(&self, place: Option<usize>) -> Word
-        requires { IfSome place (λ place. place < length self.now.inputs) }
-        ensures { result ≡ register_at self.now.inputs place }
+    /// The word of the input register at a position, and 0 where there is none.
+    fn register_at(&self, position: Option<usize>) -> Word
+        requires { IfSome position (λ position. position < length self.now.inputs) }
+        ensures { result ≡ register_at self.now.inputs position }
     {
-        match place {
-            Some(place) => self.inputs[place],
+        match position {
+            Some(position) => self.inputs[position],
             None => Word::ZERO,
         }
     }
 
-    /// Clears the input register at a place, if it holds its word once.
-    fn read(&mut self, machine: &Machine, place: Option<usize>)
-        requires place { IfSome place (λ place. place < length machine.now.ports.inputs) }
+    /// Clears the input register at a position, if it holds its word once.
+    fn read(&mut self, machine: &Machine, position: Option<usize>)
+        requires position { IfSome position (λ position. position < length machine.now.ports.inputs) }
         requires inputs { length self.old.inputs ≡ length machine.now.ports.inputs }
-        ensures { self.new ≡ record self.old { inputs = read_at machine.now.ports.inputs self.old.inputs place } }
+        ensures { self.new ≡ record self.old { inputs = read_at machine.now.ports.inputs self.old.inputs position } }
     {
-        if let Some(place) = place {
-            if machine.ports.is_once(place) {
-                self.inputs[place] = Word::ZERO;
+        if let Some(position) = position {
+            if machine.ports.is_once(position) {
+                self.inputs[position] = Word::ZERO;
             }
         }
     }
@@ -71,11 +71,11 @@ impl Core {
     pub(crate) fn put(&mut self, machine: &Machine, address: u16, word: Word)
         requires { length self.old.inputs ≡ length machine.now.ports.inputs }
         ensures { self.new ≡ record self.old {
-          inputs = set_at self.old.inputs (place_of machine.now.ports.inputs address) word;
+          inputs = set_at self.old.inputs (position_of machine.now.ports.inputs address) word;
         } }
     {
-        if let Some(place) = machine.ports.find_input(address) {
-            self.inputs[place] = word;
+        if let Some(position) = machine.ports.find_input(address) {
+            self.inputs[position] = word;
         }
     }
 }

@@ -21,7 +21,7 @@ position_or_len_is p text =
 abbrev pub is_not : ℕ → ℕ → Bool
 is_not mark b = not (b == mark)
 
--- what stands from a mark on: nothing, or the mark and what is behind it
+-- what stands from a mark on: nothing, or the mark and what is after it
 abbrev pub FromMark : ℕ → List ℕ → Type 0
 FromMark mark rest = (rest ≡ []) ⊎ ((behind : List ℕ) × (rest ≡ mark ∷ behind))
 

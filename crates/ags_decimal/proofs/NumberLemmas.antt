@@ -1,5 +1,5 @@
 -- Digits and the number that they write, one digit further.
-use Rattle.std.proofs.Common.{◌≡◌, ℕ, ◌+◌, ◌-◌, ◌*◌, ◌<◌, ◌≤◌, ◌^◌, Bool, true, List, [], ◌∷◌, ◌++◌, length, drop, get_or, suc, refl, add-one, add-zero, arith}
+use Rattle.std.proofs.Common.{◌≡◌, ℕ, ◌+◌, ◌-◌, ◌*◌, ◌<◌, ◌^◌, Bool, true, List, [], ◌∷◌, ◌++◌, length, drop, get_or, suc, refl, add-one, add-zero, arith}
 use Rattle.std.specs.List.{list_all}
 use Rattle.std.proofs.Math.Seq.{drop-cons}
 use Rattle.std.proofs.lemmas.Bool.{and_parts}
@@ -35,7 +35,7 @@ pub number_after-append : (n : ℕ) (front back : List ℕ) → number_after n (
 number_after-append n [] back = refl
 number_after-append n (b ∷ front) back = number_after-append (n * 10 + (b - 48)) front back
 
--- digits behind a number write one that has no more digits than both
+-- digits after a number write one that has no more digits than both
 pub number_after-below : (n before : ℕ) (text : List ℕ) → n < 10 ^ before → list_all is_digit text ≡ true → number_after n text < 10 ^ (before + length text)
 number_after-below n before [] below digits = rw add-zero below
 number_after-below n before (b ∷ text) below digits =

@@ -29,7 +29,7 @@ abbrev pub power_below : (base : ℕ) → ℤ → ℕ
 power_below base (pos n) = 1
 power_below base (negsuc n) = base ^ (n + 1)
 
--- the exponent of two that a scale stands for: the last of a word's 17 bits behind the sign is worth 1
+-- the exponent of two that a scale stands for: the last of a word's 17 bits after the sign is worth 1
 abbrev pub binary_exponent : Parts → ℤ
 binary_exponent parts = pos 17 -ℤ parts.scale
 

@@ -25,7 +25,7 @@ behind_sign text = if begins_with_minus text || get_or text 0 0 == 43 then drop 
 unfoldable pub signed_reading : List ℕ → Option ℤ
 signed_reading text = if are_digits 2 (behind_sign text) then Some (signed (begins_with_minus text) (digits_number (behind_sign text))) else None
 
--- the number behind a mark, and another where the mark does not stand
+-- the number after a mark, and another where the mark does not stand
 unfoldable pub marked_reading : ℤ → List ℕ → Option ℤ
 marked_reading usual rest = if length rest == 0 then Some usual else signed_reading (drop 1 rest)
 
@@ -33,7 +33,7 @@ marked_reading usual rest = if length rest == 0 then Some usual else signed_read
 unfoldable pub digits_of : List ℕ → List ℕ
 digits_of text = front_at 46 text ++ drop 1 (rest_at 46 text)
 
--- how many of them stand behind the point
+-- how many of them stand after the point
 unfoldable pub places_of : List ℕ → ℕ
 places_of text = length (drop 1 (rest_at 46 text))
 

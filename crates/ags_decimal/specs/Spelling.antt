@@ -1,5 +1,5 @@
 -- How a decimal is written, forwards from the decimal: a sign, digits with a point or without, an exponent of ten
--- behind an E, a scale behind a B.
+-- after an E, a scale after a B.
 use Rattle.std.specs.Prelude.{◌≡◌, ℕ, ◌+◌, ◌-◌, ◌*◌, ◌⊎◌, Bool, true, false, ◌&&◌, nat_lt, ℤ, pos, ◌-ℤ◌, List, [], ◌∷◌, ◌++◌, length, IsTrue}
 use Rattle.std.specs.List.{list_all}
 use Rattle.ags_decimal.specs.Decimal.{Parts, IsWithinLimits, signed}
@@ -12,7 +12,7 @@ is_digit b = nat_lt 47 b && nat_lt b 58
 abbrev pub are_digits : (most : ℕ) → List ℕ → Bool
 are_digits most text = list_all is_digit text && (nat_lt 0 (length text) && nat_lt (length text) (most + 1))
 
--- the number that digits write behind those of another number
+-- the number that digits write after those of another number
 abbrev pub number_after : ℕ → List ℕ → ℕ
 number_after n [] = n
 number_after n (b ∷ text) = number_after (n * 10 + (b - 48)) text
@@ -40,13 +40,13 @@ pub record IsSigned (text : List ℕ) (number : ℤ) : Type 0 where
 abbrev pub IsMarked : (mark : ℕ) (usual : ℤ) → List ℕ → ℤ → Type 0
 IsMarked mark usual text number = ((text ≡ []) × (number ≡ usual)) ⊎ ((behind : List ℕ) × (text ≡ mark ∷ behind) × IsSigned behind number)
 
--- The text is these digits, of which so many stand behind a point; without a point none does.
+-- The text is these digits, of which so many stand after a point; without a point none does.
 abbrev pub IsPointed : (digits : List ℕ) (places : ℕ) → List ℕ → Type 0
 IsPointed digits places text = ((text ≡ digits) × (places ≡ 0))
     ⊎ ((before behind : List ℕ) × (digits ≡ before ++ behind) × (places ≡ length behind) × (text ≡ before ++ 46 ∷ behind))
 
 -- The text writes the decimal: a sign or none, one to ten digits with one point at most, an E with an exponent or none,
--- a B with a scale or none. The power of ten is the exponent less the number of digits behind the point. Without an E
+-- a B with a scale or none. The power of ten is the exponent less the number of digits after the point. Without an E
 -- the exponent is 0, and without a B the scale is 17.
 pub record Spells (text : List ℕ) (parts : Parts) : Type 0 where
   pub sign : List ℕ

@@ -62,7 +62,7 @@ impl Decimal {
         self.digits
     }
 
-    /// The power of ten that the digits are times, those behind the point counted in; from -12 to 12.
+    /// The power of ten that the digits are times, those after the point counted in; from -12 to 12.
     pub fn power(&self) -> i8
         ensures same { result ≡ self.now.power }
         ensures limits { IsWithinLimits self.now }
@@ -135,7 +135,7 @@ fn are_number_digits(before: &[u8], behind: &[u8]) -> bool
     all_digits(before) && all_digits(behind) && 0 < count && count <= 10
 }
 
-/// The number that digits with a point or without write, and how many of them stand behind the point.
+/// The number that digits with a point or without write, and how many of them stand after the point.
 #[tactic(auto, unfolding(crate::specs::Reading::digits_of, crate::specs::Reading::places_of))]
 fn read_number(text: &[u8]) -> Option<(u64, i8)>
     ensures none { result ≡ None → are_digits 10 (digits_of text.now) ≡ false }
@@ -160,15 +160,9 @@ fn read_before_scale(text: &[u8], scale: Option<i8>) -> Option<Decimal>
     ensures { result ≡ reading_before_scale text.now scale }
 {
     let (front, rest) = split_at_mark(text, b'E');
-    let Some(exponent) = read_marked(0, rest) else {
-        return None;
-    };
-    let Some(scale) = scale else {
-        return None;
-    };
-    let Some((digits, places)) = read_number(behind_sign(front)) else {
-        return None;
-    };
+    let exponent = read_marked(0, rest)?;
+    let scale = scale?;
+    let (digits, places) = read_number(behind_sign(front))?;
     limited(begins_with_minus(front), digits, exponent - places, scale)
 }
 

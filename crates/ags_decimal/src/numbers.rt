@@ -14,7 +14,7 @@ pub(crate) fn all_digits(text: &[u8]) -> bool
     text.iter().all(|byte| matches!(*byte, b'0'..=b'9'))
 }
 
-/// The number that digits write behind those of a number, of which there are so many.
+/// The number that digits write after those of a number, of which there are so many.
 pub(crate) fn number_after(start: u64, before: usize, text: &[u8]) -> u64
     requires start { start < 10 ^ before }
     requires most { before + length text.now ≤ 10 }
@@ -58,7 +58,7 @@ fn read_signed(text: &[u8]) -> Option<i8>
     }
 }
 
-/// The number behind a mark, and the usual one where nothing stands.
+/// The number after a mark, and the usual one where nothing stands.
 #[tactic(auto, unfolding(crate::specs::Reading::marked_reading))]
 pub(crate) fn read_marked(usual: i8, rest: &[u8]) -> Option<i8>
     requires least { pos 0 ≤ℤ usual }

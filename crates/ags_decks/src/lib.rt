@@ -1,6 +1,11 @@
-//! The deck that the tests of the whole program share: two limited integrators and an echo of the panel's digits, with its listing, a
-//! certificate, one split by callers with bounds on order time, and a script (docs/CHECKER.md, docs/TIMES.md, docs/SCRIPT.md). It stands on nothing, and no program stands on it.
+//! What several crates of tests share, and no program stands on: a deck of two limited integrators and an echo of the panel's digits, with
+//! its listing, a certificate, one split by callers with bounds on order time, and a script (docs/CHECKER.md, docs/TIMES.md,
+//! docs/SCRIPT.md); and a sink of which one call fails.
 #![tactic(auto)]
+
+mod failing_sink;
+
+pub use failing_sink::FailingSink;
 
 /// The source.
 pub const DECK: &str =

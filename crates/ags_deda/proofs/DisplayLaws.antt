@@ -7,7 +7,7 @@ use Rattle.ags_deda.specs.declared.keys.Key.TheVariants.{Digit, Plus, Minus, Clr
 use Rattle.ags_deda.specs.Key.{is_clr, is_sign, key_digit, key_character}
 use Rattle.ags_deda.specs.Form.{entry_has, readout_has, fits, are_lawful, taken, in_readout, is_held}
 use Rattle.ags_deda.specs.Happening.{Happening, Pressed, Shown, since_clear, keys_of, sent_count}
-use Rattle.ags_deda.specs.Panel.{padded, spelled, counted, whole_group, later_group, group_shown, places_of, group_text, text, unsent, pressing, showing}
+use Rattle.ags_deda.specs.Panel.{padded, spelled, counted, whole_group, later_group, group_shown, columns_of, group_text, text, unsent, pressing, showing}
 use Rattle.ags_deda.proofs.KeyLemmas.{readout_is_lawful, unlawful_message, taken_wrong}
 
 pub clr_text : (happenings : List Happening) → text (Pressed Clr ∷ happenings) ≡ replicate 10 32
@@ -19,7 +19,7 @@ unfolding unsent since_clear keys_of sent_count fits spelled padded
 clr_unsent happenings = refl
 
 pub wrong_text : (key : Key) (happenings : List Happening) → is_clr key ≡ false → are_lawful (key ∷ keys_of (since_clear happenings)) ≡ false
-    → text (Pressed key ∷ happenings) ≡ places_of (group_shown (since_clear happenings)) (taken (keys_of (since_clear happenings))) ++ 69 ∷ []
+    → text (Pressed key ∷ happenings) ≡ columns_of (group_shown (since_clear happenings)) (taken (keys_of (since_clear happenings))) ++ 69 ∷ []
 unfolding text since_clear keys_of group_shown
 wrong_text key happenings clr wrong = rw (clr, taken_wrong key (keys_of (since_clear happenings)) wrong, wrong) refl
 

@@ -6,9 +6,9 @@ use Rattle.std.proofs.lemmas.List.{reverse-append, take_all}
 use Rattle.ags_deda.specs.Panel.{whole_group}
 
 -- the ninth digit makes a group whole
-pub ninth : (group digits : List ℕ) (digit place : ℕ) → length group ≡ 9 → place ≡ 8 → length digits % 9 ≡ 8 → take 8 group ≡ reverse (take 8 digits)
-    → Some (set group place digit) ≡ whole_group digit digits
-ninth group digits digit place nine is eight front =
+pub ninth : (group digits : List ℕ) (digit column : ℕ) → length group ≡ 9 → column ≡ 8 → length digits % 9 ≡ 8 → take 8 group ≡ reverse (take 8 digits)
+    → Some (set group column digit) ≡ whole_group digit digits
+ninth group digits digit column nine is eight front =
     let whole : ((length digits + 1) % 9 == 0) ≡ true = grind (arith, nat_tests) in
     let all : take 9 (set group 8 digit) ≡ set group 8 digit = take_all 9 (set group 8 digit) (omega (arith, length-set group 8 digit)) in
     let group_is : set group 8 digit ≡ reverse (digit ∷ take 8 digits) =

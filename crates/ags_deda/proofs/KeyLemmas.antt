@@ -14,16 +14,16 @@ pub fits_cons : (form : ℕ → Key → Bool) (key : Key) (earlier : List Key) �
 unfolding fits
 fits_cons form key earlier = refl
 
--- behind ten keys of an entry there is none
+-- after ten keys of an entry there is none
 entry_far : (n : ℕ) (key : Key) → 10 ≤ n → entry_has n key ≡ false
 unfolding entry_has
 entry_far n key far = grind (arith, nat_tests)
 
-pub entry_capped : (place n : ℕ) (key : Key) → place ≡ min n 10 → entry_has place key ≡ entry_has n key
-entry_capped place n key is =
+pub entry_capped : (position n : ℕ) (key : Key) → position ≡ min n 10 → entry_has position key ≡ entry_has n key
+entry_capped position n key is =
     elim (cases_lt n 10) [
-      | inl lt ↦ let same : place ≡ n = omega arith in ap (λ (p : ℕ). entry_has p key) same
-      | inr le ↦ let ten : place ≡ 10 = omega arith in ap (λ (p : ℕ). entry_has p key) ten ∙ entry_far 10 key (omega arith) ∙ sym (entry_far n key le)
+      | inl lt ↦ let same : position ≡ n = omega arith in ap (λ (p : ℕ). entry_has p key) same
+      | inr le ↦ let ten : position ≡ 10 = omega arith in ap (λ (p : ℕ). entry_has p key) ten ∙ entry_far 10 key (omega arith) ∙ sym (entry_far n key le)
     ]
 
 pub readout_address : (n : ℕ) (key : Key) → n < 3 → readout_has n key ≡ is_octal_digit key
@@ -54,17 +54,17 @@ both_true false b is = is
 parity : (n : ℕ) → (n % 2 ≡ 0 → (n + 1) % 2 ≡ 1) × (n % 2 ≡ 1 → (n + 1) % 2 ≡ 0)
 parity n = (λ even. omega arith, λ odd. omega arith)
 
--- in a readout HOLD is in force behind an odd number of keys
-held_at : (place : ℕ) (key : Key) → 3 ≤ place → readout_has place key ≡ true → (is_hold key ≡ true → (place + 1) % 2 ≡ 1) × (is_hold key ≡ false → (place + 1) % 2 ≡ 0)
-held_at place key le has =
-    elim (cases_eq (place % 2) 1) [
+-- in a readout HOLD is in force after an odd number of keys
+held_at : (position : ℕ) (key : Key) → 3 ≤ position → readout_has position key ≡ true → (is_hold key ≡ true → (position + 1) % 2 ≡ 1) × (is_hold key ≡ false → (position + 1) % 2 ≡ 0)
+held_at position key le has =
+    elim (cases_eq (position % 2) 1) [
       | inl odd ↦
-          let not_hold : is_hold key ≡ false = readout_is_no_hold key (sym (readout_odd place key le odd) ∙ has) in
-          (λ hold. absurd cc, λ other. (parity place).1 odd)
+          let not_hold : is_hold key ≡ false = readout_is_no_hold key (sym (readout_odd position key le odd) ∙ has) in
+          (λ hold. absurd cc, λ other. (parity position).1 odd)
       | inr other ↦
-          let even : place % 2 ≡ 0 = omega arith in
-          let hold : is_hold key ≡ true = sym (readout_even place key le even) ∙ has in
-          (λ is. (parity place).0 even, λ not_hold. absurd cc)
+          let even : position % 2 ≡ 0 = omega arith in
+          let hold : is_hold key ≡ true = sym (readout_even position key le even) ∙ has in
+          (λ is. (parity position).0 even, λ not_hold. absurd cc)
     ]
 
 pub readout_held : (keys : List Key) (key : Key) → fits readout_has keys ≡ true → 4 ≤ length keys → is_held keys ≡ true → readout_has (length keys) key ≡ is_readout key

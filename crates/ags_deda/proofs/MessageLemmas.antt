@@ -8,7 +8,7 @@ use Rattle.ags_deda.specs.Happening.{Happening, since_clear, keys_of, sent_count
 use Rattle.ags_deda.specs.Panel.{is_whole, spelled, unsent}
 use Rattle.ags_deda.proofs.SpellingLemmas.{length-spelled}
 
--- nothing is left behind the last digit
+-- nothing is left after the last digit
 past_end : (n : ℕ) (xs : List ℕ) → length xs ≤ n → slice_get (drop n xs) 0 ≡ None
 past_end n xs le = slice_get_past (drop n xs) 0 (omega (arith, length-drop n xs))
 

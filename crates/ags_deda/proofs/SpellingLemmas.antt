@@ -1,4 +1,4 @@
--- Keys in nine places.
+-- Keys in nine columns.
 use Rattle.std.proofs.Common.{◌≡◌, ℕ, ◌<◌, ◌≤◌, zero, suc, List, [], ◌∷◌, ◌++◌, length, map, reverse, set, refl, sym, ap, ◌∙◌, arith}
 use Rattle.std.proofs.lemmas.List.{reverse-append, length-reverse, length-map, map-append}
 use Rattle.ags_deda.specs.declared.keys.Key.{Key}
@@ -28,17 +28,17 @@ spelled_keys spell key keys = ap (λ (all : List Key). map spell all) (reverse-a
 many_keys : (spell : Key → ℕ) (keys : List Key) → length (map spell (reverse keys)) ≡ length keys
 many_keys spell keys = length-map (reverse keys) spell ∙ length-reverse keys
 
--- a key in its place
-pub spelled-set : (spell : Key → ℕ) (blank place : ℕ) (key : Key) (keys : List Key) → place ≡ length keys → place < 9
-    → set (spelled spell blank keys) place (spell key) ≡ spelled spell blank (key ∷ keys)
+-- a key in its column
+pub spelled-set : (spell : Key → ℕ) (blank column : ℕ) (key : Key) (keys : List Key) → column ≡ length keys → column < 9
+    → set (spelled spell blank keys) column (spell key) ≡ spelled spell blank (key ∷ keys)
 unfolding spelled
-spelled-set spell blank place key keys is lt =
-    let many : length (map spell (reverse keys)) ≡ place = many_keys spell keys ∙ sym is in
+spelled-set spell blank column key keys is lt =
+    let many : length (map spell (reverse keys)) ≡ column = many_keys spell keys ∙ sym is in
     ap (λ (n : ℕ). set (padded 9 blank (map spell (reverse keys))) n (spell key)) (sym many)
     ∙ padded-set 9 blank (spell key) (map spell (reverse keys)) (omega arith)
     ∙ ap (λ (all : List ℕ). padded 9 blank all) (sym (spelled_keys spell key keys))
 
--- a key behind the last place
+-- a key after the last column
 pub spelled-far : (spell : Key → ℕ) (blank : ℕ) (key : Key) (keys : List Key) → 9 ≤ length keys → spelled spell blank keys ≡ spelled spell blank (key ∷ keys)
 unfolding spelled
 spelled-far spell blank key keys far =

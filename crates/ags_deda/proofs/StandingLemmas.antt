@@ -60,7 +60,7 @@ pressed panel next key since stands light keying keyed sent group shown = record
 pub lawful_so_far : (since : List Happening) → is_lit since ≡ false → are_lawful (keys_of since) ≡ true
 lawful_so_far since dark = not_false (are_lawful (keys_of since)) dark
 
--- a wrong key, and each key behind one
+-- a wrong key, and each key after one
 pub pressed_wrong : (panel next : Panel) (key : Key) (since : List Happening) → StandsSince panel since → are_lawful (key ∷ keys_of since) ≡ false
     → next.light ≡ true → next.keying ≡ panel.keying → next.keyed ≡ panel.keyed → next.sent ≡ panel.sent → next.group ≡ panel.group → next.shown ≡ panel.shown → StandsSince next (Pressed key ∷ since)
 pressed_wrong panel next key since stands wrong light keying keyed sent group shown =
@@ -146,10 +146,6 @@ message_keyed panel since stands whole = keyed_dark panel since stands (whole_la
 
 pub readout_keying : (panel : Panel) (since : List Happening) → StandsSince panel since → in_readout (keys_of since) ≡ true → IsKeying panel.keying (keys_of since)
 readout_keying panel since stands inside = keying_dark panel since stands (readout_lawful since inside)
-
--- while the light is on there is neither
-pub lit_none : (panel : Panel) (since : List Happening) → StandsSince panel since → panel.light ≡ true → (is_whole (keys_of since) ≡ false) × (in_readout (keys_of since) ≡ false)
-lit_none panel since stands lit = unlawful_message (keys_of since) (not_true (are_lawful (keys_of since)) (sym stands.light ∙ lit))
 
 -- while it is off the keys are those that were taken
 pub dark_keying : (panel : Panel) (since : List Happening) → StandsSince panel since → panel.light ≡ false → IsKeying panel.keying (keys_of since)

@@ -4,18 +4,18 @@ use Rattle.std.specs.Prelude.{ℕ, ◌%◌, Bool, true, false, ◌&&◌, ◌||�
 use Rattle.ags_deda.specs.declared.keys.Key.{Key}
 use Rattle.ags_deda.specs.Key.{is_octal_digit, is_decimal_digit, is_sign, is_entr, is_readout, is_hold}
 
--- An entry: three digits of an address, a sign, five digits of a value, and ENTR. The key may stand at that place of
+-- An entry: three digits of an address, a sign, five digits of a value, and ENTR. The key may stand at that position of
 -- it, counted from 0.
 unfoldable pub entry_has : ℕ → Key → Bool
-entry_has place key =
-    if nat_lt place 3 then is_octal_digit key else (
-    if place == 3 then is_sign key else (
-    if nat_lt place 9 then is_decimal_digit key else (place == 9 && is_entr key)))
+entry_has position key =
+    if nat_lt position 3 then is_octal_digit key else (
+    if position == 3 then is_sign key else (
+    if nat_lt position 9 then is_decimal_digit key else (position == 9 && is_entr key)))
 
--- A readout: three digits of an address, READ OUT, and any number of pairs HOLD, READ OUT. So behind the address
--- READ OUT stands at the odd places, and HOLD at the even ones.
+-- A readout: three digits of an address, READ OUT, and any number of pairs HOLD, READ OUT. So after the address
+-- READ OUT stands at the odd positions, and HOLD at the even ones.
 unfoldable pub readout_has : ℕ → Key → Bool
-readout_has place key = if nat_lt place 3 then is_octal_digit key else (if place % 2 == 1 then is_readout key else is_hold key)
+readout_has position key = if nat_lt position 3 then is_octal_digit key else (if position % 2 == 1 then is_readout key else is_hold key)
 
 -- the keys are a prefix of a form: each may stand where it does
 unfoldable pub fits : (ℕ → Key → Bool) → List Key → Bool

@@ -39,7 +39,7 @@ abbrev pub is_clr : Key → Bool
 is_clr Clr = true
 is_clr _ = false
 
--- what stands in a place where nothing was keyed: a space on the display, and in a message the number 15
+-- what stands in a column where nothing was keyed: a space on the display, and in a message the number 15
 abbrev pub blank_character : ℕ
 blank_character = 32
 

@@ -7,13 +7,13 @@ use Rattle.ags_deda.specs.Happening.{Happening, Pressed, Shown, Sent, since_clea
 
 -- ---- what was keyed
 
--- the first so many elements, with blanks behind them where they are fewer
+-- the first so many elements, with blanks after them where they are fewer
 unfoldable pub padded : (width blank : ℕ) → List ℕ → List ℕ
 padded zero blank xs = []
 padded (suc width) blank [] = blank ∷ padded width blank []
 padded (suc width) blank (x ∷ xs) = x ∷ padded width blank xs
 
--- keys in nine places, in the order in which they were pressed, each as `spell` says
+-- keys in nine columns, in the order in which they were pressed, each as `spell` says
 unfoldable pub spelled : (spell : Key → ℕ) (blank : ℕ) → List Key → List ℕ
 spelled spell blank keys = padded 9 blank (map spell (reverse keys))
 
@@ -27,12 +27,12 @@ counted (Pressed key ∷ earlier) = counted earlier
 counted (Shown digit ∷ earlier) = if in_readout (keys_of earlier) then digit ∷ counted earlier else counted earlier
 counted (Sent digit ∷ earlier) = counted earlier
 
--- The nine digits, oldest first, of a group that becomes whole with a digit behind these, which stand newest first, and
+-- The nine digits, oldest first, of a group that becomes whole with a digit after these, which stand newest first, and
 -- nothing where none does.
 abbrev pub whole_group : ℕ → List ℕ → Option (List ℕ)
 whole_group digit digits = if (length digits + 1) % 9 == 0 then Some (reverse (take 9 (digit ∷ digits))) else None
 
--- the group that is displayed behind an earlier one: one that became whole while HOLD was not in force, and else the same
+-- the group that is displayed after an earlier one: one that became whole while HOLD was not in force, and else the same
 abbrev pub later_group : (whole : Option (List ℕ)) (held : Bool) (earlier : Option (List ℕ)) → Option (List ℕ)
 later_group None held earlier = earlier
 later_group (Some group) held earlier = if held then earlier else Some group
@@ -45,15 +45,15 @@ group_shown (Shown digit ∷ earlier) =
     if in_readout (keys_of earlier) then later_group (whole_group digit (counted earlier)) (is_held (keys_of earlier)) (group_shown earlier) else group_shown earlier
 group_shown (Sent digit ∷ earlier) = group_shown earlier
 
--- how a digit stands in the place of the sign: 0 is a plus, 1 is a minus, and any other a question mark
+-- how a digit stands in the column of the sign: 0 is a plus, 1 is a minus, and any other a question mark
 abbrev pub sign_character : ℕ → ℕ
 sign_character digit = if digit == 0 then 43 else (if digit == 1 then 45 else 63)
 
--- and in the other places: 0 to 9 as they are, and any other as a question mark
+-- and in the other columns: 0 to 9 as they are, and any other as a question mark
 abbrev pub digit_character : ℕ → ℕ
 digit_character digit = if nat_lt digit 10 then 48 + digit else 63
 
--- a group in the nine places: three of the address, the sign, and five of the value
+-- a group in the nine columns: three of the address, the sign, and five of the value
 abbrev pub group_text : List ℕ → List ℕ
 group_text group =
     digit_character (slice_index group 0) ∷ digit_character (slice_index group 1) ∷ digit_character (slice_index group 2)
@@ -61,10 +61,10 @@ group_text group =
     ∷ digit_character (slice_index group 4) ∷ digit_character (slice_index group 5) ∷ digit_character (slice_index group 6)
     ∷ digit_character (slice_index group 7) ∷ digit_character (slice_index group 8) ∷ []
 
--- the nine places: the last group that was shown, and where there was none the keys
-abbrev pub places_of : Option (List ℕ) → List Key → List ℕ
-places_of (Some group) keys = group_text group
-places_of None keys = spelled key_character blank_character keys
+-- the nine columns: the last group that was shown, and where there was none the keys
+abbrev pub columns_of : Option (List ℕ) → List Key → List ℕ
+columns_of (Some group) keys = group_text group
+columns_of None keys = spelled key_character blank_character keys
 
 -- OPR ERR: an E where it is lit, and else a space
 abbrev pub light_character : (lit : Bool) → ℕ
@@ -74,9 +74,9 @@ light_character lit = if lit then 69 else 32
 abbrev pub is_lit : List Happening → Bool
 is_lit since = not (are_lawful (keys_of since))
 
--- the display: the nine places and the light
+-- the display: the nine columns and the light
 abbrev pub shows : List Happening → List ℕ
-shows since = places_of (group_shown since) (taken (keys_of since)) ++ light_character (is_lit since) ∷ []
+shows since = columns_of (group_shown since) (taken (keys_of since)) ++ light_character (is_lit since) ∷ []
 
 -- ---- what is to be sent
 
@@ -104,10 +104,10 @@ unsent happenings = left (since_clear happenings)
 
 -- ---- words for the laws
 
--- these keys are pressed, in this order, behind what happened before
+-- these keys are pressed, in this order, after what happened before
 abbrev pub pressing : List Key → List Happening → List Happening
 pressing keys earlier = reverse (map Pressed keys) ++ earlier
 
--- these digits are shown, in this order, behind what happened before
+-- these digits are shown, in this order, after what happened before
 abbrev pub showing : List ℕ → List Happening → List Happening
 showing digits earlier = reverse (map Shown digits) ++ earlier

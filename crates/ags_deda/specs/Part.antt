@@ -20,7 +20,7 @@ pub record IsKeyed (keyed : Keyed) (keys : List Key) : Type 0 where
   pub characters : keyed.characters ≡ spelled key_character blank_character keys
   pub digits : keyed.digits ≡ spelled key_digit blank_digit keys
 
--- the digits behind the last whole group of these, which stand newest first, are the front of this one
+-- the digits after the last whole group of these, which stand newest first, are the front of this one
 pub record IsFilling (group : Group) (digits : List ℕ) : Type 0 where
   pub filled : group.filled ≡ length digits % 9
   pub front : take (length digits % 9) group.digits ≡ reverse (take (length digits % 9) digits)

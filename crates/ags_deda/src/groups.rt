@@ -4,13 +4,13 @@ ghost use Rattle.std.specs.Prelude.{◌≡◌, ℕ, List, [], ◌∷◌};
 ghost use Rattle.ags_deda.specs.Panel.{whole_group};
 ghost use Rattle.ags_deda.specs.Part.{IsFilling};
 
-use crate::keyed::PLACES;
+use crate::keyed::COLUMNS;
 
 /// A group that is filled digit by digit.
 #[derive(Clone, Copy)]
 pub(crate) struct Group {
-    /// Its digits, and behind them those of the group before it.
-    digits: [u8; PLACES],
+    /// Its digits, and after them those of the group before it.
+    digits: [u8; COLUMNS],
     /// How many of them are there.
     filled: u8,
 }
@@ -21,21 +21,21 @@ impl Group {
         ensures { IsFilling result [] }
     {
         Group {
-            digits: [0; PLACES],
+            digits: [0; COLUMNS],
             filled: 0,
         }
     }
 
     /// Puts a digit into the group. The whole group comes with its ninth, and the next digit begins another.
-    pub(crate) fn push(&mut self, digit: u8) -> Option<[u8; PLACES]>
+    pub(crate) fn push(&mut self, digit: u8) -> Option<[u8; COLUMNS]>
         ensures filling { (digits : List ℕ) → IsFilling self.old digits → IsFilling self.new (digit ∷ digits) }
         ensures whole { (digits : List ℕ) → IsFilling self.old digits
             → result ≡ whole_group digit digits }
     {
-        let place = self.filled as usize % PLACES;
-        self.digits[place] = digit;
-        if place + 1 < PLACES {
-            self.filled = place as u8 + 1;
+        let column = self.filled as usize % COLUMNS;
+        self.digits[column] = digit;
+        if column + 1 < COLUMNS {
+            self.filled = column as u8 + 1;
             return None;
         }
         self.filled = 0;

@@ -6,16 +6,16 @@ ghost use Rattle.ags_deda.specs.Part.{IsKeyed};
 
 use crate::keys::{Key, character, digit};
 
-/// The places of the display and of a message.
-pub(crate) const PLACES: usize = 9;
+/// The columns of the display and of a message.
+pub(crate) const COLUMNS: usize = 9;
 
-/// The keys that were taken, in their places.
+/// The keys that were taken, in their columns.
 #[derive(Clone, Copy)]
 pub(crate) struct Keyed {
     /// Their characters, and a space where there is none.
-    pub(crate) characters: [u8; PLACES],
+    pub(crate) characters: [u8; COLUMNS],
     /// Their digits, and 15 where there is none.
-    pub(crate) digits: [u8; PLACES],
+    pub(crate) digits: [u8; COLUMNS],
 }
 
 impl Keyed {
@@ -25,19 +25,19 @@ impl Keyed {
         ensures { IsKeyed result [] }
     {
         Keyed {
-            characters: [b' '; PLACES],
-            digits: [15; PLACES],
+            characters: [b' '; COLUMNS],
+            digits: [15; COLUMNS],
         }
     }
 
-    /// Puts a key behind so many others, up to ten.
-    pub(crate) fn write(&mut self, place: u8, key: Key)
-        ensures { (keys : List Key) → place ≡ min (length keys) 10 → IsKeyed self.old keys → IsKeyed self.new (key ∷ keys) }
+    /// Puts a key after so many others, up to ten.
+    pub(crate) fn write(&mut self, column: u8, key: Key)
+        ensures { (keys : List Key) → column ≡ min (length keys) 10 → IsKeyed self.old keys → IsKeyed self.new (key ∷ keys) }
     {
-        let place = place as usize;
-        if place < PLACES {
-            self.characters[place] = character(key);
-            self.digits[place] = digit(key);
+        let column = column as usize;
+        if column < COLUMNS {
+            self.characters[column] = character(key);
+            self.digits[column] = digit(key);
         }
     }
 }

@@ -24,30 +24,30 @@ pub(crate) struct Keying {
     pub(crate) held: bool,
 }
 
-/// Whether a key may stand behind so many of an entry.
+/// Whether a key may stand after so many of an entry.
 #[tactic(auto, unfolding(crate::specs::Form::entry_has))]
-fn entry_has(place: u8, key: Key) -> bool
-    ensures { result ≡ entry_has place key }
+fn entry_has(position: u8, key: Key) -> bool
+    ensures { result ≡ entry_has position key }
 {
-    if place < 3 {
+    if position < 3 {
         is_octal_digit(key)
-    } else if place == 3 {
+    } else if position == 3 {
         is_sign(key)
-    } else if place < 9 {
+    } else if position < 9 {
         is_decimal_digit(key)
     } else {
-        place == 9 && is_entr(key)
+        position == 9 && is_entr(key)
     }
 }
 
-/// Whether a key may stand behind so many of a readout, up to ten, where HOLD is in force or not.
-fn readout_has(place: u8, held: bool, key: Key) -> bool
-    ensures { (keys : List Key) → fits readout_has keys ≡ true → place ≡ min (length keys) 10 → held ≡ is_held keys
+/// Whether a key may stand after so many of a readout, up to ten, where HOLD is in force or not.
+fn readout_has(position: u8, held: bool, key: Key) -> bool
+    ensures { (keys : List Key) → fits readout_has keys ≡ true → position ≡ min (length keys) 10 → held ≡ is_held keys
         → result ≡ readout_has (length keys) key }
 {
-    if place < 3 {
+    if position < 3 {
         is_octal_digit(key)
-    } else if place == 3 || held {
+    } else if position == 3 || held {
         is_readout(key)
     } else {
         is_hold(key)

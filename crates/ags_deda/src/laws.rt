@@ -6,7 +6,7 @@ ghost use Rattle.ags_deda.specs.declared.keys.Key.TheVariants as key;
 ghost use Rattle.ags_deda.specs.Key.{is_clr, is_sign, key_digit, key_character};
 ghost use Rattle.ags_deda.specs.Form.{are_lawful, taken, in_readout, is_held};
 ghost use Rattle.ags_deda.specs.Happening.{Happening, Pressed, Shown, since_clear, keys_of};
-ghost use Rattle.ags_deda.specs.Panel.{counted, group_shown, places_of, group_text, text, unsent, pressing, showing};
+ghost use Rattle.ags_deda.specs.Panel.{counted, group_shown, columns_of, group_text, text, unsent, pressing, showing};
 
 /// CLR blanks the display, puts the light out, and drops what was left to be sent.
 pub fn clr_begins_anew()
@@ -14,11 +14,11 @@ pub fn clr_begins_anew()
     ensures unsent { (happenings : List Happening) → unsent (Pressed key.Clr ∷ happenings) ≡ [] }
 {}
 
-/// The first key that makes the keys unlawful, and each one behind it but CLR, leaves the nine places as they were, with
+/// The first key that makes the keys unlawful, and each one after it but CLR, leaves the nine columns as they were, with
 /// OPR ERR lit and nothing to be sent. No key makes unlawful keys lawful again.
 pub fn wrong_keys_light_the_light()
     ensures text { (pressed : Key) (happenings : List Happening) → is_clr pressed ≡ false → are_lawful (pressed ∷ keys_of (since_clear happenings)) ≡ false
-        → text (Pressed pressed ∷ happenings) ≡ places_of (group_shown (since_clear happenings)) (taken (keys_of (since_clear happenings))) ++ 69 ∷ [] }
+        → text (Pressed pressed ∷ happenings) ≡ columns_of (group_shown (since_clear happenings)) (taken (keys_of (since_clear happenings))) ++ 69 ∷ [] }
     ensures unsent { (pressed : Key) (happenings : List Happening) → is_clr pressed ≡ false → are_lawful (pressed ∷ keys_of (since_clear happenings)) ≡ false
         → unsent (Pressed pressed ∷ happenings) ≡ [] }
     ensures stay { (pressed : Key) (keys : List Key) → are_lawful keys ≡ false → are_lawful (pressed ∷ keys) ≡ false }
@@ -40,8 +40,8 @@ pub fn readouts_send_their_address()
         → unsent (pressing (key.Clr ∷ key.Digit a ∷ key.Digit b ∷ key.Digit c ∷ key.ReadOut ∷ []) happenings) ≡ a ∷ b ∷ c ∷ replicate 6 15 }
 {}
 
-/// Nine digits that are shown in a readout behind whole groups, while HOLD is not in force, are displayed, each in its
-/// place.
+/// Nine digits that are shown in a readout after whole groups, while HOLD is not in force, are displayed, each in its
+/// column.
 pub fn groups_are_displayed()
     ensures { (a b c s d e f g h : ℕ) (happenings : List Happening) → in_readout (keys_of (since_clear happenings)) ≡ true → is_held (keys_of (since_clear happenings)) ≡ false
         → length (counted (since_clear happenings)) % 9 ≡ 0

@@ -5,11 +5,11 @@ ghost use Rattle.ags_deda.specs.Key.{is_clr};
 ghost use Rattle.ags_deda.specs.declared.keys.Key.{Key};
 ghost use Rattle.ags_deda.specs.Happening.{Happening, Pressed, Shown, Sent, keys_of};
 ghost use Rattle.ags_deda.specs.Form.{taken, in_readout};
-ghost use Rattle.ags_deda.specs.Panel.{text, unsent, is_lit, is_whole, group_shown, places_of, later_group, sign_character, digit_character, group_text, light_character};
+ghost use Rattle.ags_deda.specs.Panel.{text, unsent, is_lit, is_whole, group_shown, columns_of, later_group, sign_character, digit_character, group_text, light_character};
 ghost use Rattle.ags_deda.specs.Standing.{StandsFor, StandsSince};
 
 use crate::groups::Group;
-use crate::keyed::{Keyed, PLACES};
+use crate::keyed::{COLUMNS, Keyed};
 use crate::keyings::Keying;
 use crate::keys::{Key, is_clr};
 
@@ -37,10 +37,10 @@ pub struct Panel {
     /// The group that a readout's digits fill.
     group: Group,
     /// The last group that was displayed.
-    shown: Option<[u8; PLACES]>,
+    shown: Option<[u8; COLUMNS]>,
 }
 
-/// How a digit of a group stands in the place of the sign.
+/// How a digit of a group stands in the column of the sign.
 fn sign_character(digit: u8) -> u8
     ensures { result ≡ sign_character digit }
 {
@@ -51,15 +51,15 @@ fn sign_character(digit: u8) -> u8
     }
 }
 
-/// How a digit of a group stands in any other place.
+/// How a digit of a group stands in any other column.
 fn digit_character(digit: u8) -> u8
     ensures { result ≡ digit_character digit }
 {
     if digit < 10 { b'0' + digit } else { b'?' }
 }
 
-/// A group in the nine places.
-fn group_text(group: [u8; PLACES]) -> [u8; PLACES]
+/// A group in the nine columns.
+fn group_text(group: [u8; COLUMNS]) -> [u8; COLUMNS]
     ensures { result ≡ group_text group }
 {
     [
@@ -75,9 +75,9 @@ fn group_text(group: [u8; PLACES]) -> [u8; PLACES]
     ]
 }
 
-/// The nine places and a tenth byte.
-fn with_tenth(places: [u8; PLACES], tenth: u8) -> [u8; 10]
-    ensures { result ≡ places ++ tenth ∷ [] }
+/// The nine columns and a tenth byte.
+fn with_tenth(columns: [u8; COLUMNS], tenth: u8) -> [u8; 10]
+    ensures { result ≡ columns ++ tenth ∷ [] }
 {
     let [
         first,
@@ -89,7 +89,7 @@ fn with_tenth(places: [u8; PLACES], tenth: u8) -> [u8; 10]
         sixth,
         seventh,
         eighth,
-    ] = places;
+    ] = columns;
     [
         first, second, third, sign, fourth, fifth, sixth, seventh, eighth, tenth,
     ]
@@ -104,10 +104,10 @@ fn light_character(lit: bool) -> u8
 
 /// The last group that is displayed, once a further digit was shown, which made a group whole or none.
 fn later_group(
-    whole: Option<[u8; PLACES]>,
+    whole: Option<[u8; COLUMNS]>,
     held: bool,
-    shown: Option<[u8; PLACES]>,
-) -> Option<[u8; PLACES]>
+    shown: Option<[u8; COLUMNS]>,
+) -> Option<[u8; COLUMNS]>
     ensures { result ≡ later_group whole held shown }
 {
     match whole {
@@ -164,9 +164,9 @@ impl Panel {
         self.take(key);
     }
 
-    /// The nine places of the display.
-    fn places(&self) -> [u8; PLACES]
-        ensures { (since : List Happening) → StandsSince self.now since → result ≡ places_of (group_shown since) (taken (keys_of since)) }
+    /// The nine columns of the display.
+    fn columns(&self) -> [u8; COLUMNS]
+        ensures { (since : List Happening) → StandsSince self.now since → result ≡ columns_of (group_shown since) (taken (keys_of since)) }
     {
         match self.shown {
             Some(group) => group_text(group),
@@ -175,12 +175,12 @@ impl Panel {
     }
 
     /// The display: three characters of the address, the sign, five characters of the value, and an `E` where OPR ERR is
-    /// lit. A place without a character is a space.
+    /// lit. A column without a character is a space.
     #[tactic(auto, unfolding(crate::specs::Panel::text, crate::specs::Standing::StandsFor))]
     pub fn text(&self) -> [u8; 10]
         ensures { (happenings : List Happening) → StandsFor self.now happenings → result ≡ text happenings }
     {
-        with_tenth(self.places(), light_character(self.light))
+        with_tenth(self.columns(), light_character(self.light))
     }
 
     /// Whether the keys make a message.
@@ -200,12 +200,12 @@ impl Panel {
         if !self.has_message() {
             return None;
         }
-        let place = self.sent as usize;
-        if place >= PLACES {
+        let column = self.sent as usize;
+        if column >= COLUMNS {
             return None;
         }
         self.sent += 1;
-        Some(self.keyed.digits[place])
+        Some(self.keyed.digits[column])
     }
 
     /// Whether the panel is in a readout, so that shown digits count.

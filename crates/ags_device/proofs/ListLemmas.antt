@@ -9,10 +9,10 @@ use Rattle.std.specs.Prelude.{Option, Some, slice_get}
 use Rattle.ags_device.specs.Record.{DeviceRecord}
 use Rattle.ags_device.specs.Devices.{changed_at, without, hearing, heard_below, all_heard}
 
--- ---- the image of the member at a place
+-- ---- the image of the member at a position
 
-pub get_mapped : {A B : Type 0} (f : A → B) (xs : List A) (place : ℕ) (x : A) → place < length xs → x ≡ get_or xs place x → slice_get (map f xs) place ≡ Some (f x)
-get_mapped f xs place x below found = slice_get-map f xs place ∙ ap (λ o. option_map f o) (slice_get_read xs (length xs) place x refl below found)
+pub get_mapped : {A B : Type 0} (f : A → B) (xs : List A) (position : ℕ) (x : A) → position < length xs → x ≡ get_or xs position x → slice_get (map f xs) position ≡ Some (f x)
+get_mapped f xs position x below found = slice_get-map f xs position ∙ ap (λ o. option_map f o) (slice_get_read xs (length xs) position x refl below found)
 
 pub some_there : {A : Type 0} (o : Option A) (d : A) → o ≡ Some d → IsSome o
 some_there {A} o d e = let P : Option A → Type 0 = λ p. IsSome p in subst P (sym e) refl
@@ -20,40 +20,40 @@ some_there {A} o d e = let P : Option A → Type 0 = λ p. IsSome p in subst P (
 -- ---- one member is changed
 
 -- a member x is replaced by y, whose image is that of x changed
-pub map_set_at : {A B : Type 0} (f : A → B) (h : B → B) (xs : List A) (place : ℕ) (x y : A) → place < length xs → x ≡ get_or xs place x → f y ≡ h (f x) → map f (set xs place y) ≡ changed_at h (map f xs) place
-map_set_at f h [] place x y below found e = grind arith
+pub map_set_at : {A B : Type 0} (f : A → B) (h : B → B) (xs : List A) (position : ℕ) (x y : A) → position < length xs → x ≡ get_or xs position x → f y ≡ h (f x) → map f (set xs position y) ≡ changed_at h (map f xs) position
+map_set_at f h [] position x y below found e = grind arith
 map_set_at f h (z ∷ xs) zero x y below found e = ap (λ w. w ∷ map f xs) (e ∙ ap (λ w. h (f w)) found)
-map_set_at f h (z ∷ xs) (suc place) x y below found e = ap (λ ys. f z ∷ ys) (map_set_at f h xs place x y (grind arith) found e)
+map_set_at f h (z ∷ xs) (suc position) x y below found e = ap (λ ys. f z ∷ ys) (map_set_at f h xs position x y (grind arith) found e)
 
 -- a member is replaced by one with the same image
-pub map_set_same : {A B : Type 0} (f : A → B) (xs : List A) (place : ℕ) (x y : A) → place < length xs → x ≡ get_or xs place x → f y ≡ f x → map f (set xs place y) ≡ map f xs
-map_set_same f [] place x y below found e = grind arith
+pub map_set_same : {A B : Type 0} (f : A → B) (xs : List A) (position : ℕ) (x y : A) → position < length xs → x ≡ get_or xs position x → f y ≡ f x → map f (set xs position y) ≡ map f xs
+map_set_same f [] position x y below found e = grind arith
 map_set_same f (z ∷ xs) zero x y below found e = ap (λ w. w ∷ map f xs) (e ∙ ap (λ w. f w) found)
-map_set_same f (z ∷ xs) (suc place) x y below found e = ap (λ ys. f z ∷ ys) (map_set_same f xs place x y (grind arith) found e)
+map_set_same f (z ∷ xs) (suc position) x y below found e = ap (λ ys. f z ∷ ys) (map_set_same f xs position x y (grind arith) found e)
 
 -- ---- one member leaves
 
-map_removed : {A B : Type 0} (f : A → B) (xs : List A) (place : ℕ) → map f (remove xs place) ≡ without (map f xs) place
+map_removed : {A B : Type 0} (f : A → B) (xs : List A) (position : ℕ) → map f (remove xs position) ≡ without (map f xs) position
 map_removed f [] zero = refl
-map_removed f [] (suc place) = refl
+map_removed f [] (suc position) = refl
 map_removed f (x ∷ xs) zero = refl
-map_removed f (x ∷ xs) (suc place) = ap (λ ys. f x ∷ ys) (map_removed f xs place)
+map_removed f (x ∷ xs) (suc position) = ap (λ ys. f x ∷ ys) (map_removed f xs position)
 
 -- the same, of a list that the code made
-pub map_removed_to : {A B : Type 0} (f : A → B) (xs ys : List A) (place : ℕ) → ys ≡ remove xs place → map f ys ≡ without (map f xs) place
-map_removed_to f xs ys place e = ap (λ zs. map f zs) e ∙ map_removed f xs place
+pub map_removed_to : {A B : Type 0} (f : A → B) (xs ys : List A) (position : ℕ) → ys ≡ remove xs position → map f ys ≡ without (map f xs) position
+map_removed_to f xs ys position e = ap (λ zs. map f zs) e ∙ map_removed f xs position
 
 -- ---- a word is heard, by one device after another
 
-heard_one_more : (address word place : ℕ) (devices : List DeviceRecord) → changed_at (hearing address word) (heard_below address word place devices) place ≡ heard_below address word (suc place) devices
+heard_one_more : (address word position : ℕ) (devices : List DeviceRecord) → changed_at (hearing address word) (heard_below address word position devices) position ≡ heard_below address word (suc position) devices
 heard_one_more address word zero [] = refl
 heard_one_more address word zero (d ∷ devices) = refl
-heard_one_more address word (suc place) [] = refl
-heard_one_more address word (suc place) (d ∷ devices) = ap (λ ys. hearing address word d ∷ ys) (heard_one_more address word place devices)
+heard_one_more address word (suc position) [] = refl
+heard_one_more address word (suc position) (d ∷ devices) = ap (λ ys. hearing address word d ∷ ys) (heard_one_more address word position devices)
 
-pub heard_on : (address word place : ℕ) (devices now next : List DeviceRecord) → now ≡ heard_below address word place devices → next ≡ changed_at (hearing address word) now place → next ≡ heard_below address word (place + 1) devices
-heard_on address word place devices now next e f =
-    f ∙ ap (λ ds. changed_at (hearing address word) ds place) e ∙ heard_one_more address word place devices ∙ ap (λ n. heard_below address word n devices) (sym (add-one place))
+pub heard_on : (address word position : ℕ) (devices now next : List DeviceRecord) → now ≡ heard_below address word position devices → next ≡ changed_at (hearing address word) now position → next ≡ heard_below address word (position + 1) devices
+heard_on address word position devices now next e f =
+    f ∙ ap (λ ds. changed_at (hearing address word) ds position) e ∙ heard_one_more address word position devices ∙ ap (λ n. heard_below address word n devices) (sym (add-one position))
 
 heard_past_all : (address word count : ℕ) (devices : List DeviceRecord) → length devices ≤ count → heard_below address word count devices ≡ all_heard address word devices
 heard_past_all address word zero [] within = refl

@@ -2,7 +2,7 @@
 use Rattle.std.specs.Prelude.{◌≡◌, ℕ, zero, suc, ◌<◌, Bool, false, ◌==◌, List, [], ◌∷◌, length, map, Option, Some, None, if◌then◌else◌}
 use Rattle.ags_device.specs.Record.{DeviceRecord, having_heard}
 
--- ---- the meanings of the device at a place, where there is one
+-- ---- the meanings of the device at a position, where there is one
 
 -- the address that it feeds
 abbrev pub feeds_of : Option DeviceRecord → Option ℕ
@@ -26,17 +26,17 @@ kept_of (Some d) = d.kept
 
 -- ---- changes of the list
 
--- the list with the member at a place changed
-abbrev pub changed_at : {A : Type 0} → (A → A) → List A → (place : ℕ) → List A
-changed_at f [] place = []
+-- the list with the member at a position changed
+abbrev pub changed_at : {A : Type 0} → (A → A) → List A → (position : ℕ) → List A
+changed_at f [] position = []
 changed_at f (d ∷ devices) zero = f d ∷ devices
-changed_at f (d ∷ devices) (suc place) = d ∷ changed_at f devices place
+changed_at f (d ∷ devices) (suc position) = d ∷ changed_at f devices position
 
--- the list without the member at a place
-abbrev pub without : {A : Type 0} → List A → (place : ℕ) → List A
-without [] place = []
+-- the list without the member at a position
+abbrev pub without : {A : Type 0} → List A → (position : ℕ) → List A
+without [] position = []
 without (d ∷ devices) zero = devices
-without (d ∷ devices) (suc place) = d ∷ without devices place
+without (d ∷ devices) (suc position) = d ∷ without devices position
 
 -- whether a device with this address to hear hears what is given to an address
 abbrev pub is_heard : (hears : Option ℕ) → (address : ℕ) → Bool

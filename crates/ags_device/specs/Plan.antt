@@ -2,15 +2,15 @@
 use Rattle.std.specs.Prelude.{ℕ, zero, suc, ◌+◌, List, [], ◌∷◌, pos, ◌+ℤ◌, ◌*ℤ◌}
 use Rattle.ags_word.specs.Word.{val, wrap}
 
--- the reading of a ramp at a place, which counts from 0: the word that is left of the first value and so many times the value
+-- the reading of a ramp at a position, which counts from 0: the word that is left of the first value and so many times the value
 -- by which it goes on
-abbrev pub reading : (first by place : ℕ) → ℕ
-reading first by place = wrap (val first +ℤ pos place *ℤ val by)
+abbrev pub reading : (first by position : ℕ) → ℕ
+reading first by position = wrap (val first +ℤ pos position *ℤ val by)
 
--- so many readings of a ramp, from a place on
-abbrev pub readings : (first by place count : ℕ) → List ℕ
-readings first by place zero = []
-readings first by place (suc more) = reading first by place ∷ readings first by (place + 1) more
+-- so many readings of a ramp, from a position on
+abbrev pub readings : (first by position count : ℕ) → List ℕ
+readings first by position zero = []
+readings first by position (suc more) = reading first by position ∷ readings first by (position + 1) more
 
 -- the word that a pad gives for a digit
 abbrev pub digit_word : (digit : ℕ) → ℕ

@@ -11,76 +11,76 @@ use crate::Device;
 use ags_word::Word;
 use std::alloc::AllocError;
 
-/// The address of the input register that the device at a place feeds.
-pub fn feeds_at(devices: &Vec<Box<dyn Device>>, place: usize) -> Option<u16>
-    requires { place < length devices.now.items }
-    ensures feeds { result ≡ feeds_of (slice_get (map record_of devices.now.items) place) }
-    ensures some { IsSome (slice_get (map record_of devices.now.items) place) }
+/// The address of the input register that the device at a position feeds.
+pub fn feeds_at(devices: &Vec<Box<dyn Device>>, position: usize) -> Option<u16>
+    requires { position < length devices.now.items }
+    ensures feeds { result ≡ feeds_of (slice_get (map record_of devices.now.items) position) }
+    ensures some { IsSome (slice_get (map record_of devices.now.items) position) }
 {
-    feeds(&devices[place])
+    feeds(&devices[position])
 }
 
-/// The address of the output register that the device at a place hears.
-pub fn hears_at(devices: &Vec<Box<dyn Device>>, place: usize) -> Option<u16>
-    requires { place < length devices.now.items }
-    ensures hears { result ≡ hears_of (slice_get (map record_of devices.now.items) place) }
-    ensures some { IsSome (slice_get (map record_of devices.now.items) place) }
+/// The address of the output register that the device at a position hears.
+pub fn hears_at(devices: &Vec<Box<dyn Device>>, position: usize) -> Option<u16>
+    requires { position < length devices.now.items }
+    ensures hears { result ≡ hears_of (slice_get (map record_of devices.now.items) position) }
+    ensures some { IsSome (slice_get (map record_of devices.now.items) position) }
 {
-    hears(&devices[place])
+    hears(&devices[position])
 }
 
-/// How many words the device at a place will still give.
-pub fn left_at(devices: &Vec<Box<dyn Device>>, place: usize) -> u64
-    requires { place < length devices.now.items }
-    ensures left { result ≡ length (plan_of (slice_get (map record_of devices.now.items) place)) }
-    ensures some { IsSome (slice_get (map record_of devices.now.items) place) }
+/// How many words the device at a position will still give.
+pub fn left_at(devices: &Vec<Box<dyn Device>>, position: usize) -> u64
+    requires { position < length devices.now.items }
+    ensures left { result ≡ length (plan_of (slice_get (map record_of devices.now.items) position)) }
+    ensures some { IsSome (slice_get (map record_of devices.now.items) position) }
 {
-    left(&devices[place])
+    left(&devices[position])
 }
 
-/// How many words the device at a place has heard.
-pub fn count_at(devices: &Vec<Box<dyn Device>>, place: usize) -> u64
-    requires { place < length devices.now.items }
-    ensures count { result ≡ length (kept_of (slice_get (map record_of devices.now.items) place)) }
-    ensures some { IsSome (slice_get (map record_of devices.now.items) place) }
+/// How many words the device at a position has heard.
+pub fn count_at(devices: &Vec<Box<dyn Device>>, position: usize) -> u64
+    requires { position < length devices.now.items }
+    ensures count { result ≡ length (kept_of (slice_get (map record_of devices.now.items) position)) }
+    ensures some { IsSome (slice_get (map record_of devices.now.items) position) }
 {
-    count(&devices[place])
+    count(&devices[position])
 }
 
-/// The last word that the device at a place has heard.
-pub fn last_at(devices: &Vec<Box<dyn Device>>, place: usize) -> Option<Word>
-    requires { place < length devices.now.items }
-    ensures last { result ≡ last_of (kept_of (slice_get (map record_of devices.now.items) place)) }
-    ensures some { IsSome (slice_get (map record_of devices.now.items) place) }
+/// The last word that the device at a position has heard.
+pub fn last_at(devices: &Vec<Box<dyn Device>>, position: usize) -> Option<Word>
+    requires { position < length devices.now.items }
+    ensures last { result ≡ last_of (kept_of (slice_get (map record_of devices.now.items) position)) }
+    ensures some { IsSome (slice_get (map record_of devices.now.items) position) }
 {
-    last(&devices[place])
+    last(&devices[position])
 }
 
-/// The next word of the device at a place, which leaves its plan.
-pub fn next_at(devices: &mut Vec<Box<dyn Device>>, place: usize) -> Option<Word>
-    requires { place < length devices.old.items }
-    ensures word { result ≡ first_of (plan_of (slice_get (map record_of devices.old.items) place)) }
+/// The next word of the device at a position, which leaves its plan.
+pub fn next_at(devices: &mut Vec<Box<dyn Device>>, position: usize) -> Option<Word>
+    requires { position < length devices.old.items }
+    ensures word { result ≡ first_of (plan_of (slice_get (map record_of devices.old.items) position)) }
     ensures below { IfSome result (λ word. word < 2 ^ 18) }
-    ensures rest { map record_of devices.new.items ≡ changed_at given (map record_of devices.old.items) place }
+    ensures rest { map record_of devices.new.items ≡ changed_at given (map record_of devices.old.items) position }
     ensures length { length devices.new.items ≡ length devices.old.items }
 {
-    next(&mut devices[place])
+    next(&mut devices[position])
 }
 
-/// The device at a place hears a word that was given to an address, where it hears that address. After want of memory nothing is
+/// The device at a position hears a word that was given to an address, where it hears that address. After want of memory nothing is
 /// changed.
 pub fn hear_at(
     devices: &mut Vec<Box<dyn Device>>,
-    place: usize,
+    position: usize,
     address: u16,
     word: Word,
 ) -> Result<(), AllocError>
-    requires { place < length devices.old.items }
-    ensures heard { OnOk result (map record_of devices.new.items ≡ changed_at (hearing address word) (map record_of devices.old.items) place) }
+    requires { position < length devices.old.items }
+    ensures heard { OnOk result (map record_of devices.new.items ≡ changed_at (hearing address word) (map record_of devices.old.items) position) }
     ensures same { OnErr result (map record_of devices.new.items ≡ map record_of devices.old.items) }
     ensures length { length devices.new.items ≡ length devices.old.items }
 {
-    hear(&mut devices[place], address, word)
+    hear(&mut devices[position], address, word)
 }
 
 /// Each device that hears an address hears a word that was given to it, in order; the count is that of the devices. After want
@@ -96,18 +96,18 @@ pub fn hear_all(
     ensures part { OnErr result (IsHeardInPart address word (map record_of devices.old.items) (map record_of devices.new.items)) }
     ensures length { length devices.new.items ≡ length devices.old.items }
 {
-    for place in 0..count {
-        hear_at(devices, place, address, word)?;
+    for position in 0..count {
+        hear_at(devices, position, address, word)?;
     }
     Ok(())
 }
 
-/// Takes the device at a place out of the list, which closes up, and drops it.
-pub fn remove_at(devices: &mut Vec<Box<dyn Device>>, place: usize)
-    requires { place < length devices.old.items }
-    ensures { map record_of devices.new.items ≡ without (map record_of devices.old.items) place }
+/// Takes the device at a position out of the list, which closes up, and drops it.
+pub fn remove_at(devices: &mut Vec<Box<dyn Device>>, position: usize)
+    requires { position < length devices.old.items }
+    ensures { map record_of devices.new.items ≡ without (map record_of devices.old.items) position }
 {
-    drop(devices.remove(place));
+    drop(devices.remove(position));
 }
 
 /// The address of the input register that a device feeds.

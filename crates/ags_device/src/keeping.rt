@@ -13,7 +13,7 @@ pub(crate) fn last_word(words: &[Word]) -> Option<Word>
     words.last().copied()
 }
 
-/// Puts a word behind the others.
+/// Puts a word after the others.
 pub(crate) fn keep(words: &mut Vec<Word>, word: Word) -> Result<(), AllocError>
     ensures kept { OnOk result (words.new.items ≡ words.old.items ++ word ∷ []) }
     ensures same { OnErr result (words.new.items ≡ words.old.items) }

@@ -1,4 +1,4 @@
-//! What the definitions mean. Each law is what a function that does nothing ensures, so that it is proved with the crate. Behind
+//! What the definitions mean. Each law is what a function that does nothing ensures, so that it is proved with the crate. After
 //! each clause is a lemma of `proofs/PlanLemmas` or `proofs/ListLemmas`, which the crates above cite.
 
 ghost use Rattle.std.specs.Prelude.{◌≡◌, ℕ, ◌<◌, ◌^◌, List, [], ◌∷◌, ◌++◌, pos, ◌+ℤ◌, ◌*ℤ◌, Some, length, slice_get};
@@ -18,12 +18,12 @@ pub fn addresses_never_change()
     ensures hear_plan { (d : DeviceRecord) (word : ℕ) → (having_heard d word).plan ≡ d.plan }
 {}
 
-/// The plan of a new sensor has as many words as its count says; the one at a place, counted from 0, is what is left of the first
+/// The plan of a new sensor has as many words as its count says; the one at a position, counted from 0, is what is left of the first
 /// value and so many times the value by which it goes on; and each is a word.
 pub fn sensor_ramps()
     ensures count { (first by count : ℕ) → length (readings first by 0 count) ≡ count }
-    ensures word { (first by count place : ℕ) → place < count
-        → slice_get (readings first by 0 count) place ≡ Some (wrap (val first +ℤ pos place *ℤ val by)) }
+    ensures word { (first by count position : ℕ) → position < count
+        → slice_get (readings first by 0 count) position ≡ Some (wrap (val first +ℤ pos position *ℤ val by)) }
     ensures below { (first by count : ℕ) → All (λ word. word < 2 ^ 18) (readings first by 0 count) }
 {}
 

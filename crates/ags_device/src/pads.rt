@@ -1,7 +1,7 @@
 //! A device that gives digits, and keeps what it hears.
 
-ghost use Rattle.std.specs.Prelude.{◌≡◌, ◌↔◌, ◌≤◌, ◌<◌, [], Some, None, IsSome, IsNone, IsTrue, IfSome, map};
-ghost use Rattle.std.specs.List.{All, Any};
+ghost use Rattle.std.specs.Prelude.{◌≡◌, ◌↔◌, ◌≤◌, ◌<◌, [], Some, None, IsNone, IsTrue, IfSome, map};
+ghost use Rattle.std.specs.List.{Any};
 ghost use Rattle.ags_device.specs.Plan.{digit_word};
 
 use crate::Device;

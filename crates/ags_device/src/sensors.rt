@@ -51,11 +51,11 @@ impl Sensor {
     }
 }
 
-/// The reading at a place.
-fn reading_at(first: Word, by: Word, place: u32) -> Word
-    ensures { result ≡ reading first by place }
+/// The reading at a position.
+fn reading_at(first: Word, by: Word, position: u32) -> Word
+    ensures { result ≡ reading first by position }
 {
-    wrapped(i64::from(first.value()) + rise(place, by.value()))
+    wrapped(i64::from(first.value()) + rise(position, by.value()))
 }
 
 /// The word that is left of a whole number.
@@ -66,15 +66,15 @@ fn wrapped(value: i64) -> Word
     Word::of(value.rem_euclid(WORDS) as u32).unwrap()
 }
 
-/// How much the ramp rises up to a place.
-fn rise(place: u32, step: i32) -> i64
+/// How much the ramp rises up to a position.
+fn rise(position: u32, step: i32) -> i64
     requires least { neg_ℤ (pos (2 ^ 17)) ≤ℤ step }
     requires most { step <ℤ pos (2 ^ 17) }
-    ensures same { result ≡ pos place *ℤ step }
+    ensures same { result ≡ pos position *ℤ step }
     ensures least { neg_ℤ (pos (2 ^ 49)) ≤ℤ result }
     ensures most { result ≤ℤ pos (2 ^ 49) }
 {
-    i64::from(place) * i64::from(step)
+    i64::from(position) * i64::from(step)
 }
 
 impl Device for Sensor {

@@ -1,6 +1,6 @@
--- From the exact number behind an operation to its hull: where each number lies between those of two corners that don't overflow,
+-- From the exact number after an operation to its hull: where each number lies between those of two corners that don't overflow,
 -- nothing overflows, and the ends are those of the corners.
-use Rattle.std.proofs.Common.{◌≡◌, ℕ, ◌<◌, ◌^◌, Bool, true, false, refl, sym, ap, ◌∙◌, subst, ◌⊎◌, inl, inr, ⊎_elim, arith, ℤ, ◌≤ℤ◌, List, [], ◌∷◌}
+use Rattle.std.proofs.Common.{◌≡◌, ℕ, ◌<◌, ◌^◌, Bool, true, false, refl, sym, ap, ◌∙◌, subst, ◌⊎◌, inl, ⊎_elim, arith, ℤ, ◌≤ℤ◌, List, [], ◌∷◌}
 use Rattle.std.specs.Prelude.{not, Some, Result, Ok, Err, if◌then◌else◌}
 use Rattle.std.specs.List.{find}
 use Rattle.std.proofs.lemmas.Int.{ints}

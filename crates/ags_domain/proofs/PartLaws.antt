@@ -1,22 +1,18 @@
 -- Parts of a range, joins of two, and the order of its words by number.
-use Rattle.std.proofs.Common.{◌≡◌, ℕ, ◌-◌, ◌<◌, ◌≤◌, ◌^◌, Bool, true, false, refl, sym, ap, ◌∙◌, subst, arith, pos, negsuc, ℤ, ◌≤ℤ◌, ◌<ℤ◌}
+use Rattle.std.proofs.Common.{◌≡◌, ℕ, ◌-◌, ◌<◌, ◌≤◌, ◌^◌, Bool, true, false, refl, sym, ap, ◌∙◌, subst, arith, pos, negsuc, ℤ, ◌≤ℤ◌}
 use Rattle.std.specs.Prelude.{not, ◌&&◌, ◌||◌, eqb, Option, Some, None, IfSome}
 use Rattle.std.specs.Int.{int_max, int_min}
 use Rattle.std.proofs.lemmas.Int.{ints}
 use Rattle.std.proofs.lemmas.Bool.Decides.{nat_tests}
-use Rattle.ags_word.specs.Word.{val, wrap, fits}
+use Rattle.ags_word.specs.Word.{val, wrap}
 use Rattle.ags_word.proofs.WordLaws.{val_same, val_least, val_most, val-wrap, fits_in}
 use Rattle.ags_domain.specs.LowBits.{all_ones}
 use Rattle.ags_domain.specs.Domain.{Meaning, IsAlone, IsFull, IsJoin, IsPart, IsWithin, is_negative, is_not_negative, has_value_between}
-use Rattle.ags_domain.specs.Range.{range_ends, range_meaning, lies_between, lesser, greater, ends_of, hull_of, IsRangeOf}
+use Rattle.ags_domain.specs.Range.{range_ends, range_meaning, lies_between, ends_of, hull_of, IsRangeOf}
 use Rattle.ags_domain.specs.SetOf.{IsNext}
 use Rattle.ags_domain.specs.Gathering.{held_by_part}
 use Rattle.ags_domain.specs.MeaningLaws.{lies_inside, lies_from, lies_to, least_lies, greatest_lies}
 use Rattle.ags_domain.specs.declared.ranges.Range.{Range}
-
-pub val_minus_one : val (2 ^ 18 - 1) ≡ negsuc 0
-unfolding val
-val_minus_one = refl
 
 pub val_zero : val 0 ≡ pos 0
 unfolding val
@@ -212,7 +208,7 @@ module _ (range : Range) (from : ℕ) (one_sign : is_negative range.least ≡ is
       let bounds = one_sign_from range.least range.greatest v range.least_word range.greatest_word is one_sign held in
       let at_least = least v from_v bounds.0 in omega arith)
 
--- ---- the parts one behind the other
+-- ---- the parts one after the other
 
 not_negative_low : (v : ℕ) → v < 2 ^ 18 → is_negative v ≡ false → v < 2 ^ 17
 unfolding val

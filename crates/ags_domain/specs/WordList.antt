@@ -1,4 +1,4 @@
--- How a list of up to 16 words lies in an array: behind the words it is filled up with 0.
+-- How a list of up to 16 words lies in an array: after the words it is filled up with 0.
 use Rattle.std.specs.Prelude.{◌≡◌, ℕ, ◌+◌, ◌-◌, ◌<◌, ◌≤◌, List, ◌++◌, length, take, drop, replicate}
 use Rattle.std.proofs.Common.{refl, ap, ◌∙◌, sym, arith}
 use Rattle.std.proofs.Common.{set}
@@ -10,7 +10,7 @@ use Rattle.ags_domain.specs.declared.word_lists.WordList.TheInside.{Inside}
 abbrev pub filled_up : List ℕ → List ℕ
 filled_up words = words ++ replicate (16 - length words) 0
 
--- the array has 16 places, and 0 behind the words that count
+-- the array has 16 places, and 0 after the words that count
 pub record IsFilledUp (words : List ℕ) (count : ℕ) : Type 0 where
   pub places : length words ≡ 16
   pub few : count ≤ 16

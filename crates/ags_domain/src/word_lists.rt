@@ -8,7 +8,7 @@ use std::marker::Model;
 /// How many words a word set has at most.
 pub const MOST_WORDS: usize = 16;
 
-/// Up to 16 words in an array; behind them it is filled up with 0.
+/// Up to 16 words in an array; after them it is filled up with 0.
 #[derive(Clone, Copy, Debug, PartialEq, Eq)]
 pub(crate) struct WordList {
     words: [Word; MOST_WORDS],
@@ -56,7 +56,7 @@ impl WordList {
         &self.words[..self.count]
     }
 
-    /// Puts a word behind the others.
+    /// Puts a word after the others.
     pub(crate) fn push(&mut self, word: Word)
         requires { length self.old < 16 }
         ensures { self.new ≡ self.old ++ word ∷ [] }

@@ -1,14 +1,14 @@
 -- Words that devices give, as acts. The proofs of `feeding` cite:
---     word_given, none_given         a word was put, and none was
+--     word_given                     a word was put
 --     feed_made, feed_unmade         FEED of a device that feeds a register
 --     no_device, no_feed             FEED of none, and of one that feeds no register
---     cycle_feed_made, cycle_feed_unmade, cycle_feed_idle    the feed of a cycle, and one that gives nothing
+--     cycle_feed_unmade, cycle_feed_idle    the feed of a cycle that ends there, and one that gives nothing
 use Rattle.std.proofs.Common.{◌≡◌, ℕ, zero, suc, ◌+◌, ◌≤◌, ◌^◌, ◌<◌, Bool, true, false, List, [], ◌∷◌, length, map, refl, sym, ap, subst, ◌∙◌, inl, inr, IsSome, arith}
 use Rattle.std.specs.Prelude.{◌⊎◌, Option, Some, None, is_some, slice_get, count_by, if◌then◌else◌}
 use Rattle.ags_benchplay.specs.Act.{Act, Feeds, FeedsInCycle}
 use Rattle.ags_benchplay.specs.Bench as play
-use Rattle.ags_benchplay.specs.Bench.{place_of_number, device_at, with_given}
-use Rattle.ags_benchplay.specs.Doing.{Makes, NoDevice, NoFeed, OutsidePut, fed_place, takes_word, is_fed, giver, put_at, next_put, put_by, refused_put, refused_feed, refusal, handled, carry_after, devices_along, bench_after}
+use Rattle.ags_benchplay.specs.Bench.{position_of_number, device_at, with_given}
+use Rattle.ags_benchplay.specs.Doing.{Makes, NoDevice, NoFeed, OutsidePut, fed_position, takes_word, is_fed, giver, put_at, next_put, put_by, refused_put, refused_feed, refusal, handled, carry_after, devices_along, bench_after}
 use Rattle.ags_device.specs.Devices.{changed_at, feeds_of, plan_of}
 use Rattle.ags_device.specs.Record.{DeviceRecord, first_of, given}
 use Rattle.ags_domain.specs.declared.values.Value.{Value}
@@ -26,16 +26,16 @@ use Rattle.ags_drive.specs.declared.benches.Bench.{Bench}
 use Rattle.ags_drive.specs.declared.drive_error.DriveError.{DriveError}
 use Rattle.ags_drive.specs.declared.drive_error.DriveError.TheVariants as error
 use Rattle.ags_drive.specs.declared.listeners.Listener.{Listener}
-use Rattle.ags_drive.specs.Making.{ActMade, Unmade, WordGiven, WordStopped, WordUngiven, put_from}
+use Rattle.ags_drive.specs.Making.{ActMade, Unmade, WordGiven, WordUngiven, put_from}
 use Rattle.ags_drive.specs.Standing.{bench_of}
 use Rattle.ags_drive.proofs.JoinLemmas.{act_refused, act_unmade}
 use Rattle.ags_drive.proofs.StepLemmas.{same_bench}
 
 -- no member stands past the end
-pub none_past : {A B : Type 0} (f : A → B) (xs : List A) (place : ℕ) → length xs ≤ place → slice_get (map f xs) place ≡ None
-none_past f [] place over = refl
+pub none_past : {A B : Type 0} (f : A → B) (xs : List A) (position : ℕ) → length xs ≤ position → slice_get (map f xs) position ≡ None
+none_past f [] position over = refl
 none_past f (x ∷ xs) zero over = grind arith
-none_past f (x ∷ xs) (suc place) over = none_past f xs place (grind arith)
+none_past f (x ∷ xs) (suc position) over = none_past f xs position (grind arith)
 
 no_steps : (put : Option PutWord) → count_by is_step (put_events put) ≡ 0
 no_steps None = refl
@@ -54,15 +54,6 @@ next_from (Some d) = from_plan d.feeds d.plan
 module _ (machine : Machine) (cert : Certificate Value) where
   -- ---- a word that is put
 
-  -- a word that is stopped has left its plan
-  pub stopped_ungiven : (devices now : List DeviceRecord) (place : ℕ) (met : DriveError) → now ≡ changed_at given devices place → WordStopped machine cert (next_put (slice_get devices place)) met → WordUngiven machine cert devices now place met
-  stopped_ungiven devices now place (error.InputRange address word) taken p = (p, taken)
-  stopped_ungiven devices now place error.NoMemory taken p = absurd p
-  stopped_ungiven devices now place error.WriteFault taken p = absurd p
-  stopped_ungiven devices now place (error.StartOutside outside) taken p = absurd p
-  stopped_ungiven devices now place (error.NoDevice line device) taken p = absurd p
-  stopped_ungiven devices now place (error.NoFeed line device) taken p = absurd p
-
   pub word_given : (before after : Bench) (address word : ℕ) (o : Option PutWord) (report : Done) → o ≡ Some (record { address = address; word = word }) → stopped_by machine (Some cert) (Some (record { address = address; word = word })) ≡ None → word < 2 ^ 18
       → Steps machine before.core (Put address word) report after.core → after.listener ≡ before.listener → after.carry ≡ before.carry → after.puts ≡ before.puts + 1 → WordGiven machine cert before after o
   word_given before after address word o report is through below step listener carry puts =
@@ -79,19 +70,6 @@ module _ (machine : Machine) (cert : Certificate Value) where
         puts = omega (arith, puts);
       })
 
-  pub none_given : (bench : Bench) (o : Option PutWord) → o ≡ None → WordGiven machine cert bench bench o
-  none_given bench o is = subst (λ (q : Option PutWord). WordGiven machine cert bench bench q) (sym is) (record {
-    through = refl;
-    moments = [];
-    run = tt;
-    idle = inl refl;
-    core = refl;
-    words = tt;
-    listener = refl;
-    carry = refl;
-    puts = omega arith;
-  })
-
   -- no device hears of a word that is put
   along_gave : (devices : List DeviceRecord) (moment : Moment) → moment.report.gave ≡ None → devices_along machine devices (moment ∷ []) ≡ devices
   along_gave devices moment none = rw none refl
@@ -100,15 +78,15 @@ module _ (machine : Machine) (cert : Certificate Value) where
   along_put devices moments (inl none) = ap (λ (ms : List Moment). devices_along machine devices ms) none
   along_put devices moments (inr one) = ap (λ (ms : List Moment). devices_along machine devices ms) one.1 ∙ along_gave devices one.0 one.2
 
-  -- an act that takes the next word of the device at a place
-  given_made : (act : Act) (before after : Bench) (devices now : List DeviceRecord) (place : ℕ) → before.listener.steps < 2 ^ 64
+  -- an act that takes the next word of the device at a position
+  given_made : (act : Act) (before after : Bench) (devices now : List DeviceRecord) (position : ℕ) → before.listener.steps < 2 ^ 64
       → refusal machine cert (bench_of before devices) act ≡ None
-      → put_by machine (bench_of before devices) act ≡ next_put (slice_get devices place)
-      → handled machine (bench_of before devices) act ≡ changed_at given devices place
+      → put_by machine (bench_of before devices) act ≡ next_put (slice_get devices position)
+      → handled machine (bench_of before devices) act ≡ changed_at given devices position
       → ((moments : List Moment) → Makes machine (bench_of before devices) act (put_events (put_by machine (bench_of before devices) act)) moments)
       → ((moments : List Moment) → carry_after machine (bench_of before devices) act moments ≡ before.carry)
-      → WordGiven machine cert before after (next_put (slice_get devices place)) → now ≡ changed_at given devices place → ActMade machine cert act before after devices now
-  given_made act before after devices now place fits through put_is handled_is makes carry_is p taken =
+      → WordGiven machine cert before after (next_put (slice_get devices position)) → now ≡ changed_at given devices position → ActMade machine cert act before after devices now
+  given_made act before after devices now position fits through put_is handled_is makes carry_is p taken =
       let put = put_by machine (bench_of before devices) act in
       let kept : now ≡ devices_along machine (handled machine (bench_of before devices) act) p.moments =
       taken ∙ sym handled_is ∙ sym (along_put (handled machine (bench_of before devices) act) p.moments p.idle) in
@@ -141,95 +119,86 @@ module _ (machine : Machine) (cert : Certificate Value) where
 
   -- ---- FEED
 
-  let_feed : (line number : ℕ) (o : Option DeviceRecord) (stopped : Option PutWord) → IsSome o → is_some (fed_place machine (feeds_of o)) ≡ true → refused_feed machine line number o stopped ≡ refused_put stopped
+  let_feed : (line number : ℕ) (o : Option DeviceRecord) (stopped : Option PutWord) → IsSome o → is_some (fed_position machine (feeds_of o)) ≡ true → refused_feed machine line number o stopped ≡ refused_put stopped
   let_feed line number None stopped some fed = cc
   let_feed line number (Some d) stopped some fed = ap (λ t. if t then refused_put stopped else Some (NoFeed line number)) fed
 
-  not_fed : (line number : ℕ) (o : Option DeviceRecord) (stopped : Option PutWord) → IsSome o → is_some (fed_place machine (feeds_of o)) ≡ false → refused_feed machine line number o stopped ≡ Some (NoFeed line number)
+  not_fed : (line number : ℕ) (o : Option DeviceRecord) (stopped : Option PutWord) → IsSome o → is_some (fed_position machine (feeds_of o)) ≡ false → refused_feed machine line number o stopped ≡ Some (NoFeed line number)
   not_fed line number None stopped some fed = cc
   not_fed line number (Some d) stopped some fed = ap (λ t. if t then refused_put stopped else Some (NoFeed line number)) fed
 
-  -- FEED of the device at a place is refused as its word is
-  feed_at : (b : play.Bench) (line number place : ℕ) → place_of_number number ≡ Some place → IsSome (slice_get b.devices place) → is_some (fed_place machine (feeds_of (slice_get b.devices place))) ≡ true
-      → refusal machine cert b (Feeds line number) ≡ refused_put (stopped_by machine (Some cert) (next_put (slice_get b.devices place)))
-  feed_at b line number place at some fed =
+  -- FEED of the device at a position is refused as its word is
+  feed_at : (b : play.Bench) (line number position : ℕ) → position_of_number number ≡ Some position → IsSome (slice_get b.devices position) → is_some (fed_position machine (feeds_of (slice_get b.devices position))) ≡ true
+      → refusal machine cert b (Feeds line number) ≡ refused_put (stopped_by machine (Some cert) (next_put (slice_get b.devices position)))
+  feed_at b line number position at some fed =
       ap (λ q. refused_feed machine line number (device_at b.devices q) (stopped_by machine (Some cert) (next_put (device_at b.devices q)))) at
-      ∙ let_feed line number (slice_get b.devices place) (stopped_by machine (Some cert) (next_put (slice_get b.devices place))) some fed
+      ∙ let_feed line number (slice_get b.devices position) (stopped_by machine (Some cert) (next_put (slice_get b.devices position))) some fed
 
-  pub feed_made : (before after : Bench) (devices now : List DeviceRecord) (line number place : ℕ) → before.listener.steps < 2 ^ 64 → place_of_number number ≡ Some place → IsSome (slice_get devices place)
-      → is_some (fed_place machine (feeds_of (slice_get devices place))) ≡ true → WordGiven machine cert before after (next_put (slice_get devices place)) → now ≡ changed_at given devices place
+  pub feed_made : (before after : Bench) (devices now : List DeviceRecord) (line number position : ℕ) → before.listener.steps < 2 ^ 64 → position_of_number number ≡ Some position → IsSome (slice_get devices position)
+      → is_some (fed_position machine (feeds_of (slice_get devices position))) ≡ true → WordGiven machine cert before after (next_put (slice_get devices position)) → now ≡ changed_at given devices position
       → ActMade machine cert (Feeds line number) before after devices now
-  feed_made before after devices now line number place fits at some fed p taken =
-      given_made (Feeds line number) before after devices now place fits
-      (feed_at (bench_of before devices) line number place at some fed ∙ ap (λ q. refused_put q) p.through)
+  feed_made before after devices now line number position fits at some fed p taken =
+      given_made (Feeds line number) before after devices now position fits
+      (feed_at (bench_of before devices) line number position at some fed ∙ ap (λ q. refused_put q) p.through)
       (ap (λ q. next_put (device_at devices q)) at) (ap (λ q. with_given devices q) at) (λ moments. refl) (λ moments. refl) p taken
 
-  pub no_device : (b : play.Bench) (line number : ℕ) (told : Option (List ℕ)) → device_at b.devices (place_of_number number) ≡ None → Unmade machine cert b (Feeds line number ∷ []) told told b.devices (error.NoDevice line number)
+  pub no_device : (b : play.Bench) (line number : ℕ) (told : Option (List ℕ)) → device_at b.devices (position_of_number number) ≡ None → Unmade machine cert b (Feeds line number ∷ []) told told b.devices (error.NoDevice line number)
   no_device b line number told none =
       act_refused machine cert b (Feeds line number) told b.devices (NoDevice line number)
       (ap (λ o. refused_feed machine line number o (stopped_by machine (Some cert) (next_put o))) none) refl
 
-  pub no_feed : (b : play.Bench) (line number place : ℕ) (told : Option (List ℕ)) → place_of_number number ≡ Some place → IsSome (slice_get b.devices place)
-      → is_some (fed_place machine (feeds_of (slice_get b.devices place))) ≡ false → Unmade machine cert b (Feeds line number ∷ []) told told b.devices (error.NoFeed line number)
-  no_feed b line number place told at some fed =
+  pub no_feed : (b : play.Bench) (line number position : ℕ) (told : Option (List ℕ)) → position_of_number number ≡ Some position → IsSome (slice_get b.devices position)
+      → is_some (fed_position machine (feeds_of (slice_get b.devices position))) ≡ false → Unmade machine cert b (Feeds line number ∷ []) told told b.devices (error.NoFeed line number)
+  no_feed b line number position told at some fed =
       act_refused machine cert b (Feeds line number) told b.devices (NoFeed line number)
       (ap (λ q. refused_feed machine line number (device_at b.devices q) (stopped_by machine (Some cert) (next_put (device_at b.devices q)))) at
-      ∙ not_fed line number (slice_get b.devices place) (stopped_by machine (Some cert) (next_put (slice_get b.devices place))) some fed) refl
+      ∙ not_fed line number (slice_get b.devices position) (stopped_by machine (Some cert) (next_put (slice_get b.devices position))) some fed) refl
 
   -- a word that wasn't put, of an act that is refused as the word is
-  ungiven_unmade : (b : play.Bench) (act : Act) (place : ℕ) (now : List DeviceRecord) (met : DriveError) (told : Option (List ℕ))
-      → refusal machine cert b act ≡ refused_put (stopped_by machine (Some cert) (next_put (slice_get b.devices place)))
-      → with_given b.devices (giver machine b act) ≡ changed_at given b.devices place
-      → WordUngiven machine cert b.devices now place met → Unmade machine cert b (act ∷ []) told told now met
-  ungiven_unmade b act place now (error.InputRange address word) told refused_is given_is p =
+  ungiven_unmade : (b : play.Bench) (act : Act) (position : ℕ) (now : List DeviceRecord) (met : DriveError) (told : Option (List ℕ))
+      → refusal machine cert b act ≡ refused_put (stopped_by machine (Some cert) (next_put (slice_get b.devices position)))
+      → with_given b.devices (giver machine b act) ≡ changed_at given b.devices position
+      → WordUngiven machine cert b.devices now position met → Unmade machine cert b (act ∷ []) told told now met
+  ungiven_unmade b act position now (error.InputRange address word) told refused_is given_is p =
       act_refused machine cert b act told now (OutsidePut (record { address = address; word = word })) (refused_is ∙ ap (λ q. refused_put q) p.0) (p.1 ∙ sym given_is)
-  ungiven_unmade b act place now error.NoMemory told refused_is given_is p = act_unmade machine cert b act told now p
-  ungiven_unmade b act place now error.WriteFault told refused_is given_is p = absurd p
-  ungiven_unmade b act place now (error.StartOutside outside) told refused_is given_is p = absurd p
-  ungiven_unmade b act place now (error.NoDevice line device) told refused_is given_is p = absurd p
-  ungiven_unmade b act place now (error.NoFeed line device) told refused_is given_is p = absurd p
+  ungiven_unmade b act position now error.NoMemory told refused_is given_is p = act_unmade machine cert b act told now p
+  ungiven_unmade b act position now error.WriteFault told refused_is given_is p = absurd p
+  ungiven_unmade b act position now (error.StartOutside outside) told refused_is given_is p = absurd p
+  ungiven_unmade b act position now (error.NoDevice line device) told refused_is given_is p = absurd p
+  ungiven_unmade b act position now (error.NoFeed line device) told refused_is given_is p = absurd p
 
-  pub feed_unmade : (before : Bench) (devices now : List DeviceRecord) (line number place : ℕ) (met : DriveError) (told : Option (List ℕ)) → place_of_number number ≡ Some place → IsSome (slice_get devices place)
-      → is_some (fed_place machine (feeds_of (slice_get devices place))) ≡ true → WordUngiven machine cert devices now place met → Unmade machine cert (bench_of before devices) (Feeds line number ∷ []) told told now met
-  feed_unmade before devices now line number place met told at some fed p =
-      ungiven_unmade (bench_of before devices) (Feeds line number) place now met told (feed_at (bench_of before devices) line number place at some fed) (ap (λ q. with_given devices q) at) p
+  pub feed_unmade : (before : Bench) (devices now : List DeviceRecord) (line number position : ℕ) (met : DriveError) (told : Option (List ℕ)) → position_of_number number ≡ Some position → IsSome (slice_get devices position)
+      → is_some (fed_position machine (feeds_of (slice_get devices position))) ≡ true → WordUngiven machine cert devices now position met → Unmade machine cert (bench_of before devices) (Feeds line number ∷ []) told told now met
+  feed_unmade before devices now line number position met told at some fed p =
+      ungiven_unmade (bench_of before devices) (Feeds line number) position now met told (feed_at (bench_of before devices) line number position at some fed) (ap (λ q. with_given devices q) at) p
 
   -- ---- the feed of a cycle
 
-  fed_by_place : (s : State) (o : Option DeviceRecord) → is_fed machine s o ≡ takes_word machine s (fed_place machine (feeds_of o))
-  fed_by_place s None = refl
-  fed_by_place s (Some d) = refl
+  fed_by_position : (s : State) (o : Option DeviceRecord) → is_fed machine s o ≡ takes_word machine s (fed_position machine (feeds_of o))
+  fed_by_position s None = refl
+  fed_by_position s (Some d) = refl
 
-  gives_at : (b : play.Bench) (place : ℕ) (fed : Bool) → takes_word machine b.core (fed_place machine (feeds_of (slice_get b.devices place))) ≡ fed
-      → giver machine b (FeedsInCycle place) ≡ (if fed then Some place else None)
-  gives_at b place fed is = ap (λ t. if t then Some place else None) (fed_by_place b.core (slice_get b.devices place) ∙ is)
+  gives_at : (b : play.Bench) (position : ℕ) (fed : Bool) → takes_word machine b.core (fed_position machine (feeds_of (slice_get b.devices position))) ≡ fed
+      → giver machine b (FeedsInCycle position) ≡ (if fed then Some position else None)
+  gives_at b position fed is = ap (λ t. if t then Some position else None) (fed_by_position b.core (slice_get b.devices position) ∙ is)
 
-  pub cycle_feed_made : (before after : Bench) (devices now : List DeviceRecord) (place : ℕ) → before.listener.steps < 2 ^ 64
-      → takes_word machine before.core (fed_place machine (feeds_of (slice_get devices place))) ≡ true → WordGiven machine cert before after (next_put (slice_get devices place)) → now ≡ changed_at given devices place
-      → ActMade machine cert (FeedsInCycle place) before after devices now
-  cycle_feed_made before after devices now place fits fed p taken =
-      let at = gives_at (bench_of before devices) place true fed in
-      given_made (FeedsInCycle place) before after devices now place fits
-      (ap (λ q. refused_put (stopped_by machine (Some cert) (next_put (device_at devices q)))) at ∙ ap (λ q. refused_put q) p.through)
-      (ap (λ q. next_put (device_at devices q)) at) (ap (λ q. with_given devices q) at) (λ moments. refl) (λ moments. refl) p taken
-
-  pub cycle_feed_unmade : (before : Bench) (devices now : List DeviceRecord) (place : ℕ) (met : DriveError) (told : Option (List ℕ))
-      → takes_word machine before.core (fed_place machine (feeds_of (slice_get devices place))) ≡ true → WordUngiven machine cert devices now place met
-      → Unmade machine cert (bench_of before devices) (FeedsInCycle place ∷ []) told told now met
-  cycle_feed_unmade before devices now place met told fed p =
-      let at = gives_at (bench_of before devices) place true fed in
-      ungiven_unmade (bench_of before devices) (FeedsInCycle place) place now met told
+  pub cycle_feed_unmade : (before : Bench) (devices now : List DeviceRecord) (position : ℕ) (met : DriveError) (told : Option (List ℕ))
+      → takes_word machine before.core (fed_position machine (feeds_of (slice_get devices position))) ≡ true → WordUngiven machine cert devices now position met
+      → Unmade machine cert (bench_of before devices) (FeedsInCycle position ∷ []) told told now met
+  cycle_feed_unmade before devices now position met told fed p =
+      let at = gives_at (bench_of before devices) position true fed in
+      ungiven_unmade (bench_of before devices) (FeedsInCycle position) position now met told
       (ap (λ q. refused_put (stopped_by machine (Some cert) (next_put (device_at devices q)))) at) (ap (λ q. with_given devices q) at) p
 
-  pub cycle_feed_idle : (bench : Bench) (devices : List DeviceRecord) (place : ℕ) → bench.listener.steps < 2 ^ 64
-      → takes_word machine bench.core (fed_place machine (feeds_of (slice_get devices place))) ≡ false → ActMade machine cert (FeedsInCycle place) bench bench devices devices
-  cycle_feed_idle bench devices place fits fed =
-      let at = gives_at (bench_of bench devices) place false fed in
-      idle_made (FeedsInCycle place) bench devices fits
+  pub cycle_feed_idle : (bench : Bench) (devices : List DeviceRecord) (position : ℕ) → bench.listener.steps < 2 ^ 64
+      → takes_word machine bench.core (fed_position machine (feeds_of (slice_get devices position))) ≡ false → ActMade machine cert (FeedsInCycle position) bench bench devices devices
+  cycle_feed_idle bench devices position fits fed =
+      let at = gives_at (bench_of bench devices) position false fed in
+      idle_made (FeedsInCycle position) bench devices fits
       (ap (λ q. refused_put (stopped_by machine (Some cert) (next_put (device_at devices q)))) at)
       (sym (ap (λ q. put_events (next_put (device_at devices q))) at))
       (ap (λ q. bench_of bench (with_given devices q)) at)
 
-  -- at a place past the end there is nothing to feed
-  pub cycle_feed_past : (bench : Bench) (devices : List DeviceRecord) (place : ℕ) → bench.listener.steps < 2 ^ 64 → slice_get devices place ≡ None → ActMade machine cert (FeedsInCycle place) bench bench devices devices
-  cycle_feed_past bench devices place fits none = cycle_feed_idle bench devices place fits (ap (λ o. takes_word machine bench.core (fed_place machine (feeds_of o))) none)
+  -- at a position past the end there is nothing to feed
+  pub cycle_feed_past : (bench : Bench) (devices : List DeviceRecord) (position : ℕ) → bench.listener.steps < 2 ^ 64 → slice_get devices position ≡ None → ActMade machine cert (FeedsInCycle position) bench bench devices devices
+  cycle_feed_past bench devices position fits none = cycle_feed_idle bench devices position fits (ap (λ o. takes_word machine bench.core (fed_position machine (feeds_of o))) none)

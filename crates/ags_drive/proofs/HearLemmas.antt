@@ -14,7 +14,7 @@ use Rattle.ags_device.specs.Devices.{is_heard, heard_below, all_heard, IsHeardIn
 use Rattle.ags_device.specs.Record.{DeviceRecord}
 use Rattle.ags_ports.specs.declared.events.Stored.{Stored}
 use Rattle.ags_ports.specs.declared.machines.Machine.{Machine}
-use Rattle.ags_ports.specs.Port.{place_of}
+use Rattle.ags_ports.specs.Port.{position_of}
 use Rattle.ags_ports.specs.Run.{Moment}
 use Rattle.ags_timed.specs.Timed.{LooksAt}
 use Rattle.ags_drive.specs.declared.listeners.Listener.{Listener}
@@ -75,7 +75,7 @@ module _ (machine : Machine) where
   given_by address word false ds = behind_self ds
 
   behind_given : (gave : Stored) (ds : List DeviceRecord) → AreBehind ds ds (devices_given machine (Some gave) ds)
-  behind_given gave ds = given_by gave.address gave.word (is_some (place_of machine.ports.outputs gave.address)) ds
+  behind_given gave ds = given_by gave.address gave.word (is_some (position_of machine.ports.outputs gave.address)) ds
 
   behind_told : (ds : List DeviceRecord) (words : List Stored) → AreBehind ds ds (devices_told machine ds words)
   behind_told ds [] = behind_self ds
@@ -84,33 +84,33 @@ module _ (machine : Machine) where
       behind_on ds ds next (devices_told machine next words) (behind_given gave ds) (behind_told next words)
 
   -- one word that a part heard
-  pub given_partly : (gave : Stored) (devices now : List DeviceRecord) → is_some (place_of machine.ports.outputs gave.address) ≡ true → IsHeardInPart gave.address gave.word devices now
+  pub given_partly : (gave : Stored) (devices now : List DeviceRecord) → is_some (position_of machine.ports.outputs gave.address) ≡ true → IsHeardInPart gave.address gave.word devices now
       → AreBehind devices now (devices_given machine (Some gave) devices)
   given_partly gave devices now there part =
       subst (λ (ds : List DeviceRecord). AreBehind devices now ds) (ap (λ t. if t then all_heard gave.address gave.word devices else devices) (sym there))
       (subst (λ (ds : List DeviceRecord). AreBehind devices ds (all_heard gave.address gave.word devices)) (sym part.records) (behind_partly gave.address gave.word part.count devices))
 
-  -- ---- words up to a place, and the one there
+  -- ---- words up to a position, and the one there
 
-  take_more : (words : List Stored) (place : ℕ) (gave : Stored) → place < length words → gave ≡ get_or words place gave → take (place + 1) words ≡ take place words ++ gave ∷ []
-  take_more words place gave below found =
-      ap (λ n. take n words) (add-one place) ∙ take-suc words place gave below ∙ ap (λ (w : Stored). take place words ++ w ∷ []) (sym found)
+  take_more : (words : List Stored) (position : ℕ) (gave : Stored) → position < length words → gave ≡ get_or words position gave → take (position + 1) words ≡ take position words ++ gave ∷ []
+  take_more words position gave below found =
+      ap (λ n. take n words) (add-one position) ∙ take-suc words position gave below ∙ ap (λ (w : Stored). take position words ++ w ∷ []) (sym found)
 
-  pub told_more : (devices mid now : List DeviceRecord) (words : List Stored) (place : ℕ) (gave : Stored) → place < length words → gave ≡ get_or words place gave
-      → mid ≡ devices_told machine devices (take place words) → now ≡ devices_given machine (Some gave) mid → now ≡ devices_told machine devices (take (place + 1) words)
-  told_more devices mid now words place gave below found upto heard =
-      heard ∙ ap (λ ds. devices_given machine (Some gave) ds) upto ∙ sym (told_append devices (take place words) (gave ∷ []))
-      ∙ ap (λ ws. devices_told machine devices ws) (sym (take_more words place gave below found))
+  pub told_more : (devices mid now : List DeviceRecord) (words : List Stored) (position : ℕ) (gave : Stored) → position < length words → gave ≡ get_or words position gave
+      → mid ≡ devices_told machine devices (take position words) → now ≡ devices_given machine (Some gave) mid → now ≡ devices_told machine devices (take (position + 1) words)
+  told_more devices mid now words position gave below found upto heard =
+      heard ∙ ap (λ ds. devices_given machine (Some gave) ds) upto ∙ sym (told_append devices (take position words) (gave ∷ []))
+      ∙ ap (λ ws. devices_told machine devices ws) (sym (take_more words position gave below found))
 
-  pub told_partly : (devices mid now : List DeviceRecord) (words : List Stored) (place : ℕ) (gave : Stored) → place < length words → gave ≡ get_or words place gave
-      → mid ≡ devices_told machine devices (take place words) → AreBehind mid now (devices_given machine (Some gave) mid) → AreBehind devices now (devices_told machine devices words)
-  told_partly devices mid now words place gave below found upto partly =
+  pub told_partly : (devices mid now : List DeviceRecord) (words : List Stored) (position : ℕ) (gave : Stored) → position < length words → gave ≡ get_or words position gave
+      → mid ≡ devices_told machine devices (take position words) → AreBehind mid now (devices_given machine (Some gave) mid) → AreBehind devices now (devices_told machine devices words)
+  told_partly devices mid now words position gave below found upto partly =
       let next = devices_given machine (Some gave) mid in
-      let rest = drop (place + 1) words in
-      let heard : next ≡ devices_told machine devices (take (place + 1) words) = told_more devices mid next words place gave below found upto refl in
+      let rest = drop (position + 1) words in
+      let heard : next ≡ devices_told machine devices (take (position + 1) words) = told_more devices mid next words position gave below found upto refl in
       let whole : devices_told machine next rest ≡ devices_told machine devices words =
-      ap (λ ds. devices_told machine ds rest) heard ∙ sym (told_append devices (take (place + 1) words) rest) ∙ ap (λ ws. devices_told machine devices ws) (take-append-drop (place + 1) words) in
-      let grown : HaveGrown devices mid = subst (λ (ds : List DeviceRecord). HaveGrown devices ds) (sym upto) (grown_of_behind devices (devices_told machine devices (take place words)) (behind_told devices (take place words))) in
+      ap (λ ds. devices_told machine ds rest) heard ∙ sym (told_append devices (take (position + 1) words) rest) ∙ ap (λ ws. devices_told machine devices ws) (take-append-drop (position + 1) words) in
+      let grown : HaveGrown devices mid = subst (λ (ds : List DeviceRecord). HaveGrown devices ds) (sym upto) (grown_of_behind devices (devices_told machine devices (take position words)) (behind_told devices (take position words))) in
       subst (λ (ds : List DeviceRecord). AreBehind devices now ds) whole
       (behind_on devices now next (devices_told machine next rest) (behind_from devices mid now next grown partly) (behind_told next rest))
 

@@ -1,5 +1,5 @@
 -- Acts of loops and scripts, one piece after another. The proofs of the loops cite:
---     steps_next, places_next, cycles_next    lists of acts that grow by a piece at their end
+--     steps_next, positions_next, cycles_next    lists of acts that grow by a piece at their end
 --     piece_more, piece_unmade                a piece after those before it, and one that wasn't made to its end
 --     pieces_all                              all pieces
 --     line_located, lines_more, lines_unmade, lines_all    the same of a script's lines
@@ -33,16 +33,16 @@ pub steps_next : Grows (λ n. replicate n MakesStep) (λ n. MakesStep ∷ [])
 steps_next zero = refl
 steps_next (suc n) = ap (λ (acts : List Act). MakesStep ∷ acts) (steps_next n)
 
-pub places_next : (act : ℕ → Act) → Grows (at_each act) (λ n. act n ∷ [])
-places_next act n = refl
+pub positions_next : (act : ℕ → Act) → Grows (at_each act) (λ n. act n ∷ [])
+positions_next act n = refl
 
 -- the acts of one cycle
-abbrev pub one_cycle : (places : ℕ) → List Act
-one_cycle places = at_each FeedsInCycle places ++ Pulses ∷ RunsCycle ∷ []
+abbrev pub one_cycle : (positions : ℕ) → List Act
+one_cycle positions = at_each FeedsInCycle positions ++ Pulses ∷ RunsCycle ∷ []
 
-pub cycles_next : (places : ℕ) → Grows (cycles places) (λ n. one_cycle places)
-cycles_next places zero = append-nil (one_cycle places)
-cycles_next places (suc n) = ap (λ (acts : List Act). one_cycle places ++ acts) (cycles_next places n) ∙ sym (append_assoc (one_cycle places) (cycles places n) (one_cycle places))
+pub cycles_next : (positions : ℕ) → Grows (cycles positions) (λ n. one_cycle positions)
+cycles_next positions zero = append-nil (one_cycle positions)
+cycles_next positions (suc n) = ap (λ (acts : List Act). one_cycle positions ++ acts) (cycles_next positions n) ∙ sym (append_assoc (one_cycle positions) (cycles positions n) (one_cycle positions))
 
 module _ (acts piece : ℕ → List Act) (next : Grows acts piece) where
   grown_by : (few more : ℕ) → (others : List Act) × (acts (few + more) ≡ acts few ++ others)
@@ -84,85 +84,87 @@ module _ (acts piece : ℕ → List Act) (next : Grows acts piece) where
 abbrev Line : Type 0
 Line = ℕ × BenchCommand
 
-abbrev acts_of_line : (places : ℕ) → Line → List Act
-acts_of_line places line = acts_of_command places line.0 line.1
+abbrev acts_of_line : (positions : ℕ) → Line → List Act
+acts_of_line positions line = acts_of_command positions line.0 line.1
 
-acts_of-append : (places : ℕ) (first second : List Line) → acts_of places (first ++ second) ≡ acts_of places first ++ acts_of places second
-acts_of-append places first second = flat_map-append (acts_of_line places) first second
+acts_of-append : (positions : ℕ) (first second : List Line) → acts_of positions (first ++ second) ≡ acts_of positions first ++ acts_of positions second
+acts_of-append positions first second = flat_map-append (acts_of_line positions) first second
 
--- what stands at a place is read there with any default
-read_at : (lines : List Line) (place : ℕ) (line : Line) → slice_get lines place ≡ Some line → (place < length lines) × (get_or lines place line ≡ line)
-read_at lines place line found = (slice_get_within lines place line found, get_or_from_slice_get lines place line line found)
+-- what stands at a position is read there with any default
+read_at : (lines : List Line) (position : ℕ) (line : Line) → slice_get lines position ≡ Some line
+    → (position < length lines) × (get_or lines position line ≡ line)
+read_at lines position line found = (slice_get_within lines position line found, get_or_from_slice_get lines position line line found)
 
--- the lines up to a place with the one that stands there
-acts_taken : (places : ℕ) (lines : List Line) (place : ℕ) (line : Line) → slice_get lines place ≡ Some line → acts_of places (take place lines) ++ acts_of_line places line ≡ acts_of places (take (place + 1) lines)
-acts_taken places lines place line found =
-    let at = read_at lines place line found in
-    let more = take_more lines place line at.0 ∙ ap (λ (l : Line). take place lines ++ l ∷ []) at.1 in
-    ap (λ (acts : List Act). acts_of places (take place lines) ++ acts) (sym (append-nil (acts_of_line places line)))
-    ∙ sym (acts_of-append places (take place lines) (line ∷ [])) ∙ ap (λ (ls : List Line). acts_of places ls) (sym more)
+-- the lines up to a position with the one that stands there
+acts_taken : (positions : ℕ) (lines : List Line) (position : ℕ) (line : Line) → slice_get lines position ≡ Some line → acts_of positions (take position lines) ++ acts_of_line positions line ≡ acts_of positions (take (position + 1) lines)
+acts_taken positions lines position line found =
+    let at = read_at lines position line found in
+    let more = take_more lines position line at.0 ∙ ap (λ (l : Line). take position lines ++ l ∷ []) at.1 in
+    ap (λ (acts : List Act). acts_of positions (take position lines) ++ acts) (sym (append-nil (acts_of_line positions line)))
+    ∙ sym (acts_of-append positions (take position lines) (line ∷ [])) ∙ ap (λ (ls : List Line). acts_of positions ls) (sym more)
 
-acts_cut : (places : ℕ) (lines : List Line) (place : ℕ) (line : Line) → slice_get lines place ≡ Some line
-    → acts_of places (take place lines) ++ (acts_of_line places line ++ acts_of places (drop (place + 1) lines)) ≡ acts_of places lines
-acts_cut places lines place line found =
-    let at = read_at lines place line found in
-    let cut : drop place lines ≡ line ∷ drop (place + 1) lines = drop_more lines place line at.0 ∙ ap (λ (l : Line). l ∷ drop (place + 1) lines) at.1 in
-    sym (acts_of-append places (take place lines) (line ∷ drop (place + 1) lines)) ∙ ap (λ (rest : List Line). acts_of places (take place lines ++ rest)) (sym cut)
-    ∙ ap (λ (ls : List Line). acts_of places ls) (take-append-drop place lines)
+acts_cut : (positions : ℕ) (lines : List Line) (position : ℕ) (line : Line) → slice_get lines position ≡ Some line
+    → acts_of positions (take position lines) ++ (acts_of_line positions line ++ acts_of positions (drop (position + 1) lines)) ≡ acts_of positions lines
+acts_cut positions lines position line found =
+    let at = read_at lines position line found in
+    let cut : drop position lines ≡ line ∷ drop (position + 1) lines =
+    drop_more lines position line at.0 ∙ ap (λ (l : Line). l ∷ drop (position + 1) lines) at.1 in
+    sym (acts_of-append positions (take position lines) (line ∷ drop (position + 1) lines)) ∙ ap (λ (rest : List Line). acts_of positions (take position lines ++ rest)) (sym cut)
+    ∙ ap (λ (ls : List Line). acts_of positions ls) (take-append-drop position lines)
 
-pub line_located : (P : Line → Type 0) (lines : List Line) (place : ℕ) (line : Line) → All P lines → slice_get lines place ≡ Some line → P line
-line_located P lines place line all found = let at = read_at lines place line found in subst P at.1 (all place line at.0)
+pub line_located : (P : Line → Type 0) (lines : List Line) (position : ℕ) (line : Line) → All P lines → slice_get lines position ≡ Some line → P line
+line_located P lines position line all found = let at = read_at lines position line found in subst P at.1 (all position line at.0)
 
-module _ (machine : Machine) (cert : Certificate Value) (places : ℕ) (lines : List Line) where
-  pub lines_more : (place : ℕ) (line : Line) (old between new : Option (List ℕ)) (before mid after : Bench) (devices during now : List DeviceRecord) → slice_get lines place ≡ Some line
-      → Made machine cert (acts_of places (take place lines)) old between before mid devices during → Made machine cert (acts_of_command places line.0 line.1) between new mid after during now
-      → Made machine cert (acts_of places (take (place + 1) lines)) old new before after devices now
-  lines_more place line old between new before mid after devices during now found p q =
-      subst (λ (xs : List Act). Made machine cert xs old new before after devices now) (acts_taken places lines place line found)
-      (made_on machine cert (acts_of places (take place lines)) (acts_of_line places line) old between new before mid after devices during now p q)
+module _ (machine : Machine) (cert : Certificate Value) (positions : ℕ) (lines : List Line) where
+  pub lines_more : (position : ℕ) (line : Line) (old between new : Option (List ℕ)) (before mid after : Bench) (devices during now : List DeviceRecord) → slice_get lines position ≡ Some line
+      → Made machine cert (acts_of positions (take position lines)) old between before mid devices during → Made machine cert (acts_of_command positions line.0 line.1) between new mid after during now
+      → Made machine cert (acts_of positions (take (position + 1) lines)) old new before after devices now
+  lines_more position line old between new before mid after devices during now found p q =
+      subst (λ (xs : List Act). Made machine cert xs old new before after devices now) (acts_taken positions lines position line found)
+      (made_on machine cert (acts_of positions (take position lines)) (acts_of_line positions line) old between new before mid after devices during now p q)
 
-  pub lines_unmade : (place : ℕ) (line : Line) (old between new : Option (List ℕ)) (before mid : Bench) (devices during now : List DeviceRecord) (met : DriveError) → slice_get lines place ≡ Some line
-      → Made machine cert (acts_of places (take place lines)) old between before mid devices during → Unmade machine cert (bench_of mid during) (acts_of_command places line.0 line.1) between new now met
-      → Unmade machine cert (bench_of before devices) (acts_of places lines) old new now met
-  lines_unmade place line old between new before mid devices during now met found p q =
-      let acts = acts_of_line places line in
-      let rest = acts_of places (drop (place + 1) lines) in
-      subst (λ (xs : List Act). Unmade machine cert (bench_of before devices) xs old new now met) (acts_cut places lines place line found)
-      (unmade_after machine cert (acts_of places (take place lines)) (acts ++ rest) old between new before mid devices during now met p
+  pub lines_unmade : (position : ℕ) (line : Line) (old between new : Option (List ℕ)) (before mid : Bench) (devices during now : List DeviceRecord) (met : DriveError) → slice_get lines position ≡ Some line
+      → Made machine cert (acts_of positions (take position lines)) old between before mid devices during → Unmade machine cert (bench_of mid during) (acts_of_command positions line.0 line.1) between new now met
+      → Unmade machine cert (bench_of before devices) (acts_of positions lines) old new now met
+  lines_unmade position line old between new before mid devices during now met found p q =
+      let acts = acts_of_line positions line in
+      let rest = acts_of positions (drop (position + 1) lines) in
+      subst (λ (xs : List Act). Unmade machine cert (bench_of before devices) xs old new now met) (acts_cut positions lines position line found)
+      (unmade_after machine cert (acts_of positions (take position lines)) (acts ++ rest) old between new before mid devices during now met p
       (unmade_before machine cert (bench_of mid during) acts rest between new now met q))
 
-  pub lines_all : (place : ℕ) (old new : Option (List ℕ)) (before after : Bench) (devices now : List DeviceRecord) → length lines ≤ place → Made machine cert (acts_of places (take place lines)) old new before after devices now
-      → Made machine cert (acts_of places lines) old new before after devices now
-  lines_all place old new before after devices now past p =
-      subst (λ (all : List Line). Made machine cert (acts_of places all) old new before after devices now) (take_all place lines past) p
+  pub lines_all : (position : ℕ) (old new : Option (List ℕ)) (before after : Bench) (devices now : List DeviceRecord) → length lines ≤ position → Made machine cert (acts_of positions (take position lines)) old new before after devices now
+      → Made machine cert (acts_of positions lines) old new before after devices now
+  lines_all position old new before after devices now past p =
+      subst (λ (all : List Line). Made machine cert (acts_of positions all) old new before after devices now) (take_all position lines past) p
 
 -- ---- a command by its kind
 
-module _ (machine : Machine) (cert : Certificate Value) (places line : ℕ) (command kind : BenchCommand) (same : command ≡ kind) where
-  pub kind_made : (old new : Option (List ℕ)) (before after : Bench) (devices now : List DeviceRecord) → Made machine cert (acts_of_command places line kind) old new before after devices now
-      → Made machine cert (acts_of_command places line command) old new before after devices now
-  kind_made old new before after devices now p = subst (λ (c : BenchCommand). Made machine cert (acts_of_command places line c) old new before after devices now) (sym same) p
+module _ (machine : Machine) (cert : Certificate Value) (positions line : ℕ) (command kind : BenchCommand) (same : command ≡ kind) where
+  pub kind_made : (old new : Option (List ℕ)) (before after : Bench) (devices now : List DeviceRecord) → Made machine cert (acts_of_command positions line kind) old new before after devices now
+      → Made machine cert (acts_of_command positions line command) old new before after devices now
+  kind_made old new before after devices now p = subst (λ (c : BenchCommand). Made machine cert (acts_of_command positions line c) old new before after devices now) (sym same) p
 
-  pub kind_unmade : (b : play.Bench) (old new : Option (List ℕ)) (now : List DeviceRecord) (met : DriveError) → Unmade machine cert b (acts_of_command places line kind) old new now met
-      → Unmade machine cert b (acts_of_command places line command) old new now met
-  kind_unmade b old new now met p = subst (λ (c : BenchCommand). Unmade machine cert b (acts_of_command places line c) old new now met) (sym same) p
+  pub kind_unmade : (b : play.Bench) (old new : Option (List ℕ)) (now : List DeviceRecord) (met : DriveError) → Unmade machine cert b (acts_of_command positions line kind) old new now met
+      → Unmade machine cert b (acts_of_command positions line command) old new now met
+  kind_unmade b old new now met p = subst (λ (c : BenchCommand). Unmade machine cert b (acts_of_command positions line c) old new now met) (sym same) p
 
--- ---- a whole script, over as many places as there are devices
+-- ---- a whole script, over as many positions as there are devices
 
-module _ (machine : Machine) (cert : Certificate Value) (places count : ℕ) (counted : places ≡ count) (lines : List Line) where
-  pub script_made : (old between new : Option (List ℕ)) (before mid after : Bench) (devices during now : List DeviceRecord) → Made machine cert (acts_of places lines) old between before mid devices during
-      → Made machine cert (at_each ShowsDevice places) between new mid after during now → Made machine cert (acts_of_script count lines) old new before after devices now
+module _ (machine : Machine) (cert : Certificate Value) (positions count : ℕ) (counted : positions ≡ count) (lines : List Line) where
+  pub script_made : (old between new : Option (List ℕ)) (before mid after : Bench) (devices during now : List DeviceRecord) → Made machine cert (acts_of positions lines) old between before mid devices during
+      → Made machine cert (at_each ShowsDevice positions) between new mid after during now → Made machine cert (acts_of_script count lines) old new before after devices now
   script_made old between new before mid after devices during now p q =
       subst (λ (n : ℕ). Made machine cert (acts_of_script n lines) old new before after devices now) counted
-      (made_on machine cert (acts_of places lines) (at_each ShowsDevice places) old between new before mid after devices during now p q)
+      (made_on machine cert (acts_of positions lines) (at_each ShowsDevice positions) old between new before mid after devices during now p q)
 
-  pub script_unshown : (old between new : Option (List ℕ)) (before mid : Bench) (devices during now : List DeviceRecord) (met : DriveError) → Made machine cert (acts_of places lines) old between before mid devices during
-      → Unmade machine cert (bench_of mid during) (at_each ShowsDevice places) between new now met → Unmade machine cert (bench_of before devices) (acts_of_script count lines) old new now met
+  pub script_unshown : (old between new : Option (List ℕ)) (before mid : Bench) (devices during now : List DeviceRecord) (met : DriveError) → Made machine cert (acts_of positions lines) old between before mid devices during
+      → Unmade machine cert (bench_of mid during) (at_each ShowsDevice positions) between new now met → Unmade machine cert (bench_of before devices) (acts_of_script count lines) old new now met
   script_unshown old between new before mid devices during now met p q =
       subst (λ (n : ℕ). Unmade machine cert (bench_of before devices) (acts_of_script n lines) old new now met) counted
-      (unmade_after machine cert (acts_of places lines) (at_each ShowsDevice places) old between new before mid devices during now met p q)
+      (unmade_after machine cert (acts_of positions lines) (at_each ShowsDevice positions) old between new before mid devices during now met p q)
 
-  pub script_unmade : (b : play.Bench) (old new : Option (List ℕ)) (now : List DeviceRecord) (met : DriveError) → Unmade machine cert b (acts_of places lines) old new now met → Unmade machine cert b (acts_of_script count lines) old new now met
+  pub script_unmade : (b : play.Bench) (old new : Option (List ℕ)) (now : List DeviceRecord) (met : DriveError) → Unmade machine cert b (acts_of positions lines) old new now met → Unmade machine cert b (acts_of_script count lines) old new now met
   script_unmade b old new now met p =
       subst (λ (n : ℕ). Unmade machine cert b (acts_of_script n lines) old new now met) counted
-      (unmade_before machine cert b (acts_of places lines) (at_each ShowsDevice places) old new now met p)
+      (unmade_before machine cert b (acts_of positions lines) (at_each ShowsDevice positions) old new now met p)

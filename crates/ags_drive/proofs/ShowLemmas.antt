@@ -5,7 +5,7 @@
 use Rattle.std.proofs.Common.{◌≡◌, ℕ, ◌+◌, ◌^◌, ◌<◌, List, [], ◌∷◌, ◌++◌, length, refl, sym, ap, subst, ◌∙◌, IsSome}
 use Rattle.std.specs.Prelude.{Option, Some, None, slice_get, codes}
 use Rattle.ags_benchplay.specs.Act.{Act, ShowsReg, ShowsCell, ShowsOut, Detaches, ShowsDevice}
-use Rattle.ags_benchplay.specs.Bench.{place_of_number, device_at, with_detached}
+use Rattle.ags_benchplay.specs.Bench.{position_of_number, device_at, with_detached}
 use Rattle.ags_benchplay.specs.Doing.{NoDevice, refused_detach, shown_text}
 use Rattle.ags_benchplay.specs.Shown.{device_text, detached_line, left_line}
 use Rattle.ags_device.specs.Devices.{without, plan_of, kept_of}
@@ -76,23 +76,23 @@ module _ (machine : Machine) (cert : Certificate Value) (bench : Bench) (fits : 
   line_of_detached number None some = cc
   line_of_detached number (Some d) some = refl
 
-  -- the line of the device at a place, with counts as they were taken
-  detached_text : (devices : List DeviceRecord) (line number place left heard : ℕ) (last : Option ℕ) → place_of_number number ≡ Some place → IsSome (slice_get devices place)
-      → left ≡ length (plan_of (slice_get devices place)) → heard ≡ length (kept_of (slice_get devices place)) → last ≡ last_of (kept_of (slice_get devices place))
+  -- the line of the device at a position, with counts as they were taken
+  detached_text : (devices : List DeviceRecord) (line number position left heard : ℕ) (last : Option ℕ) → position_of_number number ≡ Some position → IsSome (slice_get devices position)
+      → left ≡ length (plan_of (slice_get devices position)) → heard ≡ length (kept_of (slice_get devices position)) → last ≡ last_of (kept_of (slice_get devices position))
       → device_text (codes "DETACHED ") number left heard last ++ codes "\n" ≡ shown_text machine (bench_of bench devices) (Detaches line number)
-  detached_text devices line number place left heard last at some left_is heard_is last_is =
-      ap (λ n. device_text (codes "DETACHED ") number n heard last ++ codes "\n") left_is ∙ ap (λ n. device_text (codes "DETACHED ") number (length (plan_of (slice_get devices place))) n last ++ codes "\n") heard_is
-      ∙ ap (λ o. device_text (codes "DETACHED ") number (length (plan_of (slice_get devices place))) (length (kept_of (slice_get devices place))) o ++ codes "\n") last_is
-      ∙ line_of_detached number (slice_get devices place) some ∙ ap (λ q. detached_line number (device_at devices q)) (sym at)
+  detached_text devices line number position left heard last at some left_is heard_is last_is =
+      ap (λ n. device_text (codes "DETACHED ") number n heard last ++ codes "\n") left_is ∙ ap (λ n. device_text (codes "DETACHED ") number (length (plan_of (slice_get devices position))) n last ++ codes "\n") heard_is
+      ∙ ap (λ o. device_text (codes "DETACHED ") number (length (plan_of (slice_get devices position))) (length (kept_of (slice_get devices position))) o ++ codes "\n") last_is
+      ∙ line_of_detached number (slice_get devices position) some ∙ ap (λ q. detached_line number (device_at devices q)) (sym at)
 
-  pub detached_made : (devices now : List DeviceRecord) (line number place left heard : ℕ) (last : Option ℕ) (text : List ℕ) (old new : Option (List ℕ)) → place_of_number number ≡ Some place → IsSome (slice_get devices place)
-      → left ≡ length (plan_of (slice_get devices place)) → heard ≡ length (kept_of (slice_get devices place)) → last ≡ last_of (kept_of (slice_get devices place))
-      → text ≡ device_text (codes "DETACHED ") number left heard last ++ codes "\n" → new ≡ appended old text → now ≡ without devices place
+  pub detached_made : (devices now : List DeviceRecord) (line number position left heard : ℕ) (last : Option ℕ) (text : List ℕ) (old new : Option (List ℕ)) → position_of_number number ≡ Some position → IsSome (slice_get devices position)
+      → left ≡ length (plan_of (slice_get devices position)) → heard ≡ length (kept_of (slice_get devices position)) → last ≡ last_of (kept_of (slice_get devices position))
+      → text ≡ device_text (codes "DETACHED ") number left heard last ++ codes "\n" → new ≡ appended old text → now ≡ without devices position
       → Made machine cert (Detaches line number ∷ []) old new bench bench devices now
-  detached_made devices now line number place left heard last text old new at some left_is heard_is last_is text_is sent gone =
+  detached_made devices now line number position left heard last text old new at some left_is heard_is last_is text_is sent gone =
       sent_made (Detaches line number) devices now old new text
       (record {
-        through = ap (λ q. refused_detach line number (device_at devices q)) at ∙ detach_through line number (slice_get devices place) some;
+        through = ap (λ q. refused_detach line number (device_at devices q)) at ∙ detach_through line number (slice_get devices position) some;
         events = [];
         moments = [];
         does = record { makes = refl; run = tt };
@@ -100,16 +100,16 @@ module _ (machine : Machine) (cert : Certificate Value) (bench : Bench) (fits : 
         after_is = ap (λ ds. bench_of bench ds) (gone ∙ ap (λ q. with_detached devices q) (sym at));
         counted = counted_none bench fits;
       })
-      (text_is ∙ detached_text devices line number place left heard last at some left_is heard_is last_is) sent
+      (text_is ∙ detached_text devices line number position left heard last at some left_is heard_is last_is) sent
 
-  pub detached_unsent : (devices : List DeviceRecord) (line number place left heard : ℕ) (last : Option ℕ) (text : List ℕ) (old new : Option (List ℕ)) (met : DriveError) → place_of_number number ≡ Some place → IsSome (slice_get devices place)
-      → left ≡ length (plan_of (slice_get devices place)) → heard ≡ length (kept_of (slice_get devices place)) → last ≡ last_of (kept_of (slice_get devices place))
+  pub detached_unsent : (devices : List DeviceRecord) (line number position left heard : ℕ) (last : Option ℕ) (text : List ℕ) (old new : Option (List ℕ)) (met : DriveError) → position_of_number number ≡ Some position → IsSome (slice_get devices position)
+      → left ≡ length (plan_of (slice_get devices position)) → heard ≡ length (kept_of (slice_get devices position)) → last ≡ last_of (kept_of (slice_get devices position))
       → text ≡ device_text (codes "DETACHED ") number left heard last ++ codes "\n" → IsFrontSent old new text met
       → Unmade machine cert (bench_of bench devices) (Detaches line number ∷ []) old new devices met
-  detached_unsent devices line number place left heard last text old new met at some left_is heard_is last_is text_is front =
-      front_unmade (Detaches line number) devices old new text met (text_is ∙ detached_text devices line number place left heard last at some left_is heard_is last_is) front
+  detached_unsent devices line number position left heard last text old new met at some left_is heard_is last_is text_is front =
+      front_unmade (Detaches line number) devices old new text met (text_is ∙ detached_text devices line number position left heard last at some left_is heard_is last_is) front
 
-  pub detached_none : (devices : List DeviceRecord) (line number : ℕ) (told : Option (List ℕ)) → device_at devices (place_of_number number) ≡ None
+  pub detached_none : (devices : List DeviceRecord) (line number : ℕ) (told : Option (List ℕ)) → device_at devices (position_of_number number) ≡ None
       → Unmade machine cert (bench_of bench devices) (Detaches line number ∷ []) told told devices (error.NoDevice line number)
   detached_none devices line number told none =
       act_refused machine cert (bench_of bench devices) (Detaches line number) told devices (NoDevice line number) (ap (λ o. refused_detach line number o) none) refl
@@ -121,32 +121,32 @@ module _ (machine : Machine) (cert : Certificate Value) (bench : Bench) (fits : 
   line_of_left number None some = cc
   line_of_left number (Some d) some = refl
 
-  left_text : (devices : List DeviceRecord) (place left heard : ℕ) (last : Option ℕ) → IsSome (slice_get devices place)
-      → left ≡ length (plan_of (slice_get devices place)) → heard ≡ length (kept_of (slice_get devices place)) → last ≡ last_of (kept_of (slice_get devices place))
-      → device_text (codes "DEVICE ") (place + 1) left heard last ++ codes "\n" ≡ shown_text machine (bench_of bench devices) (ShowsDevice place)
-  left_text devices place left heard last some left_is heard_is last_is =
-      ap (λ n. device_text (codes "DEVICE ") (place + 1) n heard last ++ codes "\n") left_is ∙ ap (λ n. device_text (codes "DEVICE ") (place + 1) (length (plan_of (slice_get devices place))) n last ++ codes "\n") heard_is
-      ∙ ap (λ o. device_text (codes "DEVICE ") (place + 1) (length (plan_of (slice_get devices place))) (length (kept_of (slice_get devices place))) o ++ codes "\n") last_is
-      ∙ line_of_left (place + 1) (slice_get devices place) some
+  left_text : (devices : List DeviceRecord) (position left heard : ℕ) (last : Option ℕ) → IsSome (slice_get devices position)
+      → left ≡ length (plan_of (slice_get devices position)) → heard ≡ length (kept_of (slice_get devices position)) → last ≡ last_of (kept_of (slice_get devices position))
+      → device_text (codes "DEVICE ") (position + 1) left heard last ++ codes "\n" ≡ shown_text machine (bench_of bench devices) (ShowsDevice position)
+  left_text devices position left heard last some left_is heard_is last_is =
+      ap (λ n. device_text (codes "DEVICE ") (position + 1) n heard last ++ codes "\n") left_is ∙ ap (λ n. device_text (codes "DEVICE ") (position + 1) (length (plan_of (slice_get devices position))) n last ++ codes "\n") heard_is
+      ∙ ap (λ o. device_text (codes "DEVICE ") (position + 1) (length (plan_of (slice_get devices position))) (length (kept_of (slice_get devices position))) o ++ codes "\n") last_is
+      ∙ line_of_left (position + 1) (slice_get devices position) some
 
-  left_idle : (devices : List DeviceRecord) (place : ℕ) → ActMade machine cert (ShowsDevice place) bench bench devices devices
-  left_idle devices place = record { through = refl; events = []; moments = []; does = record { makes = refl; run = tt }; words = tt; after_is = refl; counted = counted_none bench fits }
+  left_idle : (devices : List DeviceRecord) (position : ℕ) → ActMade machine cert (ShowsDevice position) bench bench devices devices
+  left_idle devices position = record { through = refl; events = []; moments = []; does = record { makes = refl; run = tt }; words = tt; after_is = refl; counted = counted_none bench fits }
 
-  pub left_made : (devices : List DeviceRecord) (place left heard : ℕ) (last : Option ℕ) (text : List ℕ) (old new : Option (List ℕ)) → IsSome (slice_get devices place)
-      → left ≡ length (plan_of (slice_get devices place)) → heard ≡ length (kept_of (slice_get devices place)) → last ≡ last_of (kept_of (slice_get devices place))
-      → text ≡ device_text (codes "DEVICE ") (place + 1) left heard last ++ codes "\n" → new ≡ appended old text
-      → Made machine cert (ShowsDevice place ∷ []) old new bench bench devices devices
-  left_made devices place left heard last text old new some left_is heard_is last_is text_is sent =
-      sent_made (ShowsDevice place) devices devices old new text (left_idle devices place) (text_is ∙ left_text devices place left heard last some left_is heard_is last_is) sent
+  pub left_made : (devices : List DeviceRecord) (position left heard : ℕ) (last : Option ℕ) (text : List ℕ) (old new : Option (List ℕ)) → IsSome (slice_get devices position)
+      → left ≡ length (plan_of (slice_get devices position)) → heard ≡ length (kept_of (slice_get devices position)) → last ≡ last_of (kept_of (slice_get devices position))
+      → text ≡ device_text (codes "DEVICE ") (position + 1) left heard last ++ codes "\n" → new ≡ appended old text
+      → Made machine cert (ShowsDevice position ∷ []) old new bench bench devices devices
+  left_made devices position left heard last text old new some left_is heard_is last_is text_is sent =
+      sent_made (ShowsDevice position) devices devices old new text (left_idle devices position) (text_is ∙ left_text devices position left heard last some left_is heard_is last_is) sent
 
-  pub left_unsent : (devices : List DeviceRecord) (place left heard : ℕ) (last : Option ℕ) (text : List ℕ) (old new : Option (List ℕ)) (met : DriveError) → IsSome (slice_get devices place)
-      → left ≡ length (plan_of (slice_get devices place)) → heard ≡ length (kept_of (slice_get devices place)) → last ≡ last_of (kept_of (slice_get devices place))
-      → text ≡ device_text (codes "DEVICE ") (place + 1) left heard last ++ codes "\n" → IsFrontSent old new text met
-      → Unmade machine cert (bench_of bench devices) (ShowsDevice place ∷ []) old new devices met
-  left_unsent devices place left heard last text old new met some left_is heard_is last_is text_is front =
-      front_unmade (ShowsDevice place) devices old new text met (text_is ∙ left_text devices place left heard last some left_is heard_is last_is) front
+  pub left_unsent : (devices : List DeviceRecord) (position left heard : ℕ) (last : Option ℕ) (text : List ℕ) (old new : Option (List ℕ)) (met : DriveError) → IsSome (slice_get devices position)
+      → left ≡ length (plan_of (slice_get devices position)) → heard ≡ length (kept_of (slice_get devices position)) → last ≡ last_of (kept_of (slice_get devices position))
+      → text ≡ device_text (codes "DEVICE ") (position + 1) left heard last ++ codes "\n" → IsFrontSent old new text met
+      → Unmade machine cert (bench_of bench devices) (ShowsDevice position ∷ []) old new devices met
+  left_unsent devices position left heard last text old new met some left_is heard_is last_is text_is front =
+      front_unmade (ShowsDevice position) devices old new text met (text_is ∙ left_text devices position left heard last some left_is heard_is last_is) front
 
-  pub left_past : (devices : List DeviceRecord) (place : ℕ) (told : Option (List ℕ)) → slice_get devices place ≡ None → Made machine cert (ShowsDevice place ∷ []) told told bench bench devices devices
-  left_past devices place told none =
-      act_made machine cert (ShowsDevice place) told told bench bench devices devices (left_idle devices place)
-      (sym (appended_nothing told) ∙ ap (λ o. appended told (left_line (place + 1) o)) (sym none))
+  pub left_past : (devices : List DeviceRecord) (position : ℕ) (told : Option (List ℕ)) → slice_get devices position ≡ None → Made machine cert (ShowsDevice position ∷ []) told told bench bench devices devices
+  left_past devices position told none =
+      act_made machine cert (ShowsDevice position) told told bench bench devices devices (left_idle devices position)
+      (sym (appended_nothing told) ∙ ap (λ o. appended told (left_line (position + 1) o)) (sym none))

@@ -65,7 +65,7 @@ pub record ActMade (machine : Machine) (cert : Certificate Value) (act : Act) (b
   pub after_is : bench_of after now ≡ bench_after machine (bench_of before devices) act moments
   pub counted : AreCounted before after events
 
--- The next word of the device at a place was put, where it has one and feeds a register: the certificate declares it, and nothing else
+-- The next word of the device at a position was put, where it has one and feeds a register: the certificate declares it, and nothing else
 -- of the bench changed but the count.
 pub record WordGiven (machine : Machine) (cert : Certificate Value) (before after : Bench) (put : Option PutWord) : Type 0 where
   pub through : stopped_by machine (Some cert) put ≡ None
@@ -91,11 +91,11 @@ WordStopped machine cert put _ = ⊥
 
 -- It wasn't: the certificate doesn't declare the word, which has left its plan; or the puts can't be counted any more, and nothing is
 -- changed.
-abbrev pub WordUngiven : Machine → Certificate Value → (devices now : List DeviceRecord) → (place : ℕ) → DriveError → Type 0
-WordUngiven machine cert devices now place (error.InputRange address word) =
-    (stopped_by machine (Some cert) (next_put (slice_get devices place)) ≡ Some (record { address = address; word = word })) × (now ≡ changed_at given devices place)
-WordUngiven machine cert devices now place error.NoMemory = now ≡ devices
-WordUngiven machine cert devices now place _ = ⊥
+abbrev pub WordUngiven : Machine → Certificate Value → (devices now : List DeviceRecord) → (position : ℕ) → DriveError → Type 0
+WordUngiven machine cert devices now position (error.InputRange address word) =
+    (stopped_by machine (Some cert) (next_put (slice_get devices position)) ≡ Some (record { address = address; word = word })) × (now ≡ changed_at given devices position)
+WordUngiven machine cert devices now position error.NoMemory = now ≡ devices
+WordUngiven machine cert devices now position _ = ⊥
 
 -- of a text the sink took a front, because it failed or memory was wanting
 abbrev pub IsFrontSent : (old new : Option (List ℕ)) (text : List ℕ) → DriveError → Type 0

@@ -22,13 +22,13 @@ use ags_device::Device;
 use ags_outside::Sink;
 use ags_ports::Machine;
 
-/// Runs a line's command, over as many places as devices were handed in: makes its acts, and prints what they show.
+/// Runs a line's command, over as many positions as devices were handed in: makes its acts, and prints what they show.
 pub(crate) fn run_command<K: Sink>(
     machine: &Machine,
     cert: &Cert,
     bench: &mut Bench,
     devices: &mut Vec<Box<dyn Device>>,
-    places: usize,
+    positions: usize,
     line: u32,
     command: BenchCommand,
     out: &mut K,
@@ -36,8 +36,8 @@ pub(crate) fn run_command<K: Sink>(
     requires fitted { IsBenchOf machine.now bench.old }
     requires located { NamesLocation command }
     ensures fitted { IsBenchOf machine.now bench.new }
-    ensures made { OnOk result (Made machine.now (certificate_of cert.now) (acts_of_command places line command) (K.told out.old) (K.told out.new) bench.old bench.new (map record_of devices.old.items) (map record_of devices.new.items)) }
-    ensures unmade { IfErr result (Unmade machine.now (certificate_of cert.now) (bench_of bench.old (map record_of devices.old.items)) (acts_of_command places line command) (K.told out.old) (K.told out.new) (map record_of devices.new.items)) }
+    ensures made { OnOk result (Made machine.now (certificate_of cert.now) (acts_of_command positions line command) (K.told out.old) (K.told out.new) bench.old bench.new (map record_of devices.old.items) (map record_of devices.new.items)) }
+    ensures unmade { IfErr result (Unmade machine.now (certificate_of cert.now) (bench_of bench.old (map record_of devices.old.items)) (acts_of_command positions line command) (K.told out.old) (K.told out.new) (map record_of devices.new.items)) }
     ensures faults { HasCause (K.faults out.old) (K.faults out.new) (is_drive_fault result) }
 {
     match command {
@@ -46,7 +46,7 @@ pub(crate) fn run_command<K: Sink>(
             pulse(machine, bench);
             Ok(())
         }
-        BenchCommand::Cycle(count) => run_cycles(machine, cert, bench, devices, places, count),
+        BenchCommand::Cycle(count) => run_cycles(machine, cert, bench, devices, positions, count),
         BenchCommand::ShowReg => show_reg(bench, out),
         BenchCommand::ShowCell(address) => show_cell(bench, address, out),
         BenchCommand::ShowOut(address) => show_out(machine, bench, address, out),

@@ -15,23 +15,23 @@ use ags_certtype::Cert;
 use ags_device::Device;
 use ags_ports::Machine;
 
-/// The feeds of a cycle, at so many places in order.
+/// The feeds of a cycle, at so many positions in order.
 fn feed_all(
     machine: &Machine,
     cert: &Cert,
     bench: &mut Bench,
     devices: &mut Vec<Box<dyn Device>>,
-    places: usize,
+    positions: usize,
 ) -> Result<(), DriveError>
     requires { IsBenchOf machine.now bench.old }
     ensures fitted { IsBenchOf machine.now bench.new }
-    ensures made { OnOk result (SilentMade machine.now (certificate_of cert.now) (act.at_each act.FeedsInCycle places) bench.old bench.new (map record_of devices.old.items) (map record_of devices.new.items)) }
-    ensures unmade { IfErr result (SilentUnmade machine.now (certificate_of cert.now) (bench_of bench.old (map record_of devices.old.items)) (act.at_each act.FeedsInCycle places) (map record_of devices.new.items)) }
+    ensures made { OnOk result (SilentMade machine.now (certificate_of cert.now) (act.at_each act.FeedsInCycle positions) bench.old bench.new (map record_of devices.old.items) (map record_of devices.new.items)) }
+    ensures unmade { IfErr result (SilentUnmade machine.now (certificate_of cert.now) (bench_of bench.old (map record_of devices.old.items)) (act.at_each act.FeedsInCycle positions) (map record_of devices.new.items)) }
     ensures no_fault { is_drive_fault result ≡ false }
 {
     bench.steps_fit();
-    for place in 0..places {
-        if let Err(error) = feed_in_cycle(machine, cert, bench, devices, place) {
+    for position in 0..positions {
+        if let Err(error) = feed_in_cycle(machine, cert, bench, devices, position) {
             return Err(error);
         }
     }
@@ -44,15 +44,15 @@ fn run_one(
     cert: &Cert,
     bench: &mut Bench,
     devices: &mut Vec<Box<dyn Device>>,
-    places: usize,
+    positions: usize,
 ) -> Result<(), DriveError>
     requires { IsBenchOf machine.now bench.old }
     ensures fitted { IsBenchOf machine.now bench.new }
-    ensures made { OnOk result (SilentMade machine.now (certificate_of cert.now) (act.at_each act.FeedsInCycle places ++ act.Pulses ∷ act.RunsCycle ∷ []) bench.old bench.new (map record_of devices.old.items) (map record_of devices.new.items)) }
-    ensures unmade { IfErr result (SilentUnmade machine.now (certificate_of cert.now) (bench_of bench.old (map record_of devices.old.items)) (act.at_each act.FeedsInCycle places ++ act.Pulses ∷ act.RunsCycle ∷ []) (map record_of devices.new.items)) }
+    ensures made { OnOk result (SilentMade machine.now (certificate_of cert.now) (act.at_each act.FeedsInCycle positions ++ act.Pulses ∷ act.RunsCycle ∷ []) bench.old bench.new (map record_of devices.old.items) (map record_of devices.new.items)) }
+    ensures unmade { IfErr result (SilentUnmade machine.now (certificate_of cert.now) (bench_of bench.old (map record_of devices.old.items)) (act.at_each act.FeedsInCycle positions ++ act.Pulses ∷ act.RunsCycle ∷ []) (map record_of devices.new.items)) }
     ensures no_fault { is_drive_fault result ≡ false }
 {
-    if let Err(error) = feed_all(machine, cert, bench, devices, places) {
+    if let Err(error) = feed_all(machine, cert, bench, devices, positions) {
         return Err(error);
     }
     pulse(machine, bench);
@@ -65,18 +65,18 @@ pub(crate) fn run_cycles(
     cert: &Cert,
     bench: &mut Bench,
     devices: &mut Vec<Box<dyn Device>>,
-    places: usize,
+    positions: usize,
     count: u32,
 ) -> Result<(), DriveError>
     requires { IsBenchOf machine.now bench.old }
     ensures fitted { IsBenchOf machine.now bench.new }
-    ensures made { OnOk result (SilentMade machine.now (certificate_of cert.now) (act.cycles places count) bench.old bench.new (map record_of devices.old.items) (map record_of devices.new.items)) }
-    ensures unmade { IfErr result (SilentUnmade machine.now (certificate_of cert.now) (bench_of bench.old (map record_of devices.old.items)) (act.cycles places count) (map record_of devices.new.items)) }
+    ensures made { OnOk result (SilentMade machine.now (certificate_of cert.now) (act.cycles positions count) bench.old bench.new (map record_of devices.old.items) (map record_of devices.new.items)) }
+    ensures unmade { IfErr result (SilentUnmade machine.now (certificate_of cert.now) (bench_of bench.old (map record_of devices.old.items)) (act.cycles positions count) (map record_of devices.new.items)) }
     ensures no_fault { is_drive_fault result ≡ false }
 {
     bench.steps_fit();
     for _ in 0..count {
-        if let Err(error) = run_one(machine, cert, bench, devices, places) {
+        if let Err(error) = run_one(machine, cert, bench, devices, positions) {
             return Err(error);
         }
     }

@@ -21,9 +21,9 @@ use ags_ports::{Event, Machine};
 use ags_run::cert_lets_through;
 use ags_word::Word;
 
-/// The place of a number: numbers are counted from 1.
-fn place_of_number(number: u32) -> Option<usize>
-    ensures { result ≡ play.place_of_number number }
+/// The position of a number: numbers are counted from 1.
+fn position_of_number(number: u32) -> Option<usize>
+    ensures { result ≡ play.position_of_number number }
 {
     if number == 0 {
         None
@@ -32,26 +32,26 @@ fn place_of_number(number: u32) -> Option<usize>
     }
 }
 
-/// Does nothing: its contract tells the proofs that a device is at a place.
-pub(crate) fn is_there(devices: &Vec<Box<dyn Device>>, place: usize)
-    requires { place < length devices.now.items }
-    ensures { IsSome (slice_get (map record_of devices.now.items) place) }
+/// Does nothing: its contract tells the proofs that a device is at a position.
+pub(crate) fn is_there(devices: &Vec<Box<dyn Device>>, position: usize)
+    requires { position < length devices.now.items }
+    ensures { IsSome (slice_get (map record_of devices.now.items) position) }
 {
-    let _feeds = feeds_at(devices, place);
+    let _feeds = feeds_at(devices, position);
 }
 
-/// The place of the device with a number, where one is present.
+/// The position of the device with a number, where one is present.
 pub(crate) fn find(devices: &Vec<Box<dyn Device>>, number: u32) -> Option<usize>
-    ensures below { IfSome result (λ place. place < length devices.now.items) }
-    ensures place { IfSome result (λ place. play.place_of_number number ≡ Some place) }
-    ensures some { IfSome result (λ place. IsSome (slice_get (map record_of devices.now.items) place)) }
-    ensures none { result ≡ None → play.device_at (map record_of devices.now.items) (play.place_of_number number) ≡ None }
+    ensures below { IfSome result (λ position. position < length devices.now.items) }
+    ensures position { IfSome result (λ position. play.position_of_number number ≡ Some position) }
+    ensures some { IfSome result (λ position. IsSome (slice_get (map record_of devices.now.items) position)) }
+    ensures none { result ≡ None → play.device_at (map record_of devices.now.items) (play.position_of_number number) ≡ None }
 {
-    match place_of_number(number) {
-        Some(place) => {
-            if place < devices.len() {
-                is_there(devices, place);
-                Some(place)
+    match position_of_number(number) {
+        Some(position) => {
+            if position < devices.len() {
+                is_there(devices, position);
+                Some(position)
             } else {
                 None
             }
@@ -60,10 +60,10 @@ pub(crate) fn find(devices: &Vec<Box<dyn Device>>, number: u32) -> Option<usize>
     }
 }
 
-/// The place of the input register that is fed, where the machine has it.
-fn fed_place(machine: &Machine, feeds: Option<u16>) -> Option<usize>
-    ensures place { result ≡ doing.fed_place machine.now feeds }
-    ensures below { IfSome result (λ place. place < length machine.now.ports.inputs) }
+/// The position of the input register that is fed, where the machine has it.
+fn fed_position(machine: &Machine, feeds: Option<u16>) -> Option<usize>
+    ensures position { result ≡ doing.fed_position machine.now feeds }
+    ensures below { IfSome result (λ position. position < length machine.now.ports.inputs) }
 {
     match feeds {
         Some(address) => machine.ports.find_input(address),
@@ -74,10 +74,10 @@ fn fed_place(machine: &Machine, feeds: Option<u16>) -> Option<usize>
 /// Whether a cycle feeds a register: it is there, and held or 0.
 fn takes_word(machine: &Machine, core: &Core, feeds: Option<u16>) -> bool
     requires { length core.now.inputs ≡ length machine.now.ports.inputs }
-    ensures { result ≡ doing.takes_word machine.now core.now (doing.fed_place machine.now feeds) }
+    ensures { result ≡ doing.takes_word machine.now core.now (doing.fed_position machine.now feeds) }
 {
-    match fed_place(machine, feeds) {
-        Some(place) => !machine.ports.is_once(place) || core.input(place).number() == 0,
+    match fed_position(machine, feeds) {
+        Some(position) => !machine.ports.is_once(position) || core.input(position).number() == 0,
         None => false,
     }
 }
@@ -141,28 +141,28 @@ fn put_next(
     }
 }
 
-/// Takes the next word of the device at a place, and puts it where the device feeds a register.
+/// Takes the next word of the device at a position, and puts it where the device feeds a register.
 fn give(
     machine: &Machine,
     cert: &Cert,
     bench: &mut Bench,
     devices: &mut Vec<Box<dyn Device>>,
-    place: usize,
+    position: usize,
 ) -> Result<(), DriveError>
     requires fitted { IsBenchOf machine.now bench.old }
-    requires place { place < length devices.old.items }
+    requires position { position < length devices.old.items }
     ensures fitted { IsBenchOf machine.now bench.new }
-    ensures given { OnOk result (WordGiven machine.now (certificate_of cert.now) bench.old bench.new (doing.next_put (slice_get (map record_of devices.old.items) place))) }
-    ensures taken { OnOk result (map record_of devices.new.items ≡ changed_at given (map record_of devices.old.items) place) }
-    ensures ungiven { IfErr result (WordUngiven machine.now (certificate_of cert.now) (map record_of devices.old.items) (map record_of devices.new.items) place) }
+    ensures given { OnOk result (WordGiven machine.now (certificate_of cert.now) bench.old bench.new (doing.next_put (slice_get (map record_of devices.old.items) position))) }
+    ensures taken { OnOk result (map record_of devices.new.items ≡ changed_at given (map record_of devices.old.items) position) }
+    ensures ungiven { IfErr result (WordUngiven machine.now (certificate_of cert.now) (map record_of devices.old.items) (map record_of devices.new.items) position) }
     ensures no_fault { is_drive_fault result ≡ false }
 {
     // No run lasts so long that the count has no more room.
     let Some(puts) = bench.puts.checked_add(1) else {
         return Err(DriveError::NoMemory);
     };
-    let feeds = feeds_at(devices, place);
-    let next = next_at(devices, place);
+    let feeds = feeds_at(devices, position);
+    let next = next_at(devices, position);
     put_next(machine, cert, bench, puts, feeds, next)
 }
 
@@ -182,41 +182,41 @@ pub(crate) fn feed(
     ensures no_fault { is_drive_fault result ≡ false }
 {
     bench.steps_fit();
-    let Some(place) = find(devices, number) else {
+    let Some(position) = find(devices, number) else {
         return Err(DriveError::NoDevice {
             line,
             device: number,
         });
     };
-    if fed_place(machine, feeds_at(devices, place)).is_none() {
+    if fed_position(machine, feeds_at(devices, position)).is_none() {
         return Err(DriveError::NoFeed {
             line,
             device: number,
         });
     }
-    give(machine, cert, bench, devices, place)
+    give(machine, cert, bench, devices, position)
 }
 
-/// The feed of a cycle: the device at a place is fed from where its register is held or 0.
+/// The feed of a cycle: the device at a position is fed from where its register is held or 0.
 pub(crate) fn feed_in_cycle(
     machine: &Machine,
     cert: &Cert,
     bench: &mut Bench,
     devices: &mut Vec<Box<dyn Device>>,
-    place: usize,
+    position: usize,
 ) -> Result<(), DriveError>
     requires { IsBenchOf machine.now bench.old }
     ensures fitted { IsBenchOf machine.now bench.new }
-    ensures made { OnOk result (ActMade machine.now (certificate_of cert.now) (act.FeedsInCycle place) bench.old bench.new (map record_of devices.old.items) (map record_of devices.new.items)) }
-    ensures unmade { IfErr result (SilentUnmade machine.now (certificate_of cert.now) (bench_of bench.old (map record_of devices.old.items)) (act.FeedsInCycle place ∷ []) (map record_of devices.new.items)) }
+    ensures made { OnOk result (ActMade machine.now (certificate_of cert.now) (act.FeedsInCycle position) bench.old bench.new (map record_of devices.old.items) (map record_of devices.new.items)) }
+    ensures unmade { IfErr result (SilentUnmade machine.now (certificate_of cert.now) (bench_of bench.old (map record_of devices.old.items)) (act.FeedsInCycle position ∷ []) (map record_of devices.new.items)) }
     ensures no_fault { is_drive_fault result ≡ false }
 {
     bench.steps_fit();
-    if place >= devices.len() {
+    if position >= devices.len() {
         return Ok(());
     }
-    if !takes_word(machine, &bench.core, feeds_at(devices, place)) {
+    if !takes_word(machine, &bench.core, feeds_at(devices, position)) {
         return Ok(());
     }
-    give(machine, cert, bench, devices, place)
+    give(machine, cert, bench, devices, position)
 }

@@ -20,17 +20,17 @@ use crate::showing::send_line;
 use ags_device::{Device, count_at, last_at, left_at, remove_at};
 use ags_outside::Sink;
 
-/// What the device at a place has left and has heard.
-fn counts_at(devices: &Vec<Box<dyn Device>>, place: usize) -> DeviceCounts
-    requires { place < length devices.now.items }
-    ensures left { result.left ≡ length (plan_of (slice_get (map record_of devices.now.items) place)) }
-    ensures heard { result.heard ≡ length (kept_of (slice_get (map record_of devices.now.items) place)) }
-    ensures last { result.last ≡ last_of (kept_of (slice_get (map record_of devices.now.items) place)) }
+/// What the device at a position has left and has heard.
+fn counts_at(devices: &Vec<Box<dyn Device>>, position: usize) -> DeviceCounts
+    requires { position < length devices.now.items }
+    ensures left { result.left ≡ length (plan_of (slice_get (map record_of devices.now.items) position)) }
+    ensures heard { result.heard ≡ length (kept_of (slice_get (map record_of devices.now.items) position)) }
+    ensures last { result.last ≡ last_of (kept_of (slice_get (map record_of devices.now.items) position)) }
 {
     DeviceCounts {
-        left: left_at(devices, place),
-        heard: count_at(devices, place),
-        last: last_at(devices, place),
+        left: left_at(devices, position),
+        heard: count_at(devices, position),
+        last: last_at(devices, position),
     }
 }
 
@@ -49,62 +49,66 @@ pub(crate) fn detach<K: Sink>(
     ensures faults { HasCause (K.faults out.old) (K.faults out.new) (is_drive_fault result) }
 {
     bench.steps_fit();
-    let Some(place) = find(devices, number) else {
+    let Some(position) = find(devices, number) else {
         return Err(DriveError::NoDevice {
             line,
             device: number,
         });
     };
-    let Ok(text) = detached_line(*devices.allocator(), number, counts_at(devices, place)) else {
+    let Ok(text) = detached_line(*devices.allocator(), number, counts_at(devices, position)) else {
         return Err(DriveError::NoMemory);
     };
     if let Err(error) = send_line(out, text.as_bytes()) {
         return Err(error);
     }
-    remove_at(devices, place);
+    remove_at(devices, position);
     Ok(())
 }
 
-/// The line at the end of the device at a place, where one is present.
+/// The line at the end of the device at a position, where one is present.
 fn show_left<K: Sink>(
     bench: &Bench,
     devices: &Vec<Box<dyn Device>>,
-    place: usize,
+    position: usize,
     out: &mut K,
 ) -> Result<(), DriveError>
     ensures made { OnOk result ((machine : Machine) (cert : Certificate Value)
-        → Made machine cert (act.ShowsDevice place ∷ []) (K.told out.old) (K.told out.new) bench.now bench.now (map record_of devices.now.items) (map record_of devices.now.items)) }
+        → Made machine cert (act.ShowsDevice position ∷ []) (K.told out.old) (K.told out.new) bench.now bench.now (map record_of devices.now.items) (map record_of devices.now.items)) }
     ensures unmade { IfErr result (λ error. (machine : Machine) (cert : Certificate Value)
-        → Unmade machine cert (bench_of bench.now (map record_of devices.now.items)) (act.ShowsDevice place ∷ []) (K.told out.old) (K.told out.new) (map record_of devices.now.items) error) }
+        → Unmade machine cert (bench_of bench.now (map record_of devices.now.items)) (act.ShowsDevice position ∷ []) (K.told out.old) (K.told out.new) (map record_of devices.now.items) error) }
     ensures faults { HasCause (K.faults out.old) (K.faults out.new) (is_drive_fault result) }
 {
     bench.steps_fit();
-    if place >= devices.len() {
+    if position >= devices.len() {
         return Ok(());
     }
-    is_there(devices, place);
-    let Ok(text) = left_line(*devices.allocator(), place + 1, counts_at(devices, place)) else {
+    is_there(devices, position);
+    let Ok(text) = left_line(
+        *devices.allocator(),
+        position + 1,
+        counts_at(devices, position),
+    ) else {
         return Err(DriveError::NoMemory);
     };
     send_line(out, text.as_bytes())
 }
 
-/// The lines at the end, of the devices at so many places.
+/// The lines at the end, of the devices at so many positions.
 pub(crate) fn show_all_left<K: Sink>(
     bench: &Bench,
     devices: &Vec<Box<dyn Device>>,
-    places: usize,
+    positions: usize,
     out: &mut K,
 ) -> Result<(), DriveError>
     ensures made { OnOk result ((machine : Machine) (cert : Certificate Value)
-        → Made machine cert (act.at_each act.ShowsDevice places) (K.told out.old) (K.told out.new) bench.now bench.now (map record_of devices.now.items) (map record_of devices.now.items)) }
+        → Made machine cert (act.at_each act.ShowsDevice positions) (K.told out.old) (K.told out.new) bench.now bench.now (map record_of devices.now.items) (map record_of devices.now.items)) }
     ensures unmade { IfErr result (λ error. (machine : Machine) (cert : Certificate Value)
-        → Unmade machine cert (bench_of bench.now (map record_of devices.now.items)) (act.at_each act.ShowsDevice places) (K.told out.old) (K.told out.new) (map record_of devices.now.items) error) }
+        → Unmade machine cert (bench_of bench.now (map record_of devices.now.items)) (act.at_each act.ShowsDevice positions) (K.told out.old) (K.told out.new) (map record_of devices.now.items) error) }
     ensures faults { HasCause (K.faults out.old) (K.faults out.new) (is_drive_fault result) }
 {
     bench.steps_fit();
-    for place in 0..places {
-        if let Err(error) = show_left(bench, devices, place, out) {
+    for position in 0..positions {
+        if let Err(error) = show_left(bench, devices, position, out) {
             return Err(error);
         }
     }

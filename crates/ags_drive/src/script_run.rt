@@ -25,22 +25,22 @@ pub(crate) fn run_lines<K: Sink>(
     cert: &Cert,
     bench: &mut Bench,
     devices: &mut Vec<Box<dyn Device>>,
-    places: usize,
+    positions: usize,
     script: &BenchScript,
     out: &mut K,
 ) -> Result<(), DriveError>
     requires fitted { IsBenchOf machine.now bench.old }
     requires suits { Suits machine.now script.now }
     ensures fitted { IsBenchOf machine.now bench.new }
-    ensures made { OnOk result (Made machine.now (certificate_of cert.now) (acts_of places script.now) (K.told out.old) (K.told out.new) bench.old bench.new (map record_of devices.old.items) (map record_of devices.new.items)) }
-    ensures unmade { IfErr result (Unmade machine.now (certificate_of cert.now) (bench_of bench.old (map record_of devices.old.items)) (acts_of places script.now) (K.told out.old) (K.told out.new) (map record_of devices.new.items)) }
+    ensures made { OnOk result (Made machine.now (certificate_of cert.now) (acts_of positions script.now) (K.told out.old) (K.told out.new) bench.old bench.new (map record_of devices.old.items) (map record_of devices.new.items)) }
+    ensures unmade { IfErr result (Unmade machine.now (certificate_of cert.now) (bench_of bench.old (map record_of devices.old.items)) (acts_of positions script.now) (K.told out.old) (K.told out.new) (map record_of devices.new.items)) }
     ensures faults { HasCause (K.faults out.old) (K.faults out.new) (is_drive_fault result) }
 {
     bench.steps_fit();
     for position in 0..script.len() {
         let asked = script.nth(position);
         if let Err(error) = run_command(
-            machine, cert, bench, devices, places, asked.0, asked.1, out,
+            machine, cert, bench, devices, positions, asked.0, asked.1, out,
         ) {
             return Err(error);
         }
@@ -63,9 +63,9 @@ pub(crate) fn run_script<K: Sink>(
     ensures unmade { IfErr result (Unmade machine.now (certificate_of cert.now) (bench_of bench.old (map record_of devices.old.items)) (acts_of_script (length (map record_of devices.old.items)) script.now) (K.told out.old) (K.told out.new) (map record_of devices.new.items)) }
     ensures faults { HasCause (K.faults out.old) (K.faults out.new) (is_drive_fault result) }
 {
-    let places = devices.len();
-    if let Err(error) = run_lines(machine, cert, bench, devices, places, script, out) {
+    let positions = devices.len();
+    if let Err(error) = run_lines(machine, cert, bench, devices, positions, script, out) {
         return Err(error);
     }
-    show_all_left(bench, devices, places, out)
+    show_all_left(bench, devices, positions, out)
 }

@@ -1,6 +1,6 @@
 //! What is shown of the machine: a line, sent with its line feed.
 
-ghost use Rattle.std.specs.Prelude.{◌≡◌, ◌<◌, List, [], ◌∷◌, length, IfOk, OnOk, IfErr};
+ghost use Rattle.std.specs.Prelude.{◌≡◌, ◌<◌, List, [], ◌∷◌, length, OnOk, IfErr};
 ghost use Rattle.ags_benchplay.specs.Act as act;
 ghost use Rattle.ags_device.specs.Record.{DeviceRecord};
 ghost use Rattle.ags_domain.specs.declared.values.Value.{Value};

@@ -1,12 +1,11 @@
 //! The bench before the first act.
 
-ghost use Rattle.std.specs.Prelude.{◌≡◌, List, false, None, option_map, IfOk, IfErr};
+ghost use Rattle.std.specs.Prelude.{◌≡◌, List, false, None, IfOk, IfErr};
 ghost use Rattle.ags_benchplay.specs.Bench.{start_bench};
 ghost use Rattle.ags_certtype.specs.Cert.{certificate_of};
 ghost use Rattle.ags_core.specs.Core.{start_state};
 ghost use Rattle.ags_device.specs.Record.{DeviceRecord};
 ghost use Rattle.ags_play.specs.Guard.{IsFirstOutside};
-ghost use Rattle.ags_run.specs.Play.{outside_of};
 ghost use Rattle.ags_drive.specs.Drive.{is_drive_fault};
 ghost use Rattle.ags_drive.specs.Standing.{IsBenchOf, bench_of};
 ghost use Rattle.ags_drive.specs.Starting.{IsUnbegun};

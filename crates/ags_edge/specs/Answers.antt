@@ -22,8 +22,8 @@ faults_after before pull.Absent = before
 faults_after before pull.Failed = min (before + 1) (2 ^ 64 - 1)
 faults_after before pull.NoMemory = before
 
--- What a put did to the bytes of the writer behind a sink and of the room before it, where they are known: those that
--- were taken stand behind the others, and otherwise nothing does.
+-- What a put did to the bytes of the writer after a sink and of the room before it, where they are known: those that
+-- were taken stand after the others, and otherwise nothing does.
 abbrev pub PutAppends : (old new : Option (List ℕ)) (piece : List ℕ) (answer : PutDone) → Type 0
 PutAppends old new piece (put.Took count) = Appends old new (take count piece)
 PutAppends old new piece put.Failed = Keeps old new

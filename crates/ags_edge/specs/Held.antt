@@ -5,7 +5,7 @@ use Rattle.std.specs.Io.KnownBytes.{Consumes, IsAtEnd, Keeps}
 use Rattle.std.specs.String.{string_bytes}
 use Rattle.ags_edge.specs.declared.file_shelf.OpenFile.{OpenFile}
 
--- the file of that name stays open, at the place behind the bytes, which begin at `from`
+-- the file of that name stays open, at the place after the bytes, which begin at `from`
 abbrev pub StaysOpen : {F : Type 0} → (held : Option (OpenFile F)) (name : List ℕ) (from : ℕ) (count : Option ℕ) → Type 0
 StaysOpen held name from count =
     IfSome count (λ given. IsSomeAnd held (λ file. (string_bytes file.name ≡ name) × (file.at ≡ min (from + given) (2 ^ 64 - 1))))

@@ -147,10 +147,7 @@ impl<'a, R: Files> FileShelf<'a, R> {
     pub fn unread(&self) -> Option<&str>
         ensures { option_map (λ name. name.now) result ≡ option_map string_bytes self.now.unread }
     {
-        match &self.unread {
-            Some(name) => Some(name.as_str()),
-            None => None,
-        }
+        self.unread.as_deref()
     }
 
     /// The name of the file that was looked for last, where it is known: of one that couldn't be read, else of one that is open. Of a

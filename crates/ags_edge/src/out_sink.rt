@@ -18,7 +18,7 @@ use std::io::{self, BufWriter, ErrorKind, Write};
 /// How many bytes are written at once.
 const ROOM: usize = 65536;
 
-/// A writer, behind room for what is not yet written.
+/// A writer, after room for what is not yet written.
 #[derive(Drop)]
 pub struct OutSink<W: Write + Drop> {
     out: BufWriter<W>,

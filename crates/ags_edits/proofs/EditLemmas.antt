@@ -1,5 +1,5 @@
 -- The edits so far: what each line makes of them, and that they are in the end those of all lines.
-use Rattle.std.proofs.Common.{◌≡◌, ℕ, ◌+◌, ◌<◌, ◌≤◌, Bool, true, false, not, ◌||◌, refl, sym, ap, ◌∙◌, subst, List, [], ◌∷◌, ◌++◌, length, reverse, Option, Some, None, append_assoc, arith}
+use Rattle.std.proofs.Common.{◌≡◌, ℕ, ◌+◌, ◌<◌, ◌≤◌, Bool, true, false, refl, sym, ap, ◌∙◌, subst, List, [], ◌∷◌, ◌++◌, length, reverse, Option, Some, None, append_assoc, arith}
 use Rattle.std.specs.List.{AllByRecursion}
 use Rattle.std.specs.Prelude.{nat_le, filter, is_some, Result, Ok, Err, IfOk, All}
 use Rattle.std.proofs.lemmas.Bool.Decides.{nat_tests}
@@ -10,21 +10,21 @@ use Rattle.ags_statements.specs.Taking.{TakesStatement, TellsUntaken}
 use Rattle.ags_statements.specs.declared.gathers.Untaken.TheVariants.{Faulty}
 use Rattle.ags_statements.proofs.KeptLemmas.{no_fault}
 use Rattle.ags_domain.specs.declared.values.Value.{Value}
-use Rattle.ags_row.specs.Cell.{cells_ascend, value_among}
+use Rattle.ags_row.specs.Cell.{cells_ascend}
 use Rattle.ags_row.specs.declared.ats.At.{At as Cell_at}
 use Rattle.ags_row.specs.declared.links.Link.{Link}
 use Rattle.ags_row.specs.declared.rows.Row.{Row as RowOf}
 use Rattle.ags_certtext.specs.declared.statements.Entry.{Entry}
 use Rattle.ags_certtext.specs.declared.statements.RowLine.{RowLine}
 use Rattle.ags_certtext.specs.Fault.{is_empty, is_fixed}
-use Rattle.ags_certtext.specs.Statement.{has_address, value_at}
+use Rattle.ags_certtext.specs.Statement.{value_at}
 use Rattle.ags_certtext.specs.Text.{IsLinkOf, IsRowOfLines}
 use Rattle.ags_certread.specs.Before.{AreCells}
 use Rattle.ags_certread.specs.Gathering.{has_cell, with_entry}
 use Rattle.ags_certread.proofs.CellLemmas.{AreCells-none, AreCells-more, ascend_more, count_more}
 use Rattle.ags_certread.proofs.TableLemmas.{reverse-more, value_reversed}
-use Rattle.ags_edits.specs.Gathering.{AreMade, Gathered, IsBareRow, IsGrown, IsLast, IsLimitMade, IsNoRow, IsRowMade, IsSameBeside, IsWithCell, IsWithLink, IsWordMade, at_fault, gathered_of, without_end}
-use Rattle.ags_edits.specs.Text.{AreEditsOf, Begins, IsEditOf, IsLawful, IsWordOfMemory, faults, is_edit, is_end, is_full, is_open, line_fault, row_entries, row_links}
+use Rattle.ags_edits.specs.Gathering.{AreMade, Gathered, IsBareRow, IsGrown, IsLast, IsNoRow, IsWithCell, IsWithLink, at_fault, gathered_of, without_end}
+use Rattle.ags_edits.specs.Text.{AreEditsOf, IsLawful, IsWordOfMemory, faults, is_edit, is_end, is_full, is_open, row_entries, row_links}
 use Rattle.ags_edits.specs.declared.edits.Edit.{Edit}
 use Rattle.ags_edits.specs.declared.edits.Edit.TheVariants as edit
 use Rattle.ags_edits.specs.declared.edits_errors.EditsKind.{EditsKind}
@@ -353,22 +353,6 @@ module _ (g : Gatherer) (version : ℕ) (none : g.ended ≡ false) where
       let un = unended before g.ended so.ended_is none in
       let closed = no_last g.edits.items others before last (open_are g.edits.items g.ended before so none) in
       rw (un, closed) refl
-
-  pub at_fixed : (its : Entry) → is_fixed its.address ≡ true → TellsUntaken gathered_of faults version g (At its) (Faulty BadLine)
-  at_fixed its fixed = λ before so.
-      let un = unended before g.ended so.ended_is none in by_open before un (is_open before) refl
-    where
-      by_open : (before : List EditLine) → has_ended is_end before ≡ false → (b : Bool) → is_open before ≡ b → faults.fault_after version before (At its) ≡ Some BadLine
-      by_open before un true is = rw (un, is, fixed) refl
-      by_open before un false is = rw (un, is) refl
-
-  pub link_fixed : (its : Link) → is_fixed its.address ≡ true → TellsUntaken gathered_of faults version g (Linked its) (Faulty BadLine)
-  link_fixed its fixed = λ before so.
-      let un = unended before g.ended so.ended_is none in by_open before un (is_open before) refl
-    where
-      by_open : (before : List EditLine) → has_ended is_end before ≡ false → (b : Bool) → is_open before ≡ b → faults.fault_after version before (Linked its) ≡ Some BadLine
-      by_open before un true is = rw (un, is, fixed) refl
-      by_open before un false is = rw (un, is) refl
 
   module _ (number : ℕ) (row : RowOf Value) (others : List Edit) (last : g.edits.items ≡ others ++ edit.Row number row ∷ []) where
     are_last : (before : List EditLine) → gathered_of g before → AreMade [] [] before (edit.Row number row ∷ reverse others)

@@ -5,7 +5,7 @@ use Rattle.std.specs.List.{list_all}
 use Rattle.std.proofs.lemmas.Int.Digits.{digits_value-lt}
 use Rattle.ags_text.specs.Field.{AreBlanks, HasFields, IsField, is_blank, next_field, behind_field}
 use Rattle.ags_text.specs.Numeral.{IsDecimal, Writes}
-use Rattle.ags_text.proofs.Deciding.{Decided, Found, decide_bool, decide_list, number_found}
+use Rattle.ags_text.proofs.Deciding.{Found, decide_bool, decide_list, number_found}
 use Rattle.ags_text.proofs.FieldLaws.{standing_cut, cut_standing, number_field, writes_field, blanks_none, first_byte}
 use Rattle.ags_row.specs.declared.links.Link.{Link}
 use Rattle.ags_certtext.specs.Spelling.{States as StatesInCert, StatesEntry, StatesLink}
@@ -217,7 +217,7 @@ one_of_parts line one other (inr is) (inr so) = one_shared line one other is.0 s
 pub one_statement : (line : List ℕ) (one other : EditLine) → States line one → States line other → one ≡ other
 one_statement line one other is so = one_of_parts line one other (state_parts line one is) (state_parts line other so)
 
--- what a line with a keyword states stands behind it, and what another states a certificate's line states too
+-- what a line with a keyword states stands after it, and what another states a certificate's line states too
 keyword_of_parts : (line : List ℕ) (name : Keyword) (its : EditLine) → keyword_name name ≡ next_field line → HasParts line its → AreOperands name (behind_field line) its
 keyword_of_parts line name its named (inl has) = rw (one_keyword has.0 name (has.1 ∙ sym named)) at has.2
 keyword_of_parts line name its named (inr has) = absurd (has.1 name named)

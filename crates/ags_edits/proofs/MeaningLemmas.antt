@@ -1,7 +1,7 @@
 -- Each text of edits means something, and one thing. Behind the law stand
 --     one_list, some_edits
-use Rattle.std.proofs.Common.{◌≡◌, ℕ, ◌<◌, ◌≤◌, ◌⊎◌, Bool, true, false, not, ◌||◌, refl, sym, ap, ◌∙◌, subst, List, [], ◌∷◌, ◌++◌, length, reverse, Option, Some, None, inl, inr, arith}
-use Rattle.std.specs.Prelude.{All, nat_le, nat_lt, is_some}
+use Rattle.std.proofs.Common.{◌≡◌, ℕ, ◌<◌, ◌⊎◌, Bool, true, false, not, ◌||◌, refl, sym, ap, ◌∙◌, subst, List, [], ◌∷◌, ◌++◌, length, reverse, Option, Some, None, inl, inr, arith}
+use Rattle.std.specs.Prelude.{All, nat_le, nat_lt}
 use Rattle.std.proofs.lemmas.Bool.Decides.{nat_tests}
 use Rattle.std.proofs.lemmas.List.{reverse-reverse}
 use Rattle.ags_frame.specs.Fault.{has_ended}
@@ -12,7 +12,6 @@ use Rattle.ags_statements.proofs.KeptLemmas.{no_fault, text_kept}
 use Rattle.ags_statements.proofs.MeaningLemmas as statements
 use Rattle.ags_statements.proofs.ReadLemmas.{EachIsRead}
 use Rattle.ags_domain.specs.declared.values.Value.{Value}
-use Rattle.ags_row.specs.Cell.{cells_ascend}
 use Rattle.ags_row.specs.Link.{is_link}
 use Rattle.ags_row.specs.declared.links.Link.{Link}
 use Rattle.ags_row.specs.declared.rows.Row.{Row as RowOf}
@@ -21,7 +20,7 @@ use Rattle.ags_certtext.specs.declared.statements.RowLine.{RowLine}
 use Rattle.ags_certtext.specs.Fault.{is_empty, is_fixed}
 use Rattle.ags_certtext.specs.Spelling.{is_offset}
 use Rattle.ags_certtext.specs.Statement.{IsRowLine, has_address}
-use Rattle.ags_certtext.specs.Text.{IsRowOfLines, RowOfLines}
+use Rattle.ags_certtext.specs.Text.{RowOfLines}
 use Rattle.ags_certread.specs.Gathering.{with_entry}
 use Rattle.ags_certread.proofs.UniqueLemmas.{rows_one}
 use Rattle.ags_edits.specs.Gathering.{AreMade, Gathered, IsBareRow, IsSameBeside, IsWithCell, IsWithLink, at_fault}

@@ -1,5 +1,5 @@
 -- What serves inside: what is gathered of the lines of a text of edits.
-use Rattle.std.specs.Prelude.{◌≡◌, ℕ, ◌<◌, nat_le, Bool, List, [], ◌∷◌, ◌++◌, length, reverse, is_some, Option, Some, None}
+use Rattle.std.specs.Prelude.{◌≡◌, ℕ, ◌<◌, nat_le, Bool, List, [], ◌∷◌, ◌++◌, length, reverse, Option, Some, None}
 use Rattle.ags_frame.specs.Fault.{has_ended}
 use Rattle.ags_statements.specs.Fault.{fault_if}
 use Rattle.ags_domain.specs.declared.values.Value.{Value}
@@ -84,7 +84,7 @@ IsWordMade its made = (made ≡ edit.Word its.location its.word) × IsWordOfMemo
 abbrev pub IsLimitMade : Entry → Edit → Type 0
 IsLimitMade its made = (value : Value) × (its.value ≡ Some value) × (made ≡ edit.Limit (record { address = its.address; value = value })) × (its.address < 2048)
 
--- The edits, the last first, are those of the lines before, nearest first, where these cells and links stand behind them, nearest
+-- The edits, the last first, are those of the lines before, nearest first, where these cells and links stand after them, nearest
 -- first too. None of the lines is END.
 abbrev pub AreMade : List Entry → List Link → List EditLine → List Edit → Type 0
 AreMade cells links [] edits = edits ≡ []

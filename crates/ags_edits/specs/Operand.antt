@@ -1,4 +1,4 @@
--- What serves inside: what stands behind the keyword of a line, as it is read.
+-- What serves inside: what stands after the keyword of a line, as it is read.
 use Rattle.std.specs.Prelude.{◌≡◌, ℕ, List, Option, Some, None, codes}
 use Rattle.ags_text.specs.Field.{AreBlanks, next_field, behind_field}
 use Rattle.ags_text.specs.Numeral.{IsDecimal, Writes}
@@ -14,7 +14,7 @@ use Rattle.ags_edits.specs.declared.statements.EditLine.TheVariants.{Word, Cell,
 use Rattle.ags_edits.specs.declared.statements.RowEdit.{RowEdit}
 use Rattle.ags_edits.specs.declared.statements.WordEdit.{WordEdit}
 
--- a location and a word, and nothing behind them
+-- a location and a word, and nothing after them
 pub record IsWordEdit (text : List ℕ) (its : WordEdit) : Type 0 where
   pub location_is : Writes 8 4 (next_field text) its.location
   pub word_is : Writes 8 6 (next_field (behind_field text)) its.word
@@ -30,7 +30,7 @@ abbrev pub keyword_name : Keyword → List ℕ
 keyword_name keyword.Word = codes "WORD"
 keyword_name keyword.Row = codes "ROW"
 
--- what stands behind a keyword states this
+-- what stands after a keyword states this
 abbrev pub AreOperands : Keyword → (text : List ℕ) → EditLine → Type 0
 AreOperands keyword.Word text its = (word : WordEdit) × IsWordEdit text word × (its ≡ Word word)
 AreOperands keyword.Row text its = (row : RowEdit) × IsRowEdit text row × (its ≡ Row row)

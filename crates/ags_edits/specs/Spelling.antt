@@ -1,5 +1,5 @@
 -- How the lines of a text of edits are spelled: forwards from what a line states to the lines that state it. The line of a cell, those
--- behind a row's line and the last line are spelled as in a certificate.
+-- after a row's line and the last line are spelled as in a certificate.
 use Rattle.std.specs.Prelude.{ℕ, List, [], ◌∷◌, codes}
 use Rattle.ags_text.specs.Field.{HasFields}
 use Rattle.ags_text.specs.Numeral.{IsDecimal, Writes}

@@ -1,5 +1,5 @@
 -- What a text of edits says: the edits that it states, or its first fault. Where lines stand before another they are told nearest first.
-use Rattle.std.specs.Prelude.{◌≡◌, ℕ, ◌<◌, ◌^◌, ◌||◌, not, nat_le, nat_lt, filter, Bool, true, false, List, [], ◌∷◌, length, Option, Some, None, codes}
+use Rattle.std.specs.Prelude.{◌≡◌, ℕ, ◌<◌, ◌^◌, ◌||◌, not, nat_le, filter, Bool, true, false, List, [], ◌∷◌, length, Option, Some, None, codes}
 use Rattle.ags_frame.specs.Fault.{Faults, has_ended}
 use Rattle.ags_statements.specs.Fault.{fault_if}
 use Rattle.ags_statements.specs.Text.{IsTextOf, IsFaultyText}
@@ -40,7 +40,7 @@ abbrev pub is_end : EditLine → Bool
 is_end End = true
 is_end _ = false
 
--- The AT and LINK lines that stand right at the front of the lines: behind a row's line they are the row's, and of the lines before one,
+-- The AT and LINK lines that stand right at the front of the lines: after a row's line they are the row's, and of the lines before one,
 -- told nearest first, they are those of the row that it would belong to. Of these the cells, and the links.
 abbrev pub row_entries : List EditLine → List Entry
 row_entries [] = []
@@ -62,7 +62,7 @@ is_open (Linked link ∷ before) = is_open before
 is_open (Row its ∷ before) = true
 is_open (_ ∷ before) = false
 
--- the edit that a line states, where these stand behind it
+-- the edit that a line states, where these stand after it
 abbrev pub IsEditOf : EditLine → (behind : List EditLine) → Edit → Type 0
 IsEditOf (Word its) behind made = made ≡ edit.Word its.location its.word
 IsEditOf (Cell entry) behind made = (value : Value) × (entry.value ≡ Some value) × (made ≡ edit.Limit (record { address = entry.address; value = value }))

@@ -17,7 +17,7 @@ use std::alloc::Global;
 #[derive(Drop)]
 pub(crate) struct Gatherer {
     alloc: Global,
-    /// The edits, in order; the last one's row grows with the lines behind it.
+    /// The edits, in order; the last one's row grows with the lines after it.
     pub(crate) edits: Vec<Edit>,
     /// Whether END was the last line.
     ended: bool,
@@ -57,10 +57,7 @@ impl Gatherer {
         ensures untaken { IfErr result (λ why. why ≡ NoMemory) }
         ensures ended { self.new.ended ≡ self.old.ended }
     {
-        match self.edits.push(edit) {
-            Ok(()) => Ok(()),
-            Err(_) => Err(Untaken::NoMemory),
-        }
+        self.edits.push(edit).map_err(|_| Untaken::NoMemory)
     }
 
     /// Takes the edit of a word, where END doesn't stand before it.

@@ -23,12 +23,8 @@ fn read_word_edit(text: &[u8]) -> Option<WordEdit>
 {
     let (place, behind) = split_field(text);
     let (digits, rest) = split_field(behind);
-    let Some(location) = read_address(place) else {
-        return None;
-    };
-    let Some(word) = read_word(digits) else {
-        return None;
-    };
+    let location = read_address(place)?;
+    let word = read_word(digits)?;
     are_blanks(rest).then_some(WordEdit { location, word })
 }
 
@@ -38,12 +34,8 @@ fn read_row_edit(text: &[u8]) -> Option<RowEdit>
     ensures only { (its : RowEdit) → IsRowEdit text.now its → result ≡ Some its }
 {
     let (number, behind) = split_field(text);
-    let Some(row) = read_count(number) else {
-        return None;
-    };
-    let Some(new) = read_row(behind) else {
-        return None;
-    };
+    let row = read_count(number)?;
+    let new = read_row(behind)?;
     Some(RowEdit { row, new })
 }
 
@@ -71,7 +63,7 @@ fn read_shared(line: &[u8]) -> Option<EditLine>
     }
 }
 
-/// What a keyword and the text behind it state.
+/// What a keyword and the text after it state.
 fn read_operands(keyword: Keyword, text: &[u8]) -> Option<EditLine>
     ensures found { IfSome result (AreOperands keyword text.now) }
     ensures only { (its : EditLine) → AreOperands keyword text.now its → result ≡ Some its }

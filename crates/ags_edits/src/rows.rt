@@ -1,6 +1,6 @@
 //! The row of a row's edit: its lines come one after the other.
 
-ghost use Rattle.std.specs.Prelude.{◌≡◌, ◌<◌, ◌||◌, true, false, not, nat_le, is_some, length, Some, IfOk, IfSome};
+ghost use Rattle.std.specs.Prelude.{◌≡◌, ◌<◌, ◌||◌, true, false, length, Some, IfOk, IfSome};
 ghost use Rattle.ags_row.specs.Link.{is_link};
 ghost use Rattle.ags_certtext.specs.Fault.{is_empty, is_fixed};
 ghost use Rattle.ags_certtext.specs.Statement.{IsRowLine};

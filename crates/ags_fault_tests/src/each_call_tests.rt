@@ -168,7 +168,7 @@ fn edits_of_a_subroutine_are_cut_off_at_each_call(rt: HostRuntime) {
     fail_each_call(&rt, "edits R Q U", 6, text);
 }
 
-// Two faults at once: behind a pull that failed no put is made, so the first put is still to come, and fails.
+// Two faults at once: after a pull that failed no put is made, so the first put is still to come, and fails.
 #[test]
 fn the_second_of_two_faults_is_not_reached(rt: HostRuntime) {
     let alloc = rt.alloc();

@@ -253,7 +253,7 @@ fn same_words(rt: &impl Abort, alloc: Global, count: u32) -> Vec<u8> {
     text
 }
 
-// There are 10,000 edits at most. The further one is told where it stands, in the line behind theirs.
+// There are 10,000 edits at most. The further one is told where it stands, in the line after theirs.
 #[test]
 fn texts_of_edits_have_ten_thousand_at_most(rt: HostRuntime) {
     let alloc = rt.alloc();
@@ -335,7 +335,7 @@ fn ten_thousand_rows_are_edited(rt: HostRuntime) {
     );
 }
 
-// A certificate of empty lines behind its first, as long as it may be and one byte longer. Its END is missing.
+// A certificate of empty lines after its first, as long as it may be and one byte longer. Its END is missing.
 #[test]
 fn certificates_have_a_limit(rt: HostRuntime) {
     let alloc = rt.alloc();

@@ -2,7 +2,7 @@
 
 use ags_outside::{MemoryShelf, MemorySink, Pull, PutDone, Shelf, Sink};
 
-// Calls are counted from 1, one that failed with them; a number behind, or listed twice, changes nothing.
+// Calls are counted from 1, one that failed with them; a number after, or listed twice, changes nothing.
 #[test]
 fn a_shelf_fails_at_its_listed_calls(rt: HostRuntime) {
     let mut shelf = MemoryShelf::new(rt.alloc());

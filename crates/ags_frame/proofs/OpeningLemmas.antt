@@ -8,7 +8,7 @@ use Rattle.ags_text.proofs.Deciding.{Decided, Found, decide_bool, decide_le, dec
 use Rattle.ags_text.proofs.FieldLaws.{standing_cut, cut_standing, number_field}
 use Rattle.ags_frame.specs.declared.openings.Opening.{Opening}
 use Rattle.ags_frame.specs.declared.openings.Opening.TheVariants.{Version, Another, Malformed}
-use Rattle.ags_frame.specs.Opening.{IsPlain, IsVersion, IsNoVersion, Opens, OpensAnother, IsOpening, IsVersionField, IsOther, IsOpeningOf}
+use Rattle.ags_frame.specs.Opening.{IsVersion, IsNoVersion, Opens, OpensAnother, IsOpening, IsVersionField, IsOther, IsOpeningOf}
 
 -- ---- the fields of a first line
 
@@ -45,11 +45,6 @@ pub not_other : (latest : ℕ) (digits : List ℕ) (number : ℕ) → IsDecimal 
 not_other latest digits number is version other =
     let same : number ≡ other.0 = one_number digits digits number other.0 refl is other.1 in
     version_is_some latest other.0 (rw (← same) version) other.2
-
-pub not_version : (latest : ℕ) (digits : List ℕ) (number : ℕ) → IsDecimal 6 digits number → IsNoVersion latest number → (version : ℕ) → IsVersion latest version → IsPlain digits version → ⊥
-not_version latest digits number is none version is_version plain =
-    let same : number ≡ version = one_number digits digits number version refl is plain.is_decimal in
-    version_is_some latest version is_version (rw (← same) none)
 
 -- ---- what a first line opens
 

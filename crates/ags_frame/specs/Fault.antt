@@ -22,12 +22,12 @@ abbrev pub has_ended : {S : Type 0} → (is_end : S → Bool) → List S → Boo
 has_ended is_end [] = false
 has_ended is_end (statement ∷ before) = is_end statement
 
--- the fault of the end of a text behind some statements: the one that ends it is missing
+-- the fault of the end of a text after some statements: the one that ends it is missing
 abbrev pub end_fault : {S F : Type 0} → Faults S F → List S → Option F
 end_fault its before = if has_ended its.is_end before then None else Some its.bad_line
 
 -- The fault of a line's reading, or of the end of the text, where the lines before it have these readings, nearest first. The end of a
--- text stands behind its last line, so it is told at the number of lines plus 1.
+-- text stands after its last line, so it is told at the number of lines plus 1.
 abbrev pub reading_fault : {S F : Type 0} → Faults S F → List (Reading S) → Reading S → Option F
 reading_fault its before (Opening version) = None
 reading_fault its before OtherOpening = Some its.version

@@ -44,7 +44,7 @@ IsOpening name latest line Malformed = ((version : ℕ) → IsVersion latest ver
 
 -- ---- as it is read
 
--- the text's name, the digits of its version, and nothing behind them
+-- the text's name, the digits of its version, and nothing after them
 pub record IsVersionField (name line digits : List ℕ) : Type 0 where
   pub named : next_field line ≡ name
   pub digits_are : next_field (behind_field line) ≡ digits

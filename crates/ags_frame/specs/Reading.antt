@@ -9,7 +9,7 @@ use Rattle.ags_frame.specs.declared.openings.Opening.TheVariants as first
 use Rattle.ags_frame.specs.Line.{IsSkipped, Spells}
 use Rattle.ags_frame.specs.Opening.{IsOpening}
 
--- What a line is, and what stands behind the last one: it opens a text, of a version that is carried on or of another, it makes a
+-- What a line is, and what stands after the last one: it opens a text, of a version that is carried on or of another, it makes a
 -- statement, it is skipped, or it is none of these; or the text has ended.
 pub data Reading (S : Type 0) : Type 0 where
   Opening : ℕ → Reading S
@@ -44,7 +44,7 @@ AreLineReadings name latest States (line ∷ lines) (reading ∷ readings) = IsF
 AreLineReadings name latest States [] (reading ∷ readings) = ⊥
 AreLineReadings name latest States (line ∷ lines) [] = ⊥
 
--- the readings of a text: those of its lines, and its end behind them
+-- the readings of a text: those of its lines, and its end after them
 pub record AreReadings {S : Type 0} (name : List ℕ) (latest : ℕ) (States : List ℕ → S → Type 0) (lines : List LineAt) (readings : List (Reading S)) : Type 0 where
   pub of_lines : List (Reading S)
   pub are : AreLineReadings name latest States lines of_lines

@@ -29,7 +29,7 @@ fn is_idle(line: &[u8]) -> bool
     }
 }
 
-/// What a further line is, behind the first.
+/// What a further line is, after the first.
 pub fn read_line<T: Statements>(line: &[u8]) -> Line<T::Statement>
     // The line is read as what it is, and is nothing else.
     ensures found { IsReading T.states line.now (line_reading result) }

@@ -15,8 +15,6 @@ pub fn read_size(text: &[u8]) -> Option<u32>
     if text.len() > MOST_DIGITS {
         return None;
     }
-    let Some(size) = ags_text::read_decimal(text) else {
-        return None;
-    };
+    let size = ags_text::read_decimal(text)?;
     Some(size)
 }

@@ -27,7 +27,7 @@ fn is_same(text: &[u8], other: &[u8]) -> bool
     text == other
 }
 
-/// The digits of a version, behind the name of a text in its first line.
+/// The digits of a version, after the name of a text in its first line.
 fn version_digits<'a>(line: &'a [u8], name: &[u8]) -> Option<&'a [u8]>
     ensures found { IfSome result (λ digits. IsVersionField name.now line.now digits.now) }
     ensures only { (digits : List ℕ) → IsVersionField name.now line.now digits → IsSomeAnd result (λ found. found.now ≡ digits) }

@@ -62,10 +62,6 @@ pub entry_at-other : (image : List (Option ℕ)) (location other word : ℕ) →
 unfolding entry_at with_word
 entry_at-other image location other word apart = get_or-set_other image location other (Some word) None apart
 
-pub word_at-other : (image : List (Option ℕ)) (location other word : ℕ) → other ≢ location → word_at (with_word image location word) other ≡ word_at image other
-unfolding word_at
-word_at-other image location other word apart = rw (entry_at-other image location other word apart)
-
 pub length-with_word : (image : List (Option ℕ)) (location word : ℕ) → length (with_word image location word) ≡ length image
 unfolding with_word
 length-with_word image location word = length-set image location (Some word)

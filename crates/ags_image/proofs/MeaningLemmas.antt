@@ -13,7 +13,7 @@ Meaning form lines = ((image : List (Option ℕ)) × ReadBy form lines image)
     ⊎ ((number : ℕ) × (fault : LineFault) × (first_line_fault form lines ≡ Some (number, fault)))
 
 module _ (form : Form) (puts : PutsInMemory form) (lines : List (List ℕ)) where
-  -- what is left, behind lines that were read
+  -- what is left, after lines that were read
   Onward : List (List ℕ) → Type 0
   Onward rest = (number : ℕ) (image : List (Option ℕ)) → Reading form lines rest number image → Meaning form lines
 

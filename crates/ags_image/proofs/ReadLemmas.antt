@@ -81,7 +81,7 @@ reverse_more : (front : List (List ℕ)) (line : List ℕ) → reverse (front ++
 reverse_more front line = reverse-append front (line ∷ [])
 
 module _ (form : Form) (lines rest : List (List ℕ)) (line : List ℕ) (number : ℕ) (image : List (Option ℕ)) (so : Reading form lines (line ∷ rest) number image) where
-  -- behind a line without a fault
+  -- after a line without a fault
   fault_more : fault_behind (words_of form so.front) (form line) ≡ None → first_line_fault form lines ≡ first_fault (line_fault form) (reverse (so.front ++ line ∷ [])) rest
   fault_more none =
       so.fault ∙ first_fault-faultless (line_fault form) (reverse so.front) line rest (next_fault form so.front line ∙ none)
@@ -149,7 +149,7 @@ reading_all form lines number image so =
 
 -- ---- lines that are those of an image have no fault
 
--- an element behind others is there
+-- an element after others is there
 element_at : {X : Type 0} (front : List X) (x : X) (rest : List X) (d : X) → get_or (front ++ x ∷ rest) (length front) d ≡ x
 element_at front x rest d = get_or-append_right front (x ∷ rest) (length front) (length front) d refl (omega arith) ∙ first_at (length front - length front) (omega arith)
   where
@@ -169,7 +169,7 @@ words_behind form front line rest placed is =
     let behind : words_of form (line ∷ rest) ≡ placed ∷ words_of form rest = rw is refl in
     filter_map-append (λ (l : List ℕ). word_in (form l)) front (line ∷ rest) ∙ ap (λ (ws : List PlacedWord). words_of form front ++ ws) behind
 
--- a line of an image has no fault, behind those before it
+-- a line of an image has no fault, after those before it
 faultless_line : (form : Form) (front : List (List ℕ)) (line : List ℕ) (rest : List (List ℕ)) (said : Option (Option PlacedWord)) → form line ≡ said
     → All (HasForm form) (front ++ line ∷ rest) → EachPlaceOnce (words_of form (front ++ line ∷ rest)) → line_fault form (reverse front) line ≡ None
 faultless_line form front line rest None is each once =

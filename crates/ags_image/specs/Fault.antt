@@ -16,13 +16,13 @@ pub data LineFault : Type 0 where
 abbrev pub is_taken : List PlacedWord → ℕ → Bool
 is_taken words place = list_any (λ placed. placed.place == place) words
 
--- the fault of what a line says, behind lines that put these words
+-- the fault of what a line says, after lines that put these words
 abbrev pub fault_behind : List PlacedWord → Option (Option PlacedWord) → Option LineFault
 fault_behind words None = Some Misshapen
 fault_behind words (Some None) = None
 fault_behind words (Some (Some placed)) = if is_taken words placed.place then Some (Twice placed.place) else None
 
--- the fault of a line behind those before it, nearest first
+-- the fault of a line after those before it, nearest first
 abbrev pub line_fault : Form → List (List ℕ) → List ℕ → Option LineFault
 line_fault form before line = fault_behind (words_of form (reverse before)) (form line)
 

@@ -2,14 +2,14 @@
 use Rattle.std.specs.Prelude.{◌≡◌, ℕ, ◌<◌, ◌⊎◌, List, [], ◌∷◌, ◌++◌, length}
 use Rattle.ags_text.specs.Line.{HasNoFeed, parts}
 
--- The text is these lines, each with a line feed behind it, but that the last may have none where it isn't empty.
+-- The text is these lines, each with a line feed after it, but that the last may have none where it isn't empty.
 abbrev pub IsCutAtFeeds : List ℕ → List (List ℕ) → Type 0
 IsCutAtFeeds text [] = text ≡ []
 IsCutAtFeeds text (line ∷ lines) = HasNoFeed line × (
     ((behind : List ℕ) × (text ≡ line ++ 10 ∷ behind) × IsCutAtFeeds behind lines)
     ⊎ ((text ≡ line) × (0 < length line) × (lines ≡ [])))
 
--- what stands behind the last line feed is a line where it isn't empty
+-- what stands after the last line feed is a line where it isn't empty
 unfoldable pub last_line : List ℕ → List (List ℕ)
 last_line [] = []
 last_line (b ∷ part) = (b ∷ part) ∷ []

@@ -19,7 +19,7 @@ fn first_feed(text: &[u8]) -> usize
     line_feed(text).unwrap_or(text.len())
 }
 
-/// The first line of a text, and what stands behind its line feed.
+/// The first line of a text, and what stands after its line feed.
 pub(crate) fn split_line(text: &[u8]) -> Option<(&[u8], &[u8])>
     ensures line { IfSome result (λ cut. feed_lines text.now ≡ cut.0.now ∷ feed_lines cut.1.now) }
     ensures less { IfSome result (λ cut. length cut.1.now + 1 ≤ length text.now) }

@@ -55,8 +55,5 @@ pub fn read_tape(alloc: Global, bytes: &[u8]) -> Result<Image, TapeError>
     ensures image { IfOk result (ReadsTape bytes.now) }
     ensures fault { IfErr result (IsTapeFault bytes.now) }
 {
-    match read_image::<Tape>(alloc, bytes) {
-        Ok(image) => Ok(image),
-        Err(error) => Err(tape_error(error)),
-    }
+    read_image::<Tape>(alloc, bytes).map_err(tape_error)
 }

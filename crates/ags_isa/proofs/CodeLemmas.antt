@@ -19,17 +19,17 @@ use Rattle.ags_isa.specs.Order.{order_number, all_orders}
 use Rattle.ags_isa.specs.Code.{AreCodes, code_of, order_of, orders_of, standard_codes, standard_digits, unused_digits}
 use Rattle.ags_isa.proofs.OrderLemmas.{order_at_number, order_number-below, order_number-injective, each_order}
 
--- places with one code are one place
-pub place_of_code-one : (table : List ℕ) → AreCodes table → (i j : ℕ) → i < 27 → j < 27
+-- positions with one code are one position
+pub position_of_code-one : (table : List ℕ) → AreCodes table → (i j : ℕ) → i < 27 → j < 27
     → get_or table i 0 ≡ get_or table j 0 → i ≡ j
-place_of_code-one table are i j i_below j_below same =
+position_of_code-one table are i j i_below j_below same =
     grind (arith, are.each, are.distinct i j 0, are.distinct j i 0)
 
 -- no two orders have one code
 pub code_of-injective : (table : List ℕ) → AreCodes table → (order other : Order)
     → code_of table order ≡ code_of table other → order ≡ other
 code_of-injective table are order other same =
-    order_number-injective order other (place_of_code-one table are _ _ (order_number-below order) (order_number-below other) same)
+    order_number-injective order other (position_of_code-one table are _ _ (order_number-below order) (order_number-below other) same)
 
 pub code_of-below : (table : List ℕ) → AreCodes table → (order : Order) → code_of table order < 32
 code_of-below table are order = are.below (order_number order) 0 (rw are.each (order_number-below order))
@@ -105,13 +105,13 @@ found_none : (b : Bool) (order : Order) (later : Option Order) → cond b (Some 
 found_none true order later none = absurd (let h : Some order ≡ None = none in cc)
 found_none false order later none = (refl, none)
 
--- where nothing is found, the test fails at each place
-find_fails : (p : Order → Bool) (orders : List Order) (place : ℕ) (default : Order) → place < length orders → p (get_or orders place default) ≡ true
+-- where nothing is found, the test fails at each position
+find_fails : (p : Order → Bool) (orders : List Order) (position : ℕ) (default : Order) → position < length orders → p (get_or orders position default) ≡ true
     → find p orders ≡ None → ⊥
-find_fails p [] place default within passes none = omega (arith, within)
+find_fails p [] position default within passes none = omega (arith, within)
 find_fails p (order ∷ orders) zero default within passes none = true_false (sym passes ∙ (found_none (p order) order (find p orders) none).0)
-find_fails p (order ∷ orders) (suc place) default within passes none =
-    find_fails p orders place default (omega (arith, within)) passes (found_none (p order) order (find p orders) none).1
+find_fails p (order ∷ orders) (suc position) default within passes none =
+    find_fails p orders position default (omega (arith, within)) passes (found_none (p order) order (find p orders) none).1
 
 some_or_none : (r : Option Order) → (r ≡ None) ⊎ ((order : Order) × (r ≡ Some order))
 some_or_none None = inl refl

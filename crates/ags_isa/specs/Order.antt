@@ -6,7 +6,7 @@ use Rattle.std.specs.Cmp.Lexicographic.{slice_cmp}
 use Rattle.ags_isa.specs.declared.orders.Order.{Order}
 use Rattle.ags_isa.specs.declared.orders.Order.TheVariants.{Abs, Add, Adz, Als, Axt, Cla, Clz, Com, Dly, Dvp, Inp, Ldq, Lls, Lrs, Mpr, Mpy, Mpz, Out, Sto, Stq, Sub, Suz, Tix, Tmi, Tov, Tra, Tsq}
 
--- an order's number: its place among the 27 in the order of the alphabet, from 0
+-- an order's number: its position among the 27 in the order of the alphabet, from 0
 abbrev pub order_number : Order → ℕ
 order_number Abs = 0
 order_number Add = 1

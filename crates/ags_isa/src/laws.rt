@@ -51,25 +51,25 @@ pub fn codes_tell_orders_apart()
 
 /// No word names two orders, two index bits or two addresses.
 pub fn word_names_one_order()
-    ensures order { (table : List ℕ) (word : ℕ) (order other : Order) (indexed bit : Bool) (address place : ℕ)
-        → AreCodes table → Names table word order indexed address → Names table word other bit place → order ≡ other }
-    ensures index { (table : List ℕ) (word : ℕ) (order other : Order) (indexed bit : Bool) (address place : ℕ)
-        → AreCodes table → Names table word order indexed address → Names table word other bit place → indexed ≡ bit }
-    ensures address { (table : List ℕ) (word : ℕ) (order other : Order) (indexed bit : Bool) (address place : ℕ)
-        → AreCodes table → Names table word order indexed address → Names table word other bit place → address ≡ place }
+    ensures order { (table : List ℕ) (word : ℕ) (order other : Order) (indexed bit : Bool) (address other_address : ℕ)
+        → AreCodes table → Names table word order indexed address → Names table word other bit other_address → order ≡ other }
+    ensures index { (table : List ℕ) (word : ℕ) (order other : Order) (indexed bit : Bool) (address other_address : ℕ)
+        → AreCodes table → Names table word order indexed address → Names table word other bit other_address → indexed ≡ bit }
+    ensures address { (table : List ℕ) (word : ℕ) (order other : Order) (indexed bit : Bool) (address other_address : ℕ)
+        → AreCodes table → Names table word order indexed address → Names table word other bit other_address → address ≡ other_address }
 {}
 
 /// Orders with different parts make different words, and each is a word of the machine.
 pub fn orders_make_different_words()
-    ensures order { (table : List ℕ) (order other : Order) (indexed bit : Bool) (address place : ℕ)
-        → AreCodes table → address < 4096 → place < 4096
-        → order_word table order indexed address ≡ order_word table other bit place → order ≡ other }
-    ensures index { (table : List ℕ) (order other : Order) (indexed bit : Bool) (address place : ℕ)
-        → AreCodes table → address < 4096 → place < 4096
-        → order_word table order indexed address ≡ order_word table other bit place → indexed ≡ bit }
-    ensures address { (table : List ℕ) (order other : Order) (indexed bit : Bool) (address place : ℕ)
-        → AreCodes table → address < 4096 → place < 4096
-        → order_word table order indexed address ≡ order_word table other bit place → address ≡ place }
+    ensures order { (table : List ℕ) (order other : Order) (indexed bit : Bool) (address other_address : ℕ)
+        → AreCodes table → address < 4096 → other_address < 4096
+        → order_word table order indexed address ≡ order_word table other bit other_address → order ≡ other }
+    ensures index { (table : List ℕ) (order other : Order) (indexed bit : Bool) (address other_address : ℕ)
+        → AreCodes table → address < 4096 → other_address < 4096
+        → order_word table order indexed address ≡ order_word table other bit other_address → indexed ≡ bit }
+    ensures address { (table : List ℕ) (order other : Order) (indexed bit : Bool) (address other_address : ℕ)
+        → AreCodes table → address < 4096 → other_address < 4096
+        → order_word table order indexed address ≡ order_word table other bit other_address → address ≡ other_address }
     ensures below { (table : List ℕ) (order : Order) (indexed : Bool) (address : ℕ)
         → AreCodes table → address < 4096 → order_word table order indexed address < 2 ^ 18 }
 {}

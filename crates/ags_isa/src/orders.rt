@@ -6,7 +6,7 @@ ghost use Rattle.std.specs.Cmp.Lexicographic.{pointwise};
 ghost use Rattle.ags_isa.specs.declared.orders.Order.{Order};
 ghost use Rattle.ags_isa.specs.Order.{order_number, order_name};
 
-/// An order of the machine. Its number, as `order as usize`, is its place in the alphabet's order.
+/// An order of the machine. Its number, as `order as usize`, is its position in the alphabet's order.
 #[derive(Clone, Copy, Debug, PartialEq, Eq)]
 pub enum Order {
     /// A becomes its absolute value.
@@ -97,7 +97,7 @@ impl Order {
         Order::Tsq,
     ];
 
-    /// The order's place in the alphabet's order.
+    /// The order's position in the alphabet's order.
     pub fn number(self) -> usize
         ensures same { result ≡ order_number self }
         ensures below { result < 27 }
@@ -105,7 +105,7 @@ impl Order {
         self as usize
     }
 
-    /// The order at a place.
+    /// The order at a position.
     pub fn at(number: usize) -> Order
         requires { number < 27 }
         ensures { order_number result ≡ number }

@@ -17,7 +17,7 @@ use Rattle.ags_listing.specs.PlacedListing.{card_text, card_lines, further_lines
 
 -- ---- a card further
 
--- what a list of cards has behind its end
+-- what a list of cards has after its end
 abbrev pub nothing_placed : Placed
 nothing_placed = record { start = 0; end = 0; place = None; count = 0 }
 
@@ -126,7 +126,7 @@ listing_is bytes made are = listing_by_lines bytes made.image 0 1 (deck.card_lin
 
 -- ---- the lines of a card
 
--- an image has no word behind the memory
+-- an image has no word after the memory
 pub word_beyond : (image : List (Option ℕ)) (place : ℕ) → IsImage image → 4096 ≤ place → 0 ≡ word_at image place
 unfolding word_at entry_at
 word_beyond image place is beyond = rw (get_or_past image place None (omega (arith, is.whole, beyond))) refl

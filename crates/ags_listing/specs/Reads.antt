@@ -18,7 +18,7 @@ is_digit b = nat_lt 47 b && nat_lt b 58
 abbrev pub is_space : ℕ → Bool
 is_space b = b == 32
 
--- A line has at least 20 bytes: seven digits, and a space in columns 8, 13 and 20. What stands behind is not looked at.
+-- A line has at least 20 bytes: seven digits, and a space in columns 8, 13 and 20. What stands after is not looked at.
 unfoldable pub is_ruled : List ℕ → Bool
 is_ruled line = nat_lt 19 (length line) && (list_all is_digit (take 7 line)
     && (slice_index line 7 == 32 && (slice_index line 12 == 32 && slice_index line 19 == 32)))

@@ -49,10 +49,7 @@ fn read_entry(place: &[u8], word: &[u8]) -> Option<Option<(u16, Word)>>
     if are_spaces(place) && are_spaces(word) {
         return Some(None);
     }
-    match read_columns(place, word) {
-        Some(placed) => Some(Some(placed)),
-        None => None,
-    }
+    read_columns(place, word).map(Some)
 }
 
 impl LineForm for Listing {

@@ -31,8 +31,5 @@ pub fn read(alloc: Global, bytes: &[u8]) -> Result<Image, ListError>
     ensures image { IfOk result (Reads bytes.now) }
     ensures fault { IfErr result (IsListingFault bytes.now) }
 {
-    match read_image::<Listing>(alloc, bytes) {
-        Ok(image) => Ok(image),
-        Err(error) => Err(list_error(error)),
-    }
+    read_image::<Listing>(alloc, bytes).map_err(list_error)
 }

@@ -30,7 +30,7 @@ fn blank_front(number: u32) -> [u8; 20]
     ]
 }
 
-/// What stands before the text in the line of a word: its card's number, its place and it, each with a blank behind it.
+/// What stands before the text in the line of a word: its card's number, its place and it, each with a blank after it.
 fn word_front(number: u32, place: u32, word: Word) -> [u8; 20]
     ensures { result ≡ decimal7_text number ++ codes " " ++ columns (Some (record { place = place; word = word })) ++ codes " " }
 {

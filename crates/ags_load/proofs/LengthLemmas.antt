@@ -53,10 +53,6 @@ return_short : (call : ℕ) → IsShort (return_line call)
 unfolding return_line
 return_short call = let few = return_length call in simp length-append (omega (arith, few))
 
-inner_short : (location : ℕ) (a : List ℕ) (call : ℕ) → length a ≤ 14 → AreShort (inner_rows location a call)
-unfolding inner_rows
-inner_short location a call few = (row_short location a (codes "ANY") few (omega arith), (return_short call, tt))
-
 call_short : (call : ℕ) → AreShort (call_rows call)
 unfolding call_rows
 call_short call = (

@@ -3,7 +3,7 @@ use Rattle.std.proofs.Common.{◌≡◌, ℕ, ◌+◌, List, [], ◌∷◌, ◌+
 use Rattle.std.proofs.lemmas.Grind.{flat_map-append}
 use Rattle.ags_load.specs.Workload.{text_of, each_up_to, row_line, inner_rows}
 
--- the text of lines with further ones behind them
+-- the text of lines with further ones after them
 pub text_append : (a b : List (List ℕ)) → text_of (a ++ b) ≡ text_of a ++ text_of b
 unfolding text_of
 text_append a b = flat_map-append (λ (line : List ℕ). line ++ codes "\n") a b
@@ -13,7 +13,7 @@ pub text_one : (line : List ℕ) → text_of (line ∷ []) ≡ line ++ codes "\n
 unfolding text_of
 text_one line = simp append_assoc
 
--- two texts of lines, one added behind the other
+-- two texts of lines, one added after the other
 pub added : (a b : List (List ℕ)) (old mid new : List ℕ) → mid ≡ old ++ text_of a → new ≡ mid ++ text_of b → new ≡ old ++ text_of (a ++ b)
 added a b old mid new first second =
     second ∙ ap (λ (text : List ℕ). text ++ text_of b) first ∙ append_assoc old (text_of a) (text_of b)
@@ -24,7 +24,7 @@ each_next : (lines_for : ℕ → List (List ℕ)) (count : ℕ) → each_up_to l
 unfolding each_up_to
 each_next lines_for count = rw (add-one) refl
 
--- lines for a further number, added behind those for the numbers before it
+-- lines for a further number, added after those for the numbers before it
 pub added_next : (lines_for : ℕ → List (List ℕ)) (count : ℕ) (old mid new : List ℕ)
     → mid ≡ old ++ text_of (each_up_to lines_for count) → new ≡ mid ++ text_of (lines_for (count + 1))
     → new ≡ old ++ text_of (each_up_to lines_for (count + 1))
@@ -36,7 +36,7 @@ pub none_added : (lines_for : ℕ → List (List ℕ)) (text : List ℕ) → tex
 unfolding each_up_to text_of
 none_added lines_for text = sym (append-nil text)
 
--- three texts of lines, one added behind the other
+-- three texts of lines, one added after the other
 pub put_together : (first each last : List (List ℕ)) (one two three : List ℕ)
     → one ≡ text_of first → two ≡ one ++ text_of each → three ≡ two ++ text_of last → three ≡ text_of (first ++ (each ++ last))
 put_together first each last one two three a b c = added first (each ++ last) [] one three a (added each last one two three b c)

@@ -41,18 +41,18 @@ source_text n = text_of (source_cards n)
 abbrev pub call_at : ℕ → ℕ
 call_at call = 2046 + 2 * call
 
--- the location behind a call, to which the subroutine returns
+-- the location after a call, to which the subroutine returns
 abbrev pub return_at : ℕ → ℕ
 return_at call = 2047 + 2 * call
 
--- the location of the wait behind so many calls, and that of the subroutine
+-- the location of the wait after so many calls, and that of the subroutine
 abbrev pub wait_at : ℕ → ℕ
 wait_at n = 2048 + 2 * n
 
 abbrev pub subroutine_at : ℕ → ℕ
 subroutine_at n = 2049 + 2 * n
 
--- the word that a call leaves in Q: a transfer to the location behind it
+-- the word that a call leaves in Q: a transfer to the location after it
 abbrev pub return_word : ℕ → ℕ
 return_word call = 131072 + return_at call
 
@@ -78,7 +78,7 @@ inner_rows location a call = row_line location a (codes "ANY") ∷ return_line c
 unfoldable pub first_lines : List (List ℕ)
 first_lines = codes "AGSCERT 1" ∷ codes "START 4000" ∷ codes "CELL 0030 RANGE -98 100" ∷ codes "IN 2001 RANGE -396 396" ∷ []
 
--- the rows of a call and of the store behind it
+-- the rows of a call and of the store after it
 unfoldable pub call_rows : ℕ → List (List ℕ)
 call_rows call = row_line (call_at call) (codes "ANY") (codes "ANY") ∷ row_line (return_at call) (codes "RANGE -98 100") (codes "ANY") ∷ []
 

@@ -1,8 +1,8 @@
 //! The certificate of a workload.
 
-ghost use Rattle.std.specs.Prelude.{◌≡◌, ℕ, ◌+◌, ◌*◌, ◌≤◌, [], ◌∷◌, ◌++◌, IfOk, OnOk, codes, length, string_bytes};
+ghost use Rattle.std.specs.Prelude.{◌≡◌, ℕ, ◌+◌, ◌*◌, ◌≤◌, [], ◌∷◌, ◌++◌, IfOk, OnOk, length, string_bytes};
 ghost use Rattle.ags_load.specs.Printed.{q_text};
-ghost use Rattle.ags_load.specs.Workload.{call_rows, cert_text, inner_rows, return_at, return_value, return_word, row_line, subroutine_at, subroutine_rows, text_of};
+ghost use Rattle.ags_load.specs.Workload.{call_rows, cert_text, inner_rows, return_at, return_word, row_line, subroutine_at, subroutine_rows, text_of};
 
 use crate::lines::{InQ, RowLine};
 use ags_word::{SixDigits, Word};
@@ -21,7 +21,7 @@ const RETURN_CELL: u16 = 16;
 /// What the subroutine leaves in A.
 const QUARTER_AND_ONE: &str = "RANGE -98 100";
 
-/// The location behind a call, the first being number 1.
+/// The location after a call, the first being number 1.
 fn return_at(call: u16) -> u16
     requires one { 1 ≤ call }
     requires many { call ≤ 400 }
@@ -30,7 +30,7 @@ fn return_at(call: u16) -> u16
     FIRST_CALL - 1 + 2 * call
 }
 
-/// The location of the subroutine, behind so many calls and the wait.
+/// The location of the subroutine, after so many calls and the wait.
 fn subroutine_at(n: u16) -> u16
     requires { n ≤ 400 }
     ensures { result ≡ subroutine_at n }
@@ -38,7 +38,7 @@ fn subroutine_at(n: u16) -> u16
     FIRST_CALL + 1 + 2 * n
 }
 
-/// The word that a call leaves in Q: a transfer to the location behind it.
+/// The word that a call leaves in Q: a transfer to the location after it.
 fn return_word(call: u16) -> Word
     requires one { 1 ≤ call }
     requires many { call ≤ 400 }
@@ -58,7 +58,7 @@ fn add_row(text: &mut String, location: u16, a: &'static str, q: InQ) -> Result<
     write!(text, "{row}\n")
 }
 
-/// Adds the rows of a call and of the store behind it.
+/// Adds the rows of a call and of the store after it.
 fn add_call(text: &mut String, call: u16) -> Result<(), AllocError>
     requires one { 1 ≤ call }
     requires many { call ≤ 400 }

@@ -77,20 +77,20 @@ all_numbers-ok f numbers is =
 
 -- the fault of the first of these orders that has one
 record FailsAt (f : Order → Result ℕ MachError) (orders : List Order) (fault : MachError) : Type 0 where
-  place : ℕ
-  within : place < length orders
-  fails : (d : Order) → f (get_or orders place d) ≡ Err fault
-  before : (k : ℕ) (d : Order) → k < place → IsOk (f (get_or orders k d))
+  position : ℕ
+  within : position < length orders
+  fails : (d : Order) → f (get_or orders position d) ≡ Err fault
+  before : (k : ℕ) (d : Order) → k < position → IsOk (f (get_or orders k d))
 
 fails-later : (f : Order → Result ℕ MachError) (order : Order) (orders : List Order) (fault : MachError) → IsOk (f order) → FailsAt f orders fault → FailsAt f (order ∷ orders) fault
 fails-later f order orders fault fine later = record {
-  place = suc later.place;
+  position = suc later.position;
   within = omega (arith, later.within);
   fails = later.fails;
   before = before;
 }
   where
-    before : (k : ℕ) (d : Order) → k < suc later.place → IsOk (f (get_or (order ∷ orders) k d))
+    before : (k : ℕ) (d : Order) → k < suc later.position → IsOk (f (get_or (order ∷ orders) k d))
     before zero d below = fine
     before (suc k) d below = later.before k d (omega (arith, below))
 
@@ -99,7 +99,7 @@ collected-err-step : (f : Order → Result ℕ MachError) (earlier : List ℕ) (
     → collected earlier (r ∷ map f orders) ≡ Err fault → FailsAt f (order ∷ orders) fault
 collected-err-step f earlier order orders fault (Ok n) at rest is = fails-later f order orders fault (rw at refl) (rest n is)
 collected-err-step f earlier order orders fault (Err first) at rest is = record {
-  place = 0;
+  position = 0;
   within = omega arith;
   fails = λ d. at ∙ ap Err (err_same {A = List ℕ} first fault is);
   before = λ k d below. absurd (omega (arith, below));
@@ -116,10 +116,10 @@ unfolding all_numbers
 all_numbers-err f fault is =
     let first = collected-err f [] all_orders fault is in
     record {
-      order = get_or all_orders first.place Abs;
+      order = get_or all_orders first.position Abs;
       fails = first.fails Abs;
       earlier = λ other below.
-          rw (order_at_number other other) at (first.before (order_number other) other (rw (number_at first.place Abs first.within) at below));
+          rw (order_at_number other other) at (first.before (order_number other) other (rw (number_at first.position Abs first.within) at below));
     }
 
 -- numbers that the orders have are those that are found

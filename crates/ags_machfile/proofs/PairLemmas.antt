@@ -26,13 +26,13 @@ some_same x y h = cc
 none_not_some : {A : Type 0} (x : A) → None ≡ Some x → ⊥
 none_not_some x h = cc
 
--- the place of the first of these orders that has an order's code
+-- the position of the first of these orders that has an order's code
 record FoundAt (table : List ℕ) (order : Order) (others : List Order) (other : Order) : Type 0 where
-  place : ℕ
-  within : place < length others
-  stands : (d : Order) → get_or others place d ≡ other
+  position : ℕ
+  within : position < length others
+  stands : (d : Order) → get_or others position d ≡ other
   same : code_of table order ≡ code_of table other
-  before : (k : ℕ) (d : Order) → k < place → code_of table order ≢ code_of table (get_or others k d)
+  before : (k : ℕ) (d : Order) → k < position → code_of table order ≢ code_of table (get_or others k d)
 
 found : (table : List ℕ) (order : Order) (others : List Order) (other : Order) → order_with_code_of table order others ≡ Some other → FoundAt table order others other
 found table order [] other h = absurd (none_not_some other h)
@@ -50,7 +50,7 @@ found table order (one ∷ others) other h =
 
     here : code_of table order ≡ code_of table one → one ≡ other → FoundAt table order (one ∷ others) other
     here same is = record {
-      place = 0;
+      position = 0;
       within = omega arith;
       stands = λ d. is;
       same = same ∙ ap (code_of table) is;
@@ -59,18 +59,18 @@ found table order (one ∷ others) other h =
 
     later : code_of table order ≢ code_of table one → FoundAt table order others other → FoundAt table order (one ∷ others) other
     later differs at_rest = record {
-      place = suc at_rest.place;
+      position = suc at_rest.position;
       within = omega (arith, at_rest.within);
       stands = at_rest.stands;
       same = at_rest.same;
       before = before;
     }
       where
-        before : (k : ℕ) (d : Order) → k < suc at_rest.place → code_of table order ≢ code_of table (get_or (one ∷ others) k d)
+        before : (k : ℕ) (d : Order) → k < suc at_rest.position → code_of table order ≢ code_of table (get_or (one ∷ others) k d)
         before zero d below = differs
         before (suc k) d below = at_rest.before k d (omega (arith, below))
 
--- the places of the first pair among these orders
+-- the positions of the first pair among these orders
 record PairAt (table : List ℕ) (orders : List Order) (first second : Order) : Type 0 where
   i : ℕ
   j : ℕ
@@ -85,7 +85,7 @@ record PairAt (table : List ℕ) (orders : List Order) (first second : Order) : 
 pair_here : (table : List ℕ) (order : Order) (others : List Order) (other : Order) → FoundAt table order others other → PairAt table (order ∷ others) order other
 pair_here table order others other at_rest = record {
   i = 0;
-  j = suc at_rest.place;
+  j = suc at_rest.position;
   ordered = omega arith;
   within = omega (arith, at_rest.within);
   at_i = λ d. refl;
@@ -95,10 +95,10 @@ pair_here table order others other at_rest = record {
   least_j = least;
 }
   where
-    least : (l : ℕ) (d : Order) → 0 < l → l < length (order ∷ others) → code_of table order ≡ code_of table (get_or (order ∷ others) l d) → suc at_rest.place ≤ l
+    least : (l : ℕ) (d : Order) → 0 < l → l < length (order ∷ others) → code_of table order ≡ code_of table (get_or (order ∷ others) l d) → suc at_rest.position ≤ l
     least zero d above within same = absurd (omega (arith, above))
     least (suc l) d above within same =
-        elim (cases_lt l at_rest.place) [
+        elim (cases_lt l at_rest.position) [
           | inl before ↦ absurd (at_rest.before l d before same)
           | inr past ↦ omega (arith, past)
         ]

@@ -47,7 +47,7 @@ record AreBehind (direction : Direction) (earlier : List Port) (entries : List D
   give : PortsGive direction (length earlier) entries more
   differ : Differ earlier → Differ ports
 
--- how an entry is taken behind those before it
+-- how an entry is taken after those before it
 abbrev taken : (earlier : List Port) → Bool → Port → Result Port MachError
 taken earlier same port = if same then Err (SamePort port.address) else Ok port
 
@@ -116,12 +116,12 @@ ports_behind-ok direction entries ports is =
 -- ---- the first bad entry
 
 record IsBad (direction : Direction) (earlier : List Port) (entries : List Data) (fault : MachError) : Type 0 where
-  place : ℕ
-  within : place < length entries
+  position : ℕ
+  within : position < length entries
   more : List Port
-  give : PortsGive direction (length earlier) (take place entries) more
+  give : PortsGive direction (length earlier) (take position entries) more
   differ : Differ earlier → Differ (earlier ++ more)
-  fails : (e : Data) → Fails direction (earlier ++ more) (get_or entries place e) fault
+  fails : (e : Data) → Fails direction (earlier ++ more) (get_or entries position e) fault
 
 bad_here : (direction : Direction) (earlier : List Port) (entry : Data) (entries : List Data) (fault : MachError) → Fails direction earlier entry fault
     → IsBad direction earlier (entry ∷ entries) fault
@@ -129,7 +129,7 @@ bad_here direction earlier entry entries fault fails =
     let P : List Port → Type 0 = λ ps. Differ ps in
     let Q : List Port → Type 0 = λ ps. Fails direction ps entry fault in
     record {
-      place = 0;
+      position = 0;
       within = omega arith;
       more = [];
       give = tt;
@@ -155,16 +155,16 @@ bad-step direction earlier entry entries fault (Ok port) here rest is = by_test 
         (inr (port, here, same_address (Any-from_list_any (λ other. other.address == port.address) earlier same), sym (err_same {A = List Port} (SamePort port.address) fault is)))
     by_test false unlike is =
         let later = rest port is in
-        let P : ℕ → Type 0 = λ n. PortsGive direction n (take later.place entries) later.more in
+        let P : ℕ → Type 0 = λ n. PortsGive direction n (take later.position entries) later.more in
         let together : (earlier ++ port ∷ []) ++ later.more ≡ earlier ++ port ∷ later.more = append_assoc earlier (port ∷ []) later.more in
         let Q : List Port → Type 0 = λ ps. Differ ps in
         record {
-          place = suc later.place;
+          position = suc later.position;
           within = omega (arith, later.within);
           more = port ∷ later.more;
           give = (here, subst P (length-append earlier (port ∷ [])) later.give);
           differ = λ differ. subst Q together (later.differ (differ-push earlier port unlike differ));
-          fails = λ e. let R : List Port → Type 0 = λ ps. Fails direction ps (get_or entries later.place e) fault in subst R together (later.fails e);
+          fails = λ e. let R : List Port → Type 0 = λ ps. Fails direction ps (get_or entries later.position e) fault in subst R together (later.fails e);
         }
 
 bad-err : (direction : Direction) (earlier : List Port) (entries : List Data) (fault : MachError) → ports_behind direction earlier entries ≡ Err fault
@@ -177,12 +177,12 @@ pub ports_behind-err : (direction : Direction) (entries : List Data) (fault : Ma
 ports_behind-err direction entries fault is =
     let bad = bad-err direction [] entries fault is in
     record {
-      position = bad.place;
+      position = bad.position;
       within = bad.within;
       earlier = bad.more;
       before = record {
-        count = give_length direction 0 (take bad.place entries) bad.more bad.give;
-        each = give_first direction (take bad.place entries) bad.more bad.give;
+        count = give_length direction 0 (take bad.position entries) bad.more bad.give;
+        each = give_first direction (take bad.position entries) bad.more bad.give;
         distinct = bad.differ differ-none;
       };
       fails = bad.fails;
@@ -190,7 +190,7 @@ ports_behind-err direction entries fault is =
 
 -- ---- what is so is told
 
--- an entry of the list by its place
+-- an entry of the list by its position
 give_from : (direction : Direction) (position : ℕ) (entries : List Data) (ports : List Port) → length ports ≡ length entries
     → ((k : ℕ) (entry : Data) (port : Port) → k < length entries → entry_port direction (position + k) (as_table (get_or entries k entry)) ≡ Ok (get_or ports k port))
     → PortsGive direction position entries ports
@@ -266,21 +266,21 @@ fails_here direction earlier entry entries fault (inr (port, here, (k, other, wi
     same_test : (m n : ℕ) → m ≡ n → (m == n) ≡ true
     same_test m n same = grind (arith, nat_tests, same)
 
-give_err : (direction : Direction) (earlier : List Port) (entries : List Data) (place : ℕ) (more : List Port) (fault : MachError) → place < length entries
-    → PortsGive direction (length earlier) (take place entries) more → Differ (earlier ++ more) → ((e : Data) → Fails direction (earlier ++ more) (get_or entries place e) fault)
+give_err : (direction : Direction) (earlier : List Port) (entries : List Data) (position : ℕ) (more : List Port) (fault : MachError) → position < length entries
+    → PortsGive direction (length earlier) (take position entries) more → Differ (earlier ++ more) → ((e : Data) → Fails direction (earlier ++ more) (get_or entries position e) fault)
     → ports_behind direction earlier entries ≡ Err fault
-give_err direction earlier [] place more fault within give differ fails = absurd (omega (arith, within))
+give_err direction earlier [] position more fault within give differ fails = absurd (omega (arith, within))
 give_err direction earlier (entry ∷ entries) zero [] fault within give differ fails =
     let P : List Port → Type 0 = λ ps. Fails direction ps entry fault in
     fails_here direction earlier entry entries fault (subst P (sym (append-nil earlier)) (fails entry))
 give_err direction earlier (entry ∷ entries) zero (port ∷ more) fault within give differ fails = absurd give
-give_err direction earlier (entry ∷ entries) (suc place) [] fault within give differ fails = absurd give
-give_err direction earlier (entry ∷ entries) (suc place) (port ∷ more) fault within give differ fails =
+give_err direction earlier (entry ∷ entries) (suc position) [] fault within give differ fails = absurd give
+give_err direction earlier (entry ∷ entries) (suc position) (port ∷ more) fault within give differ fails =
     let P : List Port → Type 0 = λ ps. Differ ps in
     one_further direction earlier entry entries port give.0 (unlike_later earlier port more differ)
-    ∙ give_err direction (earlier ++ port ∷ []) entries place more fault (omega (arith, within))
-    (next_give direction earlier port (take place entries) more give.1) (subst P (sym (regroup earlier port more)) differ)
-    (λ e. let Q : List Port → Type 0 = λ ps. Fails direction ps (get_or entries place e) fault in subst Q (sym (regroup earlier port more)) (fails e))
+    ∙ give_err direction (earlier ++ port ∷ []) entries position more fault (omega (arith, within))
+    (next_give direction earlier port (take position entries) more give.1) (subst P (sym (regroup earlier port more)) differ)
+    (λ e. let Q : List Port → Type 0 = λ ps. Fails direction ps (get_or entries position e) fault in subst Q (sym (regroup earlier port more)) (fails e))
 
 pub err-ports_behind : (direction : Direction) (entries : List Data) (fault : MachError) → IsFirstBadEntry direction entries fault → ports_behind direction [] entries ≡ Err fault
 err-ports_behind direction entries fault bad =

@@ -3,7 +3,7 @@ use Rattle.std.proofs.Common.{◌≡◌, ◌≢◌, ℕ, zero, suc, ◌+◌, ◌
 use Rattle.std.specs.Prelude.{Ok, Err, Option, Some, nat_le}
 use Rattle.std.specs.List.{list_any}
 use Rattle.std.proofs.lemmas.Bool.Decides.{nat_tests}
-use Rattle.std.proofs.lemmas.List.{drop_more, drop_all, length-append, length-map}
+use Rattle.std.proofs.lemmas.List.{drop_more, length-append, length-map}
 use Rattle.std.proofs.Common.{le-leb, true≢false}
 use Rattle.std.proofs.lemmas.List.Elements.{All-push}
 use Rattle.std.proofs.lemmas.List.Quantifiers.{all_pairs_push}
@@ -13,7 +13,6 @@ use Rattle.toml.specs.Data.{Data, Items}
 use Rattle.toml.specs.declared.value.Value.{Value}
 use Rattle.ags_ports.specs.declared.registers.Port.{Port}
 use Rattle.ags_ports.specs.Port.{AreRegisters}
-use Rattle.ags_machfile.specs.declared.mach_error.MachError.{MachError}
 use Rattle.ags_machfile.specs.declared.mach_error.MachError.TheVariants.{BadValue, SamePort}
 use Rattle.ags_machfile.specs.declared.port_tables.Direction.{Direction}
 use Rattle.ags_machfile.specs.Value.{values_of}
@@ -27,18 +26,11 @@ values_of-items (value ∷ values) = rw (values_of-items values) refl
 abbrev pub has_address : List Port → ℕ → Bool
 has_address ports address = list_any (λ other. other.address == address) ports
 
--- the registers of the entries before this place stand in the list, and those of the others are what is left to find
-pub record AreListed (direction : Direction) (values : List Value) (ports : List Port) (place : ℕ) : Type 0 where
-  pub long : length ports ≡ place
-  pub rest : ports_behind direction [] (map view values) ≡ ports_behind direction ports (map view (drop place values))
+-- the registers of the entries before this position stand in the list, and those of the others are what is left to find
+pub record AreListed (direction : Direction) (values : List Value) (ports : List Port) (position : ℕ) : Type 0 where
+  pub long : length ports ≡ position
+  pub rest : ports_behind direction [] (map view values) ≡ ports_behind direction ports (map view (drop position values))
   pub registers : AreRegisters ports
-
-pub listed_none : (direction : Direction) (values : List Value) → AreListed direction values [] 0
-listed_none direction values = record {
-  long = refl;
-  rest = refl;
-  registers = record { few = omega arith; below = λ k d within. absurd (omega (arith, within)); distinct = λ i j d before within. absurd (omega (arith, within)) };
-}
 
 neither : (test rest : Bool) → (test || rest) ≡ false → (test ≡ false) × (rest ≡ false)
 neither true rest none = absurd (true≢false none)
@@ -62,35 +54,26 @@ more_registers ports port room below unlike registers = record {
   distinct = all_pairs_push (λ one another. one.address ≢ another.address) ports port registers.distinct (unlike_all ports port.address unlike);
 }
 
-listed_next : (direction : Direction) (ports : List Port) (values : List Value) (place : ℕ) (value : Value) (port : Port) → place < length values
-    → value ≡ get_or values place value → entry_port direction (length ports) (as_table (view value)) ≡ Ok port → has_address ports port.address ≡ false
-    → ports_behind direction ports (map view (drop place values)) ≡ ports_behind direction (ports ++ port ∷ []) (map view (drop (place + 1) values))
-listed_next direction ports values place value port within at is unlike = rw (drop_more values place value within, ← at, is, unlike) refl
+listed_next : (direction : Direction) (ports : List Port) (values : List Value) (position : ℕ) (value : Value) (port : Port) → position < length values
+    → value ≡ get_or values position value → entry_port direction (length ports) (as_table (view value)) ≡ Ok port → has_address ports port.address ≡ false
+    → ports_behind direction ports (map view (drop position values)) ≡ ports_behind direction (ports ++ port ∷ []) (map view (drop (position + 1) values))
+listed_next direction ports values position value port within at is unlike = rw (drop_more values position value within, ← at, is, unlike) refl
 
-pub listed_more : (direction : Direction) (values : List Value) (ports : List Port) (place : ℕ) (value : Value) (port : Port) → place < length values → place < 32
-    → value ≡ get_or values place value → entry_port direction (length ports) (as_table (view value)) ≡ Ok port → port.address < 4096
-    → has_address ports port.address ≡ false → AreListed direction values ports place → AreListed direction values (ports ++ port ∷ []) (place + 1)
-listed_more direction values ports place value port within room at is below unlike listed = record {
+pub listed_more : (direction : Direction) (values : List Value) (ports : List Port) (position : ℕ) (value : Value) (port : Port) → position < length values → position < 32
+    → value ≡ get_or values position value → entry_port direction (length ports) (as_table (view value)) ≡ Ok port → port.address < 4096
+    → has_address ports port.address ≡ false → AreListed direction values ports position → AreListed direction values (ports ++ port ∷ []) (position + 1)
+listed_more direction values ports position value port within room at is below unlike listed = record {
   long = omega (arith, length-append ports (port ∷ []), listed.long);
-  rest = listed.rest ∙ listed_next direction ports values place value port within at is unlike;
+  rest = listed.rest ∙ listed_next direction ports values position value port within at is unlike;
   registers = more_registers ports port (rw listed.long room) below unlike listed.registers;
 }
 
--- an entry that is refused ends the list with its fault
-pub listed_fault : (direction : Direction) (values : List Value) (ports : List Port) (place : ℕ) (value : Value) (fault : MachError) → place < length values
-    → value ≡ get_or values place value → entry_port direction (length ports) (as_table (view value)) ≡ Err fault → AreListed direction values ports place
-    → ports_behind direction [] (map view values) ≡ Err fault
-listed_fault direction values ports place value fault within at is listed = listed.rest ∙ rw (drop_more values place value within, ← at, is) refl
-
 -- and so does one whose address an earlier entry has
-pub listed_twice : (direction : Direction) (values : List Value) (ports : List Port) (place : ℕ) (value : Value) (port : Port) → place < length values
-    → value ≡ get_or values place value → entry_port direction (length ports) (as_table (view value)) ≡ Ok port → has_address ports port.address ≡ true
-    → AreListed direction values ports place → ports_behind direction [] (map view values) ≡ Err (SamePort port.address)
-listed_twice direction values ports place value port within at is same listed = listed.rest ∙ rw (drop_more values place value within, ← at, is, same) refl
-
-pub listed_whole : (direction : Direction) (values : List Value) (ports : List Port) (place : ℕ) → length values ≤ place → AreListed direction values ports place
-    → ports_behind direction [] (map view values) ≡ Ok ports
-listed_whole direction values ports place past listed = listed.rest ∙ rw (drop_all place values past) refl
+pub listed_twice : (direction : Direction) (values : List Value) (ports : List Port) (position : ℕ) (value : Value) (port : Port) → position < length values
+    → value ≡ get_or values position value → entry_port direction (length ports) (as_table (view value)) ≡ Ok port → has_address ports port.address ≡ true
+    → AreListed direction values ports position → ports_behind direction [] (map view values) ≡ Err (SamePort port.address)
+listed_twice direction values ports position value port within at is same listed =
+    listed.rest ∙ rw (drop_more values position value within, ← at, is, same) refl
 
 -- ---- an array of entries
 

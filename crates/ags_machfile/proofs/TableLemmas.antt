@@ -15,45 +15,46 @@ use Rattle.ags_machfile.specs.declared.mach_error.MachError.{MachError}
 use Rattle.ags_machfile.specs.Value.{collected}
 use Rattle.ags_machfile.specs.OrderTable.{all_numbers, order_with_code_of, first_pair, shared_pair}
 
-collected-next : (f : Order → Result ℕ MachError) (orders : List Order) (numbers : List ℕ) (place number : ℕ) (order : Order)
-    → place < length orders → place < length numbers → order ≡ get_or orders place order → f order ≡ Ok number
-    → collected (take place numbers) (map f (drop place orders)) ≡ collected (take (place + 1) (set numbers place number)) (map f (drop (place + 1) orders))
-collected-next f orders numbers place number order within room at is =
-    rw (drop_more orders place order within, ← at, is, take_more_set numbers place number room) refl
+collected-next : (f : Order → Result ℕ MachError) (orders : List Order) (numbers : List ℕ) (position number : ℕ) (order : Order)
+    → position < length orders → position < length numbers → order ≡ get_or orders position order → f order ≡ Ok number
+    → collected (take position numbers) (map f (drop position orders)) ≡ collected (take (position + 1) (set numbers position number))
+    (map f (drop (position + 1) orders))
+collected-next f orders numbers position number order within room at is =
+    rw (drop_more orders position order within, ← at, is, take_more_set numbers position number room) refl
 
-collected-fault : (f : Order → Result ℕ MachError) (orders : List Order) (earlier : List ℕ) (place : ℕ) (order : Order) (fault : MachError)
-    → place < length orders → order ≡ get_or orders place order → f order ≡ Err fault
-    → collected earlier (map f (drop place orders)) ≡ Err fault
-collected-fault f orders earlier place order fault within at is = rw (drop_more orders place order within, ← at, is) refl
+collected-fault : (f : Order → Result ℕ MachError) (orders : List Order) (earlier : List ℕ) (position : ℕ) (order : Order) (fault : MachError)
+    → position < length orders → order ≡ get_or orders position order → f order ≡ Err fault
+    → collected earlier (map f (drop position orders)) ≡ Err fault
+collected-fault f orders earlier position order fault within at is = rw (drop_more orders position order within, ← at, is) refl
 
-stands : (order : Order) (place : ℕ) → order_number order ≡ place → order ≡ get_or all_orders place order
-stands order place at = rw (← at) (sym (order_at_number order order))
+stands : (order : Order) (position : ℕ) → order_number order ≡ position → order ≡ get_or all_orders position order
+stands order position at = rw (← at) (sym (order_at_number order order))
 
--- the numbers of the orders before this place stand in the array, and those of the others are what is left to find
-pub record IsFilled (f : Order → Result ℕ MachError) (numbers : List ℕ) (place : ℕ) : Type 0 where
+-- the numbers of the orders before this position stand in the array, and those of the others are what is left to find
+pub record IsFilled (f : Order → Result ℕ MachError) (numbers : List ℕ) (position : ℕ) : Type 0 where
   pub long : length numbers ≡ 27
-  pub rest : all_numbers f ≡ collected (take place numbers) (map f (drop place all_orders))
+  pub rest : all_numbers f ≡ collected (take position numbers) (map f (drop position all_orders))
 
 pub filled_none : (f : Order → Result ℕ MachError) (numbers : List ℕ) → length numbers ≡ 27 → IsFilled f numbers 0
 unfolding all_numbers
 filled_none f numbers long = record { long = long; rest = refl }
 
-pub filled_more : (f : Order → Result ℕ MachError) (numbers : List ℕ) (place number : ℕ) (order : Order) → place < 27
-    → order_number order ≡ place → f order ≡ Ok number → IsFilled f numbers place → IsFilled f (set numbers place number) (place + 1)
-filled_more f numbers place number order within at is filled = record {
-  long = length-set numbers place number ∙ filled.long;
-  rest = filled.rest ∙ collected-next f all_orders numbers place number order within (rw filled.long within) (stands order place at) is;
+pub filled_more : (f : Order → Result ℕ MachError) (numbers : List ℕ) (position number : ℕ) (order : Order) → position < 27
+    → order_number order ≡ position → f order ≡ Ok number → IsFilled f numbers position → IsFilled f (set numbers position number) (position + 1)
+filled_more f numbers position number order within at is filled = record {
+  long = length-set numbers position number ∙ filled.long;
+  rest = filled.rest ∙ collected-next f all_orders numbers position number order within (rw filled.long within) (stands order position at) is;
 }
 
-pub filled_fault : (f : Order → Result ℕ MachError) (numbers : List ℕ) (place : ℕ) (order : Order) (fault : MachError) → place < 27
-    → order_number order ≡ place → f order ≡ Err fault → IsFilled f numbers place → all_numbers f ≡ Err fault
-filled_fault f numbers place order fault within at is filled =
-    filled.rest ∙ collected-fault f all_orders (take place numbers) place order fault within (stands order place at) is
+pub filled_fault : (f : Order → Result ℕ MachError) (numbers : List ℕ) (position : ℕ) (order : Order) (fault : MachError) → position < 27
+    → order_number order ≡ position → f order ≡ Err fault → IsFilled f numbers position → all_numbers f ≡ Err fault
+filled_fault f numbers position order fault within at is filled =
+    filled.rest ∙ collected-fault f all_orders (take position numbers) position order fault within (stands order position at) is
 
-pub filled_whole : (f : Order → Result ℕ MachError) (numbers : List ℕ) (place : ℕ) → 27 ≤ place → IsFilled f numbers place
+pub filled_whole : (f : Order → Result ℕ MachError) (numbers : List ℕ) (position : ℕ) → 27 ≤ position → IsFilled f numbers position
     → all_numbers f ≡ Ok numbers
-filled_whole f numbers place past filled =
-    filled.rest ∙ rw (take_all place numbers (rw filled.long past), drop_all place all_orders past) refl
+filled_whole f numbers position past filled =
+    filled.rest ∙ rw (take_all position numbers (rw filled.long past), drop_all position all_orders past) refl
 
 -- ---- orders that share no code
 
@@ -92,9 +93,9 @@ unpaired table (order ∷ others) none =
     neither None rest none = (refl, none)
     neither (Some other) rest none = absurd (some_is_none (order, other) none)
 
-distinct_places : (table : List ℕ) (orders : List Order) → ((number : ℕ) (other : Order) → number < 27 → order_number (get_or orders number other) ≡ number) → length orders ≡ 27
+distinct_positions : (table : List ℕ) (orders : List Order) → ((number : ℕ) (other : Order) → number < 27 → order_number (get_or orders number other) ≡ number) → length orders ≡ 27
     → length table ≡ 27 → AllPairs (λ one another. code_of table one ≢ code_of table another) orders → AllPairs (λ one another. one ≢ another) table
-distinct_places table orders at count long pairs i j d before within same =
+distinct_positions table orders at count long pairs i j d before within same =
     let j_below : j < 27 = omega (arith, within, long) in
     let i_below : i < 27 = omega (arith, before, j_below) in
     pairs i j Abs before (omega (arith, j_below, count)) (rw (at i Abs i_below, at j Abs j_below) (get_or_default table i 0 d (omega (arith, i_below, long)) ∙ same ∙ get_or_default table j d 0 within))
@@ -105,5 +106,5 @@ unfolding shared_pair
 unshared_are_codes table long below none = record {
   each = long;
   below = below;
-  distinct = distinct_places table all_orders number_at refl long (unpaired table all_orders none);
+  distinct = distinct_positions table all_orders number_at refl long (unpaired table all_orders none);
 }

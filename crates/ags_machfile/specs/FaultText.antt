@@ -8,7 +8,7 @@ use Rattle.ags_machfile.specs.declared.keys.Key.TheVariants.{Codes, Times, Input
 use Rattle.ags_machfile.specs.declared.mach_error.MachError.{MachError}
 use Rattle.ags_machfile.specs.declared.mach_error.MachError.TheVariants.{NotToml, MissingKey, BadValue, SameCode, SamePort, NoMemory}
 
--- a key as a file's writer would find it: an order behind its table, an entry's position, in decimal, behind its array
+-- a key as a file's writer would find it: an order after its table, an entry's position, in decimal, after its array
 abbrev pub key_text : Key → List ℕ
 key_text Codes = codes "codes"
 key_text Times = codes "times"

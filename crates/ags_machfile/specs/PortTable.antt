@@ -58,7 +58,7 @@ entry_port direction position (Some members) = port_with (entry_key direction po
 abbrev pub unlike : (earlier : List Port) → Port → Result Port MachError
 unlike earlier port = if list_any (λ other. other.address == port.address) earlier then Err (SamePort port.address) else Ok port
 
--- The registers of entries, behind those of the entries before them, or the first fault: that of an entry, or that an earlier
+-- The registers of entries, after those of the entries before them, or the first fault: that of an entry, or that an earlier
 -- entry has its address.
 abbrev pub ports_behind : Direction → (earlier : List Port) → List Data → Result (List Port) MachError
 ports_behind direction earlier [] = Ok earlier

@@ -46,7 +46,7 @@ pub record ArePorts (direction : Direction) (entries : List Data) (ports : List 
       → entry_port direction position (as_table (slice_index_or entries position entry)) ≡ Ok (slice_index_or ports position port)
   pub distinct : AllPairs (λ one another. one.address ≢ another.address) ports
 
--- the fault of an entry behind those with these registers: its own, or that one of these has its address
+-- the fault of an entry after those with these registers: its own, or that one of these has its address
 abbrev pub Fails : Direction → (earlier : List Port) → Data → MachError → Type 0
 Fails direction earlier entry fault = (entry_port direction (length earlier) (as_table entry) ≡ Err fault)
     ⊎ ((port : Port) × (entry_port direction (length earlier) (as_table entry) ≡ Ok port) × Any (λ other. other.address ≡ port.address) earlier × (fault ≡ SamePort port.address))

@@ -9,7 +9,7 @@ abbrev pub ◌>>=◌ : {A B E : Type 0} → Result A E → (A → Result B E) �
 Ok value >>= next = next value
 Err fault >>= next = Err fault
 
--- the values of such tests behind those of earlier ones, or the fault of the first that fails
+-- the values of such tests after those of earlier ones, or the fault of the first that fails
 abbrev pub collected : {A E : Type 0} → (earlier : List A) → List (Result A E) → Result (List A) E
 collected earlier [] = Ok earlier
 collected earlier (Ok value ∷ tests) = collected (earlier ++ value ∷ []) tests

@@ -46,8 +46,8 @@ fn code_table(table: &Table) -> Result<[u8; 27], MachError>
     ensures below { IfOk result (λ codes. All (λ code. code < 32) codes) }
 {
     let mut codes = [0; 27];
-    for place in 0..27 {
-        codes[place] = code_entry(table, Order::at(place))?;
+    for position in 0..27 {
+        codes[position] = code_entry(table, Order::at(position))?;
     }
     Ok(codes)
 }

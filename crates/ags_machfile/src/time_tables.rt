@@ -44,8 +44,8 @@ fn time_table(table: &Table) -> Result<[u32; 27], MachError>
     ensures table { IfOk result AreTimes }
 {
     let mut times = [1; 27];
-    for place in 0..27 {
-        times[place] = time_entry(table, Order::at(place))?;
+    for position in 0..27 {
+        times[position] = time_entry(table, Order::at(position))?;
     }
     Ok(times)
 }

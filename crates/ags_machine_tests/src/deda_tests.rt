@@ -11,7 +11,7 @@ fn press_all(panel: &mut Panel, keys: &[Key]) {
     }
 }
 
-/// The digits that a panel still sends, and 99 behind them.
+/// The digits that a panel still sends, and 99 after them.
 fn send_all(panel: &mut Panel) -> [u8; 10] {
     let mut digits = [99; 10];
     for place in 0..10 {
@@ -32,7 +32,7 @@ fn expect_text(rt: &impl Abort, panel: &Panel, text: &[u8; 10]) {
     expect_same(rt, &panel.text(), text);
 }
 
-/// Asserts which digits a panel still sends, with 99 behind them.
+/// Asserts which digits a panel still sends, with 99 after them.
 fn expect_sent(rt: &impl Abort, panel: &mut Panel, digits: &[u8; 10]) {
     expect_same(rt, &send_all(panel), digits);
 }

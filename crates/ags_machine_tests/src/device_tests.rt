@@ -194,32 +194,32 @@ fn button_gives_its_word_once(rt: HostRuntime) {
 
 // ---- a list of boxes
 
-/// Expects what the device at a place tells of itself.
-fn expect_told(rt: &impl Abort, devices: &Vec<Box<dyn Device>>, place: usize, wanted: &Told) {
-    assert!(rt; place < devices.len());
-    expect_same(rt, &feeds_at(devices, place), &wanted.0);
-    expect_same(rt, &hears_at(devices, place), &wanted.1);
-    expect_same(rt, &left_at(devices, place), &wanted.2);
-    expect_same(rt, &count_at(devices, place), &wanted.3);
-    expect_same(rt, &last_at(devices, place), &wanted.4);
+/// Expects what the device at a position tells of itself.
+fn expect_told(rt: &impl Abort, devices: &Vec<Box<dyn Device>>, position: usize, wanted: &Told) {
+    assert!(rt; position < devices.len());
+    expect_same(rt, &feeds_at(devices, position), &wanted.0);
+    expect_same(rt, &hears_at(devices, position), &wanted.1);
+    expect_same(rt, &left_at(devices, position), &wanted.2);
+    expect_same(rt, &count_at(devices, position), &wanted.3);
+    expect_same(rt, &last_at(devices, position), &wanted.4);
 }
 
-/// Expects the number of the next word of the device at a place.
-fn expect_next(rt: &impl Abort, devices: &mut Vec<Box<dyn Device>>, place: usize, number: u32) {
-    assert!(rt; place < devices.len());
-    expect_same(rt, &next_at(devices, place), &Word::of(number));
+/// Expects the number of the next word of the device at a position.
+fn expect_next(rt: &impl Abort, devices: &mut Vec<Box<dyn Device>>, position: usize, number: u32) {
+    assert!(rt; position < devices.len());
+    expect_same(rt, &next_at(devices, position), &Word::of(number));
 }
 
-/// Has the device at a place hear the word of a number at an address, where it hears that.
+/// Has the device at a position hear the word of a number at an address, where it hears that.
 fn hear_one(
     rt: &impl Abort,
     devices: &mut Vec<Box<dyn Device>>,
-    place: usize,
+    position: usize,
     address: u16,
     number: u32,
 ) {
-    assert!(rt; place < devices.len());
-    assert!(rt; hear_at(devices, place, address, word(rt, number)).is_ok());
+    assert!(rt; position < devices.len());
+    assert!(rt; hear_at(devices, position, address, word(rt, number)).is_ok());
 }
 
 /// Has each device hear the word of a number at an address, where it hears that.
@@ -228,10 +228,10 @@ fn hear_each(rt: &impl Abort, devices: &mut Vec<Box<dyn Device>>, address: u16, 
     assert!(rt; hear_all(devices, count, address, word(rt, number)).is_ok());
 }
 
-/// Drops the device at a place, and expects how many are left.
-fn drop_at(rt: &impl Abort, devices: &mut Vec<Box<dyn Device>>, place: usize, left: usize) {
-    assert!(rt; place < devices.len());
-    remove_at(devices, place);
+/// Drops the device at a position, and expects how many are left.
+fn drop_at(rt: &impl Abort, devices: &mut Vec<Box<dyn Device>>, position: usize, left: usize) {
+    assert!(rt; position < devices.len());
+    remove_at(devices, position);
     expect_same(rt, &devices.len(), &left);
 }
 

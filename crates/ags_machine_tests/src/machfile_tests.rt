@@ -88,7 +88,7 @@ fn add(rt: &impl Abort, text: &mut String, piece: &str) {
     assert!(rt; text.push_str(piece).is_ok());
 }
 
-/// These pieces, one behind the other.
+/// These pieces, one after the other.
 fn joined(rt: &impl Abort, alloc: Global, pieces: &[&str]) -> String {
     let mut text = String::new(alloc);
     for piece in pieces {

@@ -52,7 +52,7 @@ fn standard_times(rt: HostRuntime) {
     }
 }
 
-/// An address, its place among the input registers, and its place among the output registers.
+/// An address, its position among the input registers, and its position among the output registers.
 const FOUND: [(u16, Option<usize>, Option<usize>); 14] = [
     (0o2001, Some(0), None),
     (0o2002, Some(1), None),
@@ -70,7 +70,7 @@ const FOUND: [(u16, Option<usize>, Option<usize>); 14] = [
     (0o6200, None, Some(6)),
 ];
 
-/// Expects at which place of the inputs and of the outputs an address is found.
+/// Expects at which position of the inputs and of the outputs an address is found.
 fn expect_found(
     rt: &impl Abort,
     ports: &Ports,
@@ -94,10 +94,10 @@ fn standard_registers_are_found(rt: HostRuntime) {
     }
 }
 
-/// Whether the place of an input register's address is of one that gives each word once.
+/// Whether the position of an input register's address is of one that gives each word once.
 fn is_once_at(ports: &Ports, address: u16) -> bool {
     match ports.find_input(address) {
-        Some(place) => ports.is_once(place),
+        Some(position) => ports.is_once(position),
         None => false,
     }
 }
@@ -156,8 +156,8 @@ const REGISTERS: [(&[u16], &[u16], bool); 5] = [
 fn ends_of_registers(rt: HostRuntime) {
     let alloc = rt.alloc();
     let mut many = [0; 33];
-    for place in 0..33 {
-        many[place] = place as u16;
+    for position in 0..33 {
+        many[position] = position as u16;
     }
     expect_ports(&rt, alloc, &many[..32], &many[1..], true);
     expect_ports(&rt, alloc, &many, &[], false);

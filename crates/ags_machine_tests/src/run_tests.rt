@@ -1,14 +1,15 @@
 //! Scripts that are played on the standard machine, with what they print typed by hand.
 
-ghost use Rattle.std.specs.Prelude.{◌≤◌, length, None};
+ghost use Rattle.std.specs.Prelude.{◌≤◌, length};
 ghost use Rattle.ags_script.specs.Script.{IsReadFor};
 ghost use Rattle.ags_script.specs.Limit.{script_limit};
 
 use crate::common::{expect_same, word};
 use ags_certtype::{Cert, CertParts};
+use ags_decks::FailingSink;
 use ags_domain::{Domain, Range, Value};
 use ags_image::Image;
-use ags_outside::{PutDone, Sink, SteadySink};
+use ags_outside::SteadySink;
 use ags_ports::Machine;
 use ags_row::{Limits, Row, RowParts};
 use ags_run::{Outside, PlayError, Played, play};
@@ -95,8 +96,8 @@ const COPIES: &[(u16, u32)] = &[
 /// CLA 0020.
 const READS: &[(u16, u32)] = &[(0o17, 0o200020), (0o20, 0o000001)];
 
-/// DVP 4002, of 73 microseconds, TRA 4000, of 10, and the word 1: three cycles end 3, 6 and 9 microseconds late, behind 482 steps
-/// each, and the fourth behind the DVP of 481.
+/// DVP 4002, of 73 microseconds, TRA 4000, of 10, and the word 1: three cycles end 3, 6 and 9 microseconds late, after 482 steps
+/// each, and the fourth after the DVP of 481.
 const LOOPS: &[(u16, u32)] = &[(0o4000, 0o024002), (0o4001, 0o404000), (0o4002, 0o000001)];
 
 /// INP 2200, OUT 6200, DLY 4000: what the panel sends is shown to it.
@@ -324,43 +325,21 @@ fn guard_stops_starts(rt: HostRuntime) {
     expect_outside(&rt, alloc, &cert, script, register(&rt, 0o2001, 10));
 }
 
-/// A sink that tells nothing, and fails after so many puts.
-#[derive(Drop)]
-struct ShortSink {
-    room: u64,
-    faults: u64,
-}
-
-impl Sink for ShortSink {
-    ghost told = { λ _. None };
-
-    ghost faults = { λ sink. sink.faults };
-
-    fn put(&mut self, piece: &[u8]) -> PutDone {
-        if self.room == 0 {
-            self.faults = self.faults.saturating_add(1);
-            return PutDone::Failed;
-        }
-        self.room -= 1;
-        PutDone::Took(piece.len())
-    }
-}
-
-/// Plays a script of two lines that are shown into a sink with room for so many puts, and looks at the answer.
-fn expect_room(rt: &impl Abort, alloc: Global, room: u64, wanted: Result<Played, PlayError>) {
+/// Plays a script of two lines that are shown into a sink that fails at a put, and looks at the answer.
+fn expect_fault_at(rt: &impl Abort, alloc: Global, at: u64, wanted: Result<Played, PlayError>) {
     let machine = Machine::standard();
     let script = script_of(rt, alloc, "STEP 1\nSHOW REG\nPULSE\nSHOW REG\n", &machine);
     let image = image_of(rt, alloc, &[]);
-    let mut sink = ShortSink { room, faults: 0 };
+    let mut sink = FailingSink::at(at);
     let answer = play(alloc, &machine, &image, &script, None, &mut sink);
-    expect_same(rt, &(room, answer), &(room, wanted));
+    expect_same(rt, &(at, answer), &(at, wanted));
 }
 
 // Each line is put as one piece, so that the two lines take two puts.
 #[test]
 fn fault_in_mid_script_is_told(rt: HostRuntime) {
     let alloc = rt.alloc();
-    expect_room(&rt, alloc, 0, Err(PlayError::WriteFault));
-    expect_room(&rt, alloc, 1, Err(PlayError::WriteFault));
-    expect_room(&rt, alloc, 2, Ok(Played { steps: 1, puts: 0 }));
+    expect_fault_at(&rt, alloc, 1, Err(PlayError::WriteFault));
+    expect_fault_at(&rt, alloc, 2, Err(PlayError::WriteFault));
+    expect_fault_at(&rt, alloc, 3, Ok(Played { steps: 1, puts: 0 }));
 }

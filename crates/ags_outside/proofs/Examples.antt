@@ -23,7 +23,7 @@ fell : Rose 4 3 → ⊥
 fell (inl more) = omega arith
 fell (inr last) = omega arith
 
--- at the last value of a counter every call may have raised it, and behind that value none that left it
+-- at the last value of a counter every call may have raised it, and after that value none that left it
 rose_at_the_last : Rose (2 ^ 64 - 1) (2 ^ 64 - 1)
 rose_at_the_last = inr refl
 
@@ -71,7 +71,7 @@ absent_at_the_last = refl
 ended : absences_after 4 pull.End ≡ 4
 ended = refl
 
--- a list that has 8 and 9 behind what it held took these, and one with 7, 8 and 9 that held 7 didn't take 9 alone
+-- a list that has 8 and 9 after what it held took these, and one with 7, 8 and 9 that held 7 didn't take 9 alone
 list_took : (held : List ℕ) → TookMore (λ list bytes. bytes ≡ list) held (held ++ 8 ∷ 9 ∷ []) (8 ∷ 9 ∷ [])
 list_took held = λ before is. ap (λ bytes. bytes ++ 8 ∷ 9 ∷ []) is
 

@@ -5,19 +5,13 @@ use Rattle.std.proofs.lemmas.List.{take-append-drop}
 use Rattle.ags_outside.specs.declared.shelves.Pull.TheVariants as pull
 use Rattle.ags_outside.specs.Shelf.{PullTells}
 use Rattle.ags_outside.specs.ToldFile.{ToldFile, Untold, Missing, Stored}
-use Rattle.ags_outside.specs.Taken.{TookMore, took_both, took_none}
+use Rattle.ags_outside.specs.Taken.{TookMore, took_both}
 
 -- What was read is a front of the file, where the shelf tells of it; of an absent one nothing was read.
 abbrev pub IsFrontTold : ToldFile → List ℕ → Type 0
 IsFrontTold Untold held = Unit {0}
 IsFrontTold Missing held = held ≡ []
 IsFrontTold (Stored bytes) held = (rest : List ℕ) × (held ++ rest ≡ bytes)
-
--- before the first pull
-pub front_nothing : (told : ToldFile) → IsFrontTold told []
-front_nothing Untold = tt
-front_nothing Missing = refl
-front_nothing (Stored bytes) = (bytes, refl)
 
 -- after a pull that got bytes
 pub front_more : (told : ToldFile) (held into : List ℕ) (from count : ℕ) → from ≡ length held →
@@ -43,14 +37,6 @@ pub record FetchedSoFar {T : Type 0} (took : T → List ℕ → Type 0) (told : 
   pub many : count ≡ length bytes
   pub front : IsFrontTold told bytes
   pub more : TookMore took old new bytes
-
-pub fetched_nothing : {T : Type 0} (took : T → List ℕ → Type 0) (told : ToldFile) (taker : T) → FetchedSoFar took told 0 taker taker
-fetched_nothing took told taker = record {
-  bytes = [];
-  many = refl;
-  front = front_nothing told;
-  more = took_none took taker;
-}
 
 pub fetched_more : {T : Type 0} (took : T → List ℕ → Type 0) (told : ToldFile) (from count : ℕ) (old mid new : T) (into : List ℕ)
     → count ≤ length into → FetchedSoFar took told from old mid → PullTells told from into (pull.Got count) → TookMore took mid new (take count into)

@@ -10,7 +10,7 @@ use Rattle.std.proofs.lemmas.List.Sums.{fails_before_first}
 use Rattle.std.proofs.lemmas.Slice.Eq.{bytes_eq-Decides}
 use Rattle.ags_outside.specs.Files.{bytes_of, Puts}
 
--- a test that passes nowhere stops at no place
+-- a test that passes nowhere stops at no position
 pub long_where_none : {X : Type 0} (p : X → Bool) (xs : List X) → position p xs ≡ None → length xs ≤ position_or_len p xs
 long_where_none p xs none = grind (arith, common_steps, nat_tests)
 
@@ -23,16 +23,16 @@ other_name mine name other same differs =
       | false ↦ λ equal. refl
     ] (bytes_eq-Decides mine other).0
 
--- the file at the first place that has the name
-pub bytes_at_place : {X : Type 0} (key value : X → List ℕ) (xs : List X) (name : List ℕ) (i : ℕ) (d : X) →
+-- the file at the first position that has the name
+pub bytes_at_position : {X : Type 0} (key value : X → List ℕ) (xs : List X) (name : List ℕ) (i : ℕ) (d : X) →
     position (λ x. bytes_eq (key x) name) xs ≡ Some i →
     bytes_of (map (λ x. (key x, value x)) xs) name ≡ Some (value (get_or xs i d))
-bytes_at_place key value xs name i d at =
+bytes_at_position key value xs name i d at =
     let here = position-Some (λ x. bytes_eq (key x) name) xs i d at in
     found_at (λ ys. bytes_of (map (λ x. (key x, value x)) ys) name) (λ x. bytes_eq (key x) name) (λ x. Some (value x)) None
     refl (λ _ _. refl) xs i d here.0 here.2 here.1
 
--- no file where no place has the name
+-- no file where no position has the name
 pub bytes_nowhere : {X : Type 0} (key value : X → List ℕ) (xs : List X) (name : List ℕ) →
     position (λ x. bytes_eq (key x) name) xs ≡ None → bytes_of (map (λ x. (key x, value x)) xs) name ≡ None
 bytes_nowhere key value [] name none = refl
@@ -42,11 +42,11 @@ bytes_nowhere key value (x ∷ xs) name none =
     found_nowhere (λ ys. bytes_of (map (λ x. (key x, value x)) ys) name) (λ x. bytes_eq (key x) name) (λ x. Some (value x)) None
     refl (λ _ _. refl) (x ∷ xs) x (λ k below. fails_before_first (λ x. bytes_eq (key x) name) (x ∷ xs) k x (omega arith))
 
--- a new thing with the name, at the first place that has it
-pub puts_at_place : {X : Type 0} (key value : X → List ℕ) (xs : List X) (name : List ℕ) (i : ℕ) (y d : X) →
+-- a new thing with the name, at the first position that has it
+pub puts_at_position : {X : Type 0} (key value : X → List ℕ) (xs : List X) (name : List ℕ) (i : ℕ) (y d : X) →
     position (λ x. bytes_eq (key x) name) xs ≡ Some i → key y ≡ key (get_or xs i d) →
     Puts (map (λ x. (key x, value x)) xs) (map (λ x. (key x, value x)) (set xs i y)) name (value y)
-puts_at_place {X} key value xs name i y d at same_key =
+puts_at_position {X} key value xs name i y d at same_key =
     let here = position-Some (λ x. bytes_eq (key x) name) xs i d at in
     let within : i < length (set xs i y) = omega (arith, length-set xs i y, here.0) in
     let same : bytes_eq (key y) name ≡ true = ap (λ mine. bytes_eq mine name) same_key ∙ here.1 in
@@ -63,7 +63,7 @@ puts_at_place {X} key value xs name i y d at same_key =
           refl (λ _ _. refl) xs i y d (other_name _ name other here.1 differs) (other_name _ name other same differs);
     }
 
--- a new thing with the name, behind things of which none has it
+-- a new thing with the name, after things of which none has it
 pub puts_behind : {X : Type 0} (key value : X → List ℕ) (xs : List X) (name : List ℕ) (y : X) →
     position (λ x. bytes_eq (key x) name) xs ≡ None → key y ≡ name →
     Puts (map (λ x. (key x, value x)) xs) (map (λ x. (key x, value x)) (xs ++ y ∷ [])) name (value y)

@@ -10,7 +10,7 @@ GotWithin room (Got count) = (0 < count) × (count ≤ room)
 GotWithin room _ = Unit {0}
 
 -- What an answer says of a file, where the shelf tells of it. Of an absent file there are no bytes and no
--- end. Of a file that is there, the bytes are those that stand at that place, the end comes only where no
+-- end. Of a file that is there, the bytes are those that stand at that position, the end comes only where no
 -- byte does, and it isn't absent. Where the shelf tells nothing, nothing is said.
 abbrev pub PullTells : (told : ToldFile) (from : ℕ) (into : List ℕ) (answer : Pull) → Type 0
 PullTells Missing from into (Got count) = ⊥
@@ -32,7 +32,7 @@ is_absent_pull Absent = true
 is_absent_pull _ = false
 
 -- An answer of a shelf that never fails and never wants memory. Of a file that is there it gives as many bytes as
--- stand at that place and behind it, up to the room.
+-- stand at that position and after it, up to the room.
 abbrev pub IsSteadyPull : (file : Option (List ℕ)) (from room : ℕ) (answer : Pull) → Type 0
 IsSteadyPull None from room Absent = Unit {0}
 IsSteadyPull (Some bytes) from room (Got count) = count ≡ min room (length bytes - from)

@@ -1,6 +1,6 @@
 -- What a sink has taken, call by call. Laws carry a writer through its loop, with `rest` as what is left:
 --   wrote_nothing     at the start, all is left
---   wrote_piece       a whole piece was appended, and what is behind it is left
+--   wrote_piece       a whole piece was appended, and what is after it is left
 --   wrote_part        the same, where the piece is the first bytes of what was left
 --   wrote_of_nothing  of no bytes, nothing is left
 --   wrote_all         at the end, where nothing is left, the whole text was appended
@@ -16,7 +16,7 @@ use Rattle.std.proofs.lemmas.List.{take-append-drop}
 use Rattle.ags_outside.specs.declared.sinks.PutDone.{PutDone}
 use Rattle.ags_outside.specs.declared.sinks.PutDone.TheVariants.{Took, Failed, NoMemory}
 
--- the bytes taken so far with these behind them, where the sink tells
+-- the bytes taken so far with these after them, where the sink tells
 abbrev pub appended : Option (List ℕ) → List ℕ → Option (List ℕ)
 appended None bytes = None
 appended (Some held) bytes = Some (held ++ bytes)
@@ -53,7 +53,7 @@ pub record WroteFront (old new : Option (List ℕ)) (text : List ℕ) : Type 0 w
   pub rest : List ℕ
   pub wrote : Wrote old new text rest
 
--- nothing behind what is held leaves what is held
+-- nothing after what is held leaves what is held
 pub appended_nothing : (old : Option (List ℕ)) → appended old [] ≡ old
 appended_nothing None = refl
 appended_nothing (Some held) = ap Some (append-nil held)

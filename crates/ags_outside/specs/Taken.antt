@@ -1,15 +1,15 @@
 -- What a taker took. Laws carry a taker through the parts of a piece, with `left` as what is to come:
 --   took_none      no bytes leave what was taken
---   took_both      two pieces, one behind the other, are one
+--   took_both      two pieces, one after the other, are one
 --   so_far_none    at the start, the whole piece is left
---   so_far_more    a front of what was left was taken, and what is behind it is left
+--   so_far_more    a front of what was left was taken, and what is after it is left
 --   so_far_all     all that was left was taken, and so the piece was
 use Rattle.std.specs.Prelude.{◌≡◌, ℕ, ◌≤◌, List, [], ◌++◌, length, Ok, refl}
 use Rattle.std.proofs.Common.{sym, ap, subst, ◌∙◌, append_assoc, append-nil}
 use Rattle.ags_outside.specs.Fetch.{FetchTells}
 use Rattle.ags_outside.specs.ToldFile.{ToldFile}
 
--- whatever bytes it took before, it took those and these behind them now
+-- whatever bytes it took before, it took those and these after them now
 abbrev pub TookMore : {T : Type 0} → (took : T → List ℕ → Type 0) → (old new : T) → List ℕ → Type 0
 TookMore took old new more = (before : List ℕ) → took old before → took new (before ++ more)
 

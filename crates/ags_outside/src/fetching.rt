@@ -99,8 +99,6 @@ pub fn fetch<S: Shelf>(
     ensures absences { HasCause (S.absences shelf.old) (S.absences shelf.new) (is_absence result) }
 {
     let mut bytes = Vec::new(alloc);
-    match fetch_into(shelf, name, limit, &mut bytes) {
-        Ok(()) => Ok(bytes),
-        Err(error) => Err(error),
-    }
+    fetch_into(shelf, name, limit, &mut bytes)?;
+    Ok(bytes)
 }

@@ -1,5 +1,5 @@
 //! What the definitions mean. Each law is what a function that does nothing ensures, so that it is proved with the
-//! crate. Behind it is a lemma of `specs/`, which the crates above cite.
+//! crate. After it is a lemma of `specs/`, which the crates above cite.
 
 ghost use Rattle.std.specs.Prelude.{ℕ, ◌≤◌};
 ghost use Rattle.ags_outside.specs.Count.{Rose};

@@ -54,7 +54,7 @@ impl MemoryShelf {
         self.held.add(name, bytes)
     }
 
-    /// Lets the pull of a number fail, the first pull of the shelf being number 1. A number behind which the shelf already is, or one
+    /// Lets the pull of a number fail, the first pull of the shelf being number 1. A number after which the shelf already is, or one
     /// that was listed before, changes nothing of what it answers. Where memory is wanting nothing changes.
     pub fn fail_at(&mut self, call: u64) -> Result<(), AllocError>
         ensures listed { OnOk result (self.new ≡ record self.old { calls = record self.old.calls { failing = self.old.calls.failing ++ call ∷ [] } }) }

@@ -44,7 +44,7 @@ impl MemorySink {
         }
     }
 
-    /// Lets the put of a number fail, the first put into the sink being number 1. A number behind which the sink already is, or one that
+    /// Lets the put of a number fail, the first put into the sink being number 1. A number after which the sink already is, or one that
     /// was listed before, changes nothing of what it answers. Where memory is wanting nothing changes.
     pub fn fail_at(&mut self, call: u64) -> Result<(), AllocError>
         ensures listed { OnOk result (self.new ≡ record self.old { calls = record self.old.calls { failing = self.old.calls.failing ++ call ∷ [] } }) }

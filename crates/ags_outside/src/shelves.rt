@@ -10,7 +10,7 @@ ghost use Rattle.ags_outside.specs.ToldFile.{ToldFile};
 pub enum Pull {
     /// So many bytes stand at the front of the room that was given.
     Got(usize),
-    /// No byte of the file stands at that place or behind it.
+    /// No byte of the file stands at that position or after it.
     End,
     /// There is no such file.
     Absent,
@@ -31,7 +31,7 @@ pub trait Shelf {
     /// How often it has found a file absent.
     ghost absences: { Self → ℕ };
 
-    /// Reads bytes of a file from that place on, as many as there is room for or fewer.
+    /// Reads bytes of a file from that position on, as many as there is room for or fewer.
     fn pull(&mut self, name: &str, from: u64, into: &mut [u8]) -> Pull
         requires { 0 < length into.old }
         ensures same { told self.new ≡ told self.old }

@@ -15,7 +15,7 @@ pub enum PutDone {
     NoMemory,
 }
 
-/// What bytes are put into, one behind the other.
+/// What bytes are put into, one after the other.
 pub trait Sink {
     /// The bytes taken so far, where the sink tells.
     ghost told: { Self → Option (List ℕ) };

@@ -40,7 +40,7 @@ impl Model for SteadyShelf {
 }
 
 /// Where the first file of that name stands.
-fn place_of(files: &[StoredFile], name: &str) -> Option<usize>
+fn position_of(files: &[StoredFile], name: &str) -> Option<usize>
     ensures { result ≡ position (λ file. bytes_eq (string_bytes file.name) name.now) files.now }
 {
     files.iter().position(|file| file.name.as_str() == name)
@@ -50,8 +50,8 @@ fn place_of(files: &[StoredFile], name: &str) -> Option<usize>
 fn find<'a>(files: &'a [StoredFile], name: &str) -> Option<&'a [u8]>
     ensures { option_copied result ≡ bytes_of (map file_of files.now) name.now }
 {
-    let place = place_of(files, name)?;
-    Some(files[place].bytes.as_slice())
+    let position = position_of(files, name)?;
+    Some(files[position].bytes.as_slice())
 }
 
 impl SteadyShelf {
@@ -74,8 +74,8 @@ impl SteadyShelf {
         ensures absences { self.new.absences ≡ self.old.absences }
     {
         let copy = Vec::from_slice(self.alloc, bytes)?;
-        if let Some(place) = place_of(&self.files, name) {
-            let file = &mut self.files[place];
+        if let Some(position) = position_of(&self.files, name) {
+            let file = &mut self.files[position];
             file.bytes = copy;
             return Ok(());
         }

@@ -5,7 +5,7 @@ ghost use Rattle.ags_outside.specs.Taken.{TookMore};
 
 use std::alloc::AllocError;
 
-/// What takes bytes, one piece behind the other. It needn't keep them.
+/// What takes bytes, one piece after the other. It needn't keep them.
 pub trait Taker {
     /// Whether it stands as it does after these bytes.
     ghost took: { Self → List ℕ → Type 0 };

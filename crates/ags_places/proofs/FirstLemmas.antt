@@ -1,11 +1,35 @@
 -- The first fault of a list is the least of all faults that its elements have, by the number of the element and then by that of the
 -- kind, where of each element the least is told. The crates above cite `Tells`, `first_holds`,
--- `first_least` and `first_none`.
+-- `first_least` and `first_none`, and, where there is no fault, `both_none`, `none_later`, `none_told` and `early_faultless`.
 use Rattle.std.proofs.Common.{◌≡◌, ℕ, ◌<◌, ◌≤◌, List, [], ◌∷◌, ◌++◌, length, reverse, Option, Some, None, refl, sym, ap, subst, ◌∙◌, ◌⊎◌, inl, inr, arith, append-nil}
 use Rattle.std.proofs.lemmas.Bool.{cases_lt, cases_eq}
-use Rattle.ags_text.specs.Fault.{first_fault, IsFirstFault}
+use Rattle.std.specs.Option.{option_or}
+use Rattle.ags_text.specs.Fault.{first_fault, or_later, IsFirstFault}
 use Rattle.ags_text.proofs.FaultLemmas.{faultless, found}
+use Rattle.ags_symbol.specs.Symbol.{Entry}
+use Rattle.ags_places.specs.declared.source_error.SourceKind.{SourceKind}
+use Rattle.ags_places.specs.declared.source_error.SourceKind.TheVariants as kind
+use Rattle.ags_places.specs.Fault.{early_fault, first_card_fault, first_place_fault, told_as}
 use Rattle.ags_places.specs.Faulty.{HoldsAt}
+
+-- ---- no fault
+
+pub both_none : {F : Type 0} (first later : Option F) → option_or first later ≡ None → (first ≡ None) × (later ≡ None)
+both_none None later none = (refl, none)
+both_none (Some fault) later none = absurd cc
+
+pub none_later : {F : Type 0} (number : ℕ) (head : Option F) (later : Option (ℕ × F)) → or_later number head later ≡ None → (head ≡ None) × (later ≡ None)
+none_later number None later none = (refl, none)
+none_later number (Some fault) later none = absurd cc
+
+pub none_told : {F : Type 0} (phase : F → SourceKind) (found : Option (ℕ × F)) → told_as phase found ≡ None → found ≡ None
+none_told phase None none = refl
+none_told phase (Some one) none = absurd cc
+
+pub early_faultless : (text : List ℕ) (S : List Entry) → early_fault S text ≡ None → (first_card_fault text ≡ None) × (first_place_fault S text ≡ None)
+early_faultless text S none =
+    let (misread, misplaced) = both_none (told_as kind.Card (first_card_fault text)) (told_as kind.Place (first_place_fault S text)) none in
+    (none_told kind.Card (first_card_fault text) misread, none_told kind.Place (first_place_fault S text) misplaced)
 
 -- ---- two places in a list
 

@@ -5,15 +5,15 @@ use Rattle.std.specs.List.{filter_map}
 use Rattle.std.proofs.lemmas.List.{append-nil, map-append}
 use Rattle.std.proofs.lemmas.List.Elements.{All-map, All-contains_itself}
 use Rattle.std.proofs.lemmas.List.Quantifiers.{all_pairs_push}
-use Rattle.ags_text.specs.Fault.{or_later, first_fault}
+use Rattle.ags_text.specs.Fault.{first_fault}
 use Rattle.ags_card.specs.declared.cards.Card.{Card}
 use Rattle.ags_symbol.specs.Symbol.{Entry, EachNameOnce, names, found}
 use Rattle.ags_symbol.proofs.FoundLemmas.{found_none}
-use Rattle.ags_places.specs.declared.source_error.SourceKind.{SourceKind}
-use Rattle.ags_places.specs.declared.source_error.SourceKind.TheVariants.{SymbolTwice}
+use Rattle.ags_places.specs.declared.source_error.PlaceFault.TheVariants.{SymbolTwice}
 use Rattle.ags_places.specs.Deck.{cards}
 use Rattle.ags_places.specs.Place.{Fits, early, place, symbol_value, pair_of, pairs_after}
-use Rattle.ags_places.specs.Fault.{or_else, twice, body_fault, early_fault, first_card_fault, first_place_fault}
+use Rattle.ags_places.specs.Fault.{twice, body_fault, early_fault}
+use Rattle.ags_places.proofs.FirstLemmas.{both_none, early_faultless, none_later}
 use Rattle.ags_places.proofs.RunningLemmas.{known, next_pairs, known_fault, fits_only, faults-known}
 
 -- ---- one pair for each symbol
@@ -49,21 +49,12 @@ once-step pairs (Some name) value number once none = once_more pairs (record { n
     not_twice None none = refl
     not_twice (Some entry) none = absurd cc
 
--- no fault first
-first_none : (first later : Option SourceKind) → or_else first later ≡ None → first ≡ None
-first_none None later none = refl
-first_none (Some kind) later none = absurd cc
-
-none_later : (number : ℕ) (head : Option SourceKind) (later : Option (ℕ × SourceKind)) → or_later number head later ≡ None → (head ≡ None) × (later ≡ None)
-none_later number None later none = (refl, none)
-none_later number (Some kind) later none = absurd cc
-
 once_along : (before cards : List Card) → EachNameOnce (known before).pairs → first_fault known_fault before cards ≡ None → EachNameOnce ((known before).pairs ++ next_pairs before cards)
 unfolding known next_pairs first_fault
 once_along before [] once none = rw (append-nil (known before).pairs) once
 once_along before (card ∷ cards) once none =
     let parts = none_later (length before + 1) (known_fault before card) (first_fault known_fault (card ∷ before) cards) none in
-    let single = first_none (twice (known before).pairs card.symbol) (body_fault (known before).pairs (known before).place card.body) parts.0 in
+    let single = (both_none (twice (known before).pairs card.symbol) (body_fault (known before).pairs (known before).place card.body) parts.0).0 in
     let more : EachNameOnce (known (card ∷ before)).pairs = once-step (known before).pairs card.symbol (symbol_value (known before).pairs (known before).place card.body) (length before + 1) once single in
     rw (← append_assoc) (once_along (card ∷ before) cards more parts.1)
 
@@ -71,13 +62,8 @@ once-start : EachNameOnce (known []).pairs
 unfolding known
 once-start = λ i j d first within. absurd (omega (arith, first, within))
 
-no_place_fault : (first later : Option (ℕ × SourceKind)) → or_else first later ≡ None → later ≡ None
-no_place_fault None later none = none
-no_place_fault (Some fault) later none = absurd cc
-
 pub each_symbol_once : (text : List ℕ) (S : List Entry) → Fits S (cards text) → early_fault S text ≡ None → EachNameOnce S
 unfolding known
 each_symbol_once text S fits none =
-    let clear = no_place_fault (first_card_fault text) (first_place_fault S text) none in
-    let along = once_along [] (cards text) once-start (sym (faults-known S (cards text) fits) ∙ clear) in
+    let along = once_along [] (cards text) once-start (sym (faults-known S (cards text) fits) ∙ (early_faultless text S none).1) in
     rw (fits_only S (cards text) fits) along

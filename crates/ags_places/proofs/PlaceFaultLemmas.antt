@@ -3,16 +3,17 @@
 use Rattle.std.proofs.Common.{◌≡◌, ℕ, ◌+◌, ◌≤◌, List, [], ◌∷◌, ◌++◌, length, reverse, Option, Some, None, option_map, refl, sym, ap, subst, ◌∙◌, inl, inr, arith, append_assoc, append-nil}
 use mathlib.Core.List.{reverse-cons}
 use Rattle.std.specs.List.{Contains}
+use Rattle.std.specs.Option.{option_or}
 use Rattle.std.proofs.lemmas.List.Elements.{Contains-append_left, Contains-append_right, Contains-append_cases}
 use Rattle.ags_card.specs.declared.cards.Card.{Card}
 use Rattle.ags_card.specs.declared.terms.Term.{Term}
 use Rattle.ags_symbol.specs.Symbol.{Entry, NamesUnknown, found}
 use Rattle.ags_symbol.proofs.FoundLemmas.{Contains-cons, Contains-first, found_some, found_none}
-use Rattle.ags_places.specs.declared.source_error.SourceKind.{SourceKind}
-use Rattle.ags_places.specs.declared.source_error.SourceKind.TheVariants.{BadByte, LongCard, BadSymbol, UnknownOperation, MissingOperand, ExtraOperand, BadExpression, BadDecimal, BadOctal, SymbolTwice, UndefinedEarly, PlaceRange, Undefined, AddressRange, ValueRange, PlaceTwice}
+use Rattle.ags_places.specs.declared.source_error.PlaceFault.{PlaceFault}
+use Rattle.ags_places.specs.declared.source_error.PlaceFault.TheVariants.{SymbolTwice, UndefinedEarly, PlaceRange}
 use Rattle.ags_places.specs.Deck.{cards}
-use Rattle.ags_places.specs.Fault.{body_fault, first_place_fault, or_else, place_fault, twice}
-use Rattle.ags_places.specs.Faulty.{DefinesBefore, HasPlaceFault, HoldsAt, IsMisplacedBy, UsesUndefined, kind_number, placing_terms}
+use Rattle.ags_places.specs.Fault.{body_fault, first_place_fault, place_fault, twice}
+use Rattle.ags_places.specs.Faulty.{DefinesBefore, HasPlaceFault, HoldsAt, IsMisplacedBy, UsesUndefined, place_fault_number, placing_terms}
 use Rattle.ags_places.specs.Place.{Fits, early, pair_of, place, symbol_value}
 use Rattle.ags_places.proofs.FirstLemmas.{NoLater, Tells, first_holds, first_least, first_none}
 use Rattle.ags_places.proofs.RangeLemmas.{body_told, range_told, unknown_told}
@@ -106,51 +107,51 @@ module _ (S : List Entry) (before : List Card) (card : Card) (agrees : Agrees S 
           missing entry.card (subst (DefinesBefore before entry.card) named defined)
 
   -- what is told of the symbol
-  twice_told : (symbol : Option (List ℕ)) (kind : SourceKind) → twice E symbol ≡ Some kind
-      → (name : List ℕ) × (first : ℕ) × (symbol ≡ Some name) × DefinesBefore before first name × (kind ≡ SymbolTwice first)
-  twice_told None kind is = absurd cc
-  twice_told (Some name) kind is = by_found (found name E) refl is
+  twice_told : (symbol : Option (List ℕ)) (fault : PlaceFault) → twice E symbol ≡ Some fault
+      → (name : List ℕ) × (first : ℕ) × (symbol ≡ Some name) × DefinesBefore before first name × (fault ≡ SymbolTwice first)
+  twice_told None fault is = absurd cc
+  twice_told (Some name) fault is = by_found (found name E) refl is
     where
-      by_found : (pair : Option Entry) → found name E ≡ pair → option_map (λ (entry : Entry). SymbolTwice entry.card) pair ≡ Some kind
-          → (other : List ℕ) × (first : ℕ) × (Some name ≡ Some other) × DefinesBefore before first other × (kind ≡ SymbolTwice first)
+      by_found : (pair : Option Entry) → found name E ≡ pair → option_map (λ (entry : Entry). SymbolTwice entry.card) pair ≡ Some fault
+          → (other : List ℕ) × (first : ℕ) × (Some name ≡ Some other) × DefinesBefore before first other × (fault ≡ SymbolTwice first)
       by_found None found_is told = absurd cc
       by_found (Some entry) found_is told =
           let there = found_some name E entry found_is in
           let defined = known_defined before entry (subst (λ (pairs : List Entry). Contains pairs entry) early_is there.0) in
-          let same : SymbolTwice entry.card ≡ kind = cc in
+          let same : SymbolTwice entry.card ≡ fault = cc in
           (name, entry.card, refl, subst (DefinesBefore before entry.card) there.1 defined, sym same)
 
-  body_sound : (kind : SourceKind) → body_fault E (place S before) card.body ≡ Some kind → IsMisplacedBy S kind before card
+  body_sound : (fault : PlaceFault) → body_fault E (place S before) card.body ≡ Some fault → IsMisplacedBy S fault before card
   unfolding E
-  body_sound kind is = elim (body_told E (place S before) card.body kind is) [
+  body_sound fault is = elim (body_told E (place S before) card.body fault is) [
     | inl undefined ↦ rw (undefined.0) (unknown_undefined (placing_terms card.body) undefined.1)
     | inr range ↦ rw (range.0) (range.1)
   ]
 
-  by_symbol : (symbol : Option SourceKind) (kind : SourceKind) → twice E card.symbol ≡ symbol → or_else symbol (body_fault E (place S before) card.body) ≡ Some kind
-      → IsMisplacedBy S kind before card
-  by_symbol None kind symbol_is is = body_sound kind is
-  by_symbol (Some one) kind symbol_is is =
-      let same : one ≡ kind = cc in
+  by_symbol : (symbol : Option PlaceFault) (fault : PlaceFault) → twice E card.symbol ≡ symbol → option_or symbol (body_fault E (place S before) card.body) ≡ Some fault
+      → IsMisplacedBy S fault before card
+  by_symbol None fault symbol_is is = body_sound fault is
+  by_symbol (Some one) fault symbol_is is =
+      let same : one ≡ fault = cc in
       let (name, first, symbol, defined, one_is) = twice_told card.symbol one symbol_is in
       rw (sym same ∙ one_is) (name, symbol, defined)
 
-  place_sound : (kind : SourceKind) → place_fault S before card ≡ Some kind → IsMisplacedBy S kind before card
+  place_sound : (fault : PlaceFault) → place_fault S before card ≡ Some fault → IsMisplacedBy S fault before card
   unfolding E
-  place_sound kind is = by_symbol (twice E card.symbol) kind refl is
+  place_sound fault is = by_symbol (twice E card.symbol) fault refl is
 
   -- what is told, where something is wrong: of no greater number
   Told : ℕ → Type 0
-  Told most = (g : SourceKind) × (place_fault S before card ≡ Some g) × (kind_number g ≤ most)
+  Told most = (g : PlaceFault) × (place_fault S before card ≡ Some g) × (place_fault_number g ≤ most)
 
   -- the symbol comes first
-  told_by : (symbol : Option SourceKind) (kind : SourceKind) → twice E card.symbol ≡ symbol → 10 ≤ kind_number kind
-      → body_fault E (place S before) card.body ≡ Some kind → Told (kind_number kind)
+  told_by : (symbol : Option PlaceFault) (fault : PlaceFault) → twice E card.symbol ≡ symbol → 10 ≤ place_fault_number fault
+      → body_fault E (place S before) card.body ≡ Some fault → Told (place_fault_number fault)
   unfolding E Told
-  told_by None kind symbol_is least is = (kind, rw symbol_is is, omega arith)
-  told_by (Some one) kind symbol_is least is =
+  told_by None fault symbol_is least is = (fault, rw symbol_is is, omega arith)
+  told_by (Some one) fault symbol_is least is =
       let (name, first, symbol, defined, one_is) = twice_told card.symbol one symbol_is in
-      (one, rw symbol_is refl, omega (arith, least, ap kind_number one_is))
+      (one, rw symbol_is refl, omega (arith, least, ap place_fault_number one_is))
 
   twice_tells : (name : List ℕ) (first : ℕ) → card.symbol ≡ Some name → DefinesBefore before first name → Told 10
   unfolding E Told
@@ -162,50 +163,37 @@ module _ (S : List Entry) (before : List Card) (card : Card) (agrees : Agrees S 
           absurd (found_none name E entry found_is (subst (λ (pairs : List Entry). Contains pairs entry) (sym early_is) there) named)
       by_found (Some entry) found_is =
           let told : twice E card.symbol ≡ Some (SymbolTwice entry.card) = ap (twice E) symbol ∙ ap (option_map (λ (entry : Entry). SymbolTwice entry.card)) found_is in
-          (SymbolTwice entry.card, ap (λ (one : Option SourceKind). or_else one (body_fault E (place S before) card.body)) told, omega arith)
+          (SymbolTwice entry.card, ap (λ (one : Option PlaceFault). option_or one (body_fault E (place S before) card.body)) told, omega arith)
 
-  place_least : (kind : SourceKind) → IsMisplacedBy S kind before card → (g : SourceKind) × (place_fault S before card ≡ Some g) × (kind_number g ≤ kind_number kind)
+  place_least : (fault : PlaceFault) → IsMisplacedBy S fault before card → (g : PlaceFault) × (place_fault S before card ≡ Some g) × (place_fault_number g ≤ place_fault_number fault)
   unfolding E Told
   place_least (SymbolTwice first) (name, symbol, defined) = twice_tells name first symbol defined
   place_least UndefinedEarly is =
       told_by (twice E card.symbol) UndefinedEarly refl (omega arith) (unknown_told E (place S before) card.body (undefined_unknown (placing_terms card.body) is))
   place_least PlaceRange is = told_by (twice E card.symbol) PlaceRange refl (omega arith) (range_told E (place S before) card.body is)
-  place_least BadByte is = absurd is
-  place_least LongCard is = absurd is
-  place_least BadSymbol is = absurd is
-  place_least UnknownOperation is = absurd is
-  place_least MissingOperand is = absurd is
-  place_least ExtraOperand is = absurd is
-  place_least BadExpression is = absurd is
-  place_least BadDecimal is = absurd is
-  place_least BadOctal is = absurd is
-  place_least Undefined is = absurd is
-  place_least (AddressRange value) is = absurd is
-  place_least ValueRange is = absurd is
-  place_least (PlaceTwice first) is = absurd is
 
 -- ---- the first fault
 
 module _ (S : List Entry) (text : List ℕ) (fits : Fits S (cards text)) where
-  places_tell : Tells (place_fault S) (IsMisplacedBy S) kind_number (cards text)
+  places_tell : Tells (place_fault S) (IsMisplacedBy S) place_fault_number (cards text)
   places_tell = record {
-    sound = λ front card behind kind whole told. place_sound S (reverse front) card (agrees_at S (cards text) front (card ∷ behind) fits whole) kind told;
-    least = λ front card behind kind whole so. place_least S (reverse front) card (agrees_at S (cards text) front (card ∷ behind) fits whole) kind so;
+    sound = λ front card behind fault whole told. place_sound S (reverse front) card (agrees_at S (cards text) front (card ∷ behind) fits whole) fault told;
+    least = λ front card behind fault whole so. place_least S (reverse front) card (agrees_at S (cards text) front (card ∷ behind) fits whole) fault so;
   }
 
   -- the one list that fits is S
-  held_by : (number : ℕ) (kind : SourceKind) → HasPlaceFault text number kind → HoldsAt (IsMisplacedBy S kind) (cards text) number
-  held_by number kind (T, too, held) =
+  held_by : (number : ℕ) (fault : PlaceFault) → HasPlaceFault text number fault → HoldsAt (IsMisplacedBy S fault) (cards text) number
+  held_by number fault (T, too, held) =
       let same : T ≡ S = fits_one T S (cards text) too fits in
-      subst (λ (U : List Entry). HoldsAt (IsMisplacedBy U kind) (cards text) number) same held
+      subst (λ (U : List Entry). HoldsAt (IsMisplacedBy U fault) (cards text) number) same held
 
-  pub place_fault_holds : (number : ℕ) (kind : SourceKind) → first_place_fault S text ≡ Some (number, kind) → HasPlaceFault text number kind
-  place_fault_holds number kind is = (S, fits, first_holds (place_fault S) (IsMisplacedBy S) kind_number (cards text) places_tell number kind is)
+  pub place_fault_holds : (number : ℕ) (fault : PlaceFault) → first_place_fault S text ≡ Some (number, fault) → HasPlaceFault text number fault
+  place_fault_holds number fault is = (S, fits, first_holds (place_fault S) (IsMisplacedBy S) place_fault_number (cards text) places_tell number fault is)
 
-  pub place_fault_least : (number : ℕ) (kind : SourceKind) → first_place_fault S text ≡ Some (number, kind) → (other : ℕ) (too : SourceKind) → HasPlaceFault text other too
-      → NoLater number (kind_number kind) other (kind_number too)
-  place_fault_least number kind is other too held =
-      first_least (place_fault S) (IsMisplacedBy S) kind_number (cards text) places_tell number kind is other too (held_by other too held)
+  pub place_fault_least : (number : ℕ) (fault : PlaceFault) → first_place_fault S text ≡ Some (number, fault) → (other : ℕ) (too : PlaceFault) → HasPlaceFault text other too
+      → NoLater number (place_fault_number fault) other (place_fault_number too)
+  place_fault_least number fault is other too held =
+      first_least (place_fault S) (IsMisplacedBy S) place_fault_number (cards text) places_tell number fault is other too (held_by other too held)
 
-  pub place_faultless : first_place_fault S text ≡ None → (number : ℕ) (kind : SourceKind) → HasPlaceFault text number kind → ⊥
-  place_faultless none number kind held = first_none (place_fault S) (IsMisplacedBy S) kind_number (cards text) places_tell none number kind (held_by number kind held)
+  pub place_faultless : first_place_fault S text ≡ None → (number : ℕ) (fault : PlaceFault) → HasPlaceFault text number fault → ⊥
+  place_faultless none number fault held = first_none (place_fault S) (IsMisplacedBy S) place_fault_number (cards text) places_tell none number fault (held_by number fault held)

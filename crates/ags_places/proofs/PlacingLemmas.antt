@@ -1,11 +1,11 @@
 -- The lines of a source's cards, and the places of their words. The crates above cite `lines_of_cards_follow`, behind the law
--- `card_lines_follow`, and `words_within` and `each_within`, behind `words_stand_in_the_memory`; and, as tools for a loop over the lines,
+-- `card_lines_follow`, and `words_within` and `each_within`, after `words_stand_in_the_memory`; and, as tools for a loop over the lines,
 -- `deck-nil`, `deck_left`, `ends_so` and `follow_deck`.
-use Rattle.std.proofs.Common.{◌≡◌, ℕ, zero, suc, ◌+◌, ◌<◌, ◌≤◌, Bool, true, false, cond, List, [], ◌∷◌, length, Option, Some, None, refl, subst, All, arith}
+use Rattle.std.proofs.Common.{◌≡◌, ℕ, zero, suc, ◌+◌, ◌<◌, ◌≤◌, Bool, true, false, cond, List, [], ◌∷◌, length, Some, None, refl, subst, All, arith}
 use Rattle.std.proofs.lemmas.List.Elements.{All-cons}
 use Rattle.std.specs.Prelude.{Ok, nat_lt, IfSome}
 use Rattle.std.proofs.lemmas.Bool.{leb-true, lt-ltb}
-use Rattle.ags_text.specs.Fault.{or_later, first_fault}
+use Rattle.ags_text.specs.Fault.{first_fault}
 use Rattle.ags_text.specs.Line.{LineAt, Follow, lines_of}
 use Rattle.ags_text.proofs.FollowLemmas.{lines_follow}
 use Rattle.ags_card.specs.declared.cards.Body.{Body}
@@ -13,9 +13,9 @@ use Rattle.ags_card.specs.declared.cards.Body.TheVariants.{Comment, Order, Org, 
 use Rattle.ags_card.specs.declared.cards.Card.{Card}
 use Rattle.ags_card.specs.Reading.{reading}
 use Rattle.ags_symbol.specs.Symbol.{Entry}
-use Rattle.ags_places.specs.declared.source_error.SourceKind.{SourceKind}
 use Rattle.ags_places.specs.Deck.{is_end, ends, deck, card_lines, cards}
-use Rattle.ags_places.specs.Fault.{twice, unless, holds_words, or_else, body_fault, place_fault, early_fault, first_card_fault, first_place_fault}
+use Rattle.ags_places.specs.Fault.{twice, unless, holds_words, body_fault, place_fault, early_fault}
+use Rattle.ags_places.proofs.FirstLemmas.{both_none, early_faultless, none_later}
 use Rattle.ags_places.specs.Place.{Fits, count, early, place, place_of_word, places_after, places}
 
 -- ---- the lines of a deck
@@ -63,11 +63,6 @@ first_within : (at many : ℕ) → at + many ≤ 4096 → IfSome (cond (nat_lt 0
 first_within at zero most = tt
 first_within at (suc many) most = let some : nat_lt 0 (suc many) ≡ true = lt-ltb 0 (suc many) (omega arith) in rw some (omega (arith, most))
 
--- the symbol's fault is none, nor is the body's
-body_faultless : (first later : Option SourceKind) → or_else first later ≡ None → later ≡ None
-body_faultless None later none = none
-body_faultless (Some kind) later none = absurd cc
-
 word_within : (E : List Entry) (at : ℕ) (body : Body) → body_fault E at body ≡ None → IfSome (place_of_word at body) (λ place. place < 4096)
 word_within E at Comment none = tt
 word_within E at (Order order terms indexed) none = first_within at 1 (words_hold at 1 none)
@@ -92,22 +87,14 @@ each_within E at i (Oct words) none within = omega (arith, words_hold at (length
 each_within E at i End none within = absurd (omega (arith, within))
 
 -- of all cards
-none_later : (number : ℕ) (head : Option SourceKind) (later : Option (ℕ × SourceKind)) → or_later number head later ≡ None → (head ≡ None) × (later ≡ None)
-none_later number None later none = (refl, none)
-none_later number (Some kind) later none = absurd cc
-
 within_along : (S : List Entry) (before cards : List Card) → first_fault (place_fault S) before cards ≡ None → All (λ at. IfSome at (λ place. place < 4096)) (places_after S before cards)
 unfolding first_fault places_after
 within_along S before [] none = λ k d within. absurd (omega (arith, within))
 within_along S before (card ∷ cards) none =
     let parts = none_later (length before + 1) (place_fault S before card) (first_fault (place_fault S) (card ∷ before) cards) none in
-    let body = body_faultless (twice (early S (length before)) card.symbol) (body_fault (early S (length before)) (place S before) card.body) parts.0 in
+    let body = (both_none (twice (early S (length before)) card.symbol) (body_fault (early S (length before)) (place S before) card.body) parts.0).1 in
     All-cons (λ at. IfSome at (λ place. place < 4096)) (place_of_word (place S before) card.body) (places_after S (card ∷ before) cards)
     (word_within (early S (length before)) (place S before) card.body body) (within_along S (card ∷ before) cards parts.1)
 
-no_place_fault : (first later : Option (ℕ × SourceKind)) → or_else first later ≡ None → later ≡ None
-no_place_fault None later none = none
-no_place_fault (Some fault) later none = absurd cc
-
 pub words_within : (text : List ℕ) (S : List Entry) → Fits S (cards text) → early_fault S text ≡ None → All (λ at. IfSome at (λ place. place < 4096)) (places S (cards text))
-words_within text S fits none = within_along S [] (cards text) (no_place_fault (first_card_fault text) (first_place_fault S text) none)
+words_within text S fits none = within_along S [] (cards text) (early_faultless text S none).1

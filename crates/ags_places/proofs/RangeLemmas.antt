@@ -1,7 +1,7 @@
 -- What is wrong with what a card asks for, in the phase of places: what is told is so, and what is so is told. The crates above cite
 -- `outside` and `outside_fails`.
 use Rattle.std.proofs.Common.{◌≡◌, ℕ, ◌+◌, ◌<◌, length, Bool, true, false, ◌&&◌, List, [], Option, Some, None, refl, sym, ap, ◌∙◌, ◌⊎◌, inl, inr, arith}
-use Rattle.std.specs.Prelude.{nat_le, ℤ, pos, neg_ℤ, ◌+ℤ◌, ◌<ℤ◌}
+use Rattle.std.specs.Prelude.{ℤ, pos, neg_ℤ, ◌+ℤ◌, ◌<ℤ◌}
 use Rattle.std.specs.Int.RustNames.{int_le}
 use Rattle.std.proofs.lemmas.Bool.Decides.{nat_tests}
 use Rattle.std.proofs.lemmas.Int.{ints}
@@ -10,8 +10,8 @@ use Rattle.ags_card.specs.declared.cards.Body.TheVariants.{Comment, Order, Org, 
 use Rattle.ags_card.specs.declared.terms.Term.{Term}
 use Rattle.ags_symbol.specs.Symbol.{Entry, NamesUnknown, sum_of}
 use Rattle.ags_symbol.proofs.SumLemmas.{sum_none, unknown_none}
-use Rattle.ags_places.specs.declared.source_error.SourceKind.{SourceKind}
-use Rattle.ags_places.specs.declared.source_error.SourceKind.TheVariants.{UndefinedEarly, PlaceRange}
+use Rattle.ags_places.specs.declared.source_error.PlaceFault.{PlaceFault}
+use Rattle.ags_places.specs.declared.source_error.PlaceFault.TheVariants.{UndefinedEarly, PlaceRange}
 use Rattle.ags_places.specs.Fault.{body_fault, fits_behind, holds_words, is_place, is_value, operand_fault, unless}
 use Rattle.ags_places.specs.Faulty.{IsOutOfRange, placing_terms}
 
@@ -45,15 +45,15 @@ outside_fails least low high most (inr over) = fails_and (int_le least low) (int
 
 -- ---- what is told of an operand or of a place
 
-unless_told : (within : Bool) (kind : SourceKind) → unless within ≡ Some kind → (kind ≡ PlaceRange) × (within ≡ false)
-unless_told true kind is = absurd cc
-unless_told false kind is = let same : PlaceRange ≡ kind = cc in (sym same, refl)
+unless_told : (within : Bool) (fault : PlaceFault) → unless within ≡ Some fault → (fault ≡ PlaceRange) × (within ≡ false)
+unless_told true fault is = absurd cc
+unless_told false fault is = let same : PlaceRange ≡ fault = cc in (sym same, refl)
 
 -- an operand has no value, or one that isn't within its limits
-operand_told : (within : ℤ → Bool) (sum : Option ℤ) (kind : SourceKind) → operand_fault within sum ≡ Some kind
-    → ((kind ≡ UndefinedEarly) × (sum ≡ None)) ⊎ ((kind ≡ PlaceRange) × (value : ℤ) × (sum ≡ Some value) × (within value ≡ false))
-operand_told within None kind is = let same : UndefinedEarly ≡ kind = cc in inl (sym same, refl)
-operand_told within (Some value) kind is = let parts = unless_told (within value) kind is in inr (parts.0, value, refl, parts.1)
+operand_told : (within : ℤ → Bool) (sum : Option ℤ) (fault : PlaceFault) → operand_fault within sum ≡ Some fault
+    → ((fault ≡ UndefinedEarly) × (sum ≡ None)) ⊎ ((fault ≡ PlaceRange) × (value : ℤ) × (sum ≡ Some value) × (within value ≡ false))
+operand_told within None fault is = let same : UndefinedEarly ≡ fault = cc in inl (sym same, refl)
+operand_told within (Some value) fault is = let parts = unless_told (within value) fault is in inr (parts.0, value, refl, parts.1)
 
 beyond : (at many : ℕ) → holds_words at many ≡ false → 4096 < at + many
 beyond at many is = grind (arith, nat_tests)
@@ -63,35 +63,35 @@ not_within at many is = grind (arith, nat_tests)
 
 module _ (E : List Entry) (at : ℕ) where
   -- what is wrong with a body: a symbol without a pair, or a place or a value out of its limits
-  BodyTold : Body → SourceKind → Type 0
-  BodyTold body kind = ((kind ≡ UndefinedEarly) × NamesUnknown E (placing_terms body)) ⊎ ((kind ≡ PlaceRange) × IsOutOfRange E at body)
+  BodyTold : Body → PlaceFault → Type 0
+  BodyTold body fault = ((fault ≡ UndefinedEarly) × NamesUnknown E (placing_terms body)) ⊎ ((fault ≡ PlaceRange) × IsOutOfRange E at body)
 
-  words_told : (many : ℕ) (body : Body) (kind : SourceKind) → unless (holds_words at many) ≡ Some kind → (4096 < at + many → IsOutOfRange E at body) → BodyTold body kind
+  words_told : (many : ℕ) (body : Body) (fault : PlaceFault) → unless (holds_words at many) ≡ Some fault → (4096 < at + many → IsOutOfRange E at body) → BodyTold body fault
   unfolding BodyTold
-  words_told many body kind is out = let parts = unless_told (holds_words at many) kind is in inr (parts.0, out (beyond at many parts.1))
+  words_told many body fault is out = let parts = unless_told (holds_words at many) fault is in inr (parts.0, out (beyond at many parts.1))
 
-  terms_told : (terms : List Term) (body : Body) (within : ℤ → Bool) (kind : SourceKind) → placing_terms body ≡ terms → operand_fault within (sum_of E at terms) ≡ Some kind
-      → ((value : ℤ) → sum_of E at terms ≡ Some value → within value ≡ false → IsOutOfRange E at body) → BodyTold body kind
+  terms_told : (terms : List Term) (body : Body) (within : ℤ → Bool) (fault : PlaceFault) → placing_terms body ≡ terms → operand_fault within (sum_of E at terms) ≡ Some fault
+      → ((value : ℤ) → sum_of E at terms ≡ Some value → within value ≡ false → IsOutOfRange E at body) → BodyTold body fault
   unfolding BodyTold
-  terms_told terms body within kind same is out = elim (operand_told within (sum_of E at terms) kind is) [
+  terms_told terms body within fault same is out = elim (operand_told within (sum_of E at terms) fault is) [
     | inl undefined ↦ inl (undefined.0, rw same (sum_none E at terms undefined.1))
     | inr range ↦ inr (range.0, out range.1 range.2 range.3)
   ]
 
-  pub body_told : (body : Body) (kind : SourceKind) → body_fault E at body ≡ Some kind
-      → ((kind ≡ UndefinedEarly) × NamesUnknown E (placing_terms body)) ⊎ ((kind ≡ PlaceRange) × IsOutOfRange E at body)
+  pub body_told : (body : Body) (fault : PlaceFault) → body_fault E at body ≡ Some fault
+      → ((fault ≡ UndefinedEarly) × NamesUnknown E (placing_terms body)) ⊎ ((fault ≡ PlaceRange) × IsOutOfRange E at body)
   unfolding BodyTold
-  body_told Comment kind is = absurd cc
-  body_told (Order order terms indexed) kind is = words_told 1 (Order order terms indexed) kind is (λ out. omega (arith, out))
-  body_told (Org terms) kind is = terms_told terms (Org terms) is_place kind refl is (λ value sum test. (value, sum, outside (pos 0) value value (pos 4095) test))
-  body_told (Equ terms) kind is = terms_told terms (Equ terms) is_value kind refl is (λ value sum test. (value, sum, outside (neg_ℤ (pos 262143)) value value (pos 262143) test))
-  body_told (Bss terms) kind is =
-      terms_told terms (Bss terms) (fits_behind at) kind refl is (λ value sum test. (value, sum, outside (pos 0) value (pos at +ℤ value) (pos 4096) test))
-  body_told (Bes terms) kind is =
-      terms_told terms (Bes terms) (fits_behind at) kind refl is (λ value sum test. (value, sum, outside (pos 0) value (pos at +ℤ value) (pos 4096) test))
-  body_told (Dec numbers) kind is = words_told (length numbers) (Dec numbers) kind is (λ out. out)
-  body_told (Oct words) kind is = words_told (length words) (Oct words) kind is (λ out. out)
-  body_told End kind is = absurd cc
+  body_told Comment fault is = absurd cc
+  body_told (Order order terms indexed) fault is = words_told 1 (Order order terms indexed) fault is (λ out. omega (arith, out))
+  body_told (Org terms) fault is = terms_told terms (Org terms) is_place fault refl is (λ value sum test. (value, sum, outside (pos 0) value value (pos 4095) test))
+  body_told (Equ terms) fault is = terms_told terms (Equ terms) is_value fault refl is (λ value sum test. (value, sum, outside (neg_ℤ (pos 262143)) value value (pos 262143) test))
+  body_told (Bss terms) fault is =
+      terms_told terms (Bss terms) (fits_behind at) fault refl is (λ value sum test. (value, sum, outside (pos 0) value (pos at +ℤ value) (pos 4096) test))
+  body_told (Bes terms) fault is =
+      terms_told terms (Bes terms) (fits_behind at) fault refl is (λ value sum test. (value, sum, outside (pos 0) value (pos at +ℤ value) (pos 4096) test))
+  body_told (Dec numbers) fault is = words_told (length numbers) (Dec numbers) fault is (λ out. out)
+  body_told (Oct words) fault is = words_told (length words) (Oct words) fault is (λ out. out)
+  body_told End fault is = absurd cc
 
   -- and what is wrong is told
   operand_tells : (terms : List Term) (within : ℤ → Bool) (value : ℤ) → sum_of E at terms ≡ Some value → within value ≡ false

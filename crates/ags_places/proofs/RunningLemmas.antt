@@ -8,13 +8,13 @@ use Rattle.std.proofs.lemmas.List.Elements.{filter-append}
 use Rattle.ags_text.specs.Fault.{first_fault}
 use Rattle.ags_card.specs.declared.cards.Card.{Card}
 use Rattle.ags_symbol.specs.Symbol.{Entry}
-use Rattle.ags_places.specs.declared.source_error.SourceKind.{SourceKind}
+use Rattle.ags_places.specs.declared.source_error.PlaceFault.{PlaceFault}
 use Rattle.ags_places.specs.Place.{early, place, place_after, symbol_value, pair_of, pairs_after, Fits, place_of_word, places_after, places}
 use Rattle.ags_places.specs.Fault.{place_fault, place_fault_at}
 
 -- ---- card by card
 
--- what is known behind some cards: the pairs of their symbols, and the place
+-- what is known after some cards: the pairs of their symbols, and the place
 pub record Known : Type 0 where
   pub pairs : List Entry
   pub place : ℕ
@@ -26,22 +26,22 @@ further so number card = record {
   place = place_after so.pairs so.place card.body;
 }
 
--- what is known behind cards, nearest first
+-- what is known after cards, nearest first
 unfoldable pub known : List Card → Known
 known [] = record { pairs = []; place = 0 }
 known (card ∷ before) = further (known before) (length before) card
 
--- the pair that a card gives behind those before
+-- the pair that a card gives after those before
 abbrev pub next_pair : List Card → Card → List Entry
 next_pair before card = pair_of card.symbol (symbol_value (known before).pairs (known before).place card.body) (length before + 1)
 
--- the pairs that come behind those of the cards before
+-- the pairs that come after those of the cards before
 unfoldable pub next_pairs : List Card → List Card → List Entry
 next_pairs before [] = []
 next_pairs before (card ∷ cards) = next_pair before card ++ next_pairs (card ∷ before) cards
 
 -- the fault of a card by what is known
-abbrev pub known_fault : List Card → Card → Option SourceKind
+abbrev pub known_fault : List Card → Card → Option PlaceFault
 known_fault before card = place_fault_at (known before).pairs (known before).place card
 
 -- the place of a card's word by what is known
@@ -66,7 +66,7 @@ late-pair (Some name) value number n past = rw (lt-leb number n past) refl
 early-append : (front rest : List Entry) (n : ℕ) → early (front ++ rest) n ≡ early front n ++ early rest n
 early-append front rest n = filter-append (λ (entry : Entry). nat_le entry.card n) front rest
 
--- what is known behind cards is of these cards
+-- what is known after cards is of these cards
 early-known : (before : List Card) (n : ℕ) → length before ≤ n → early (known before).pairs n ≡ (known before).pairs
 unfolding known
 early-known [] n within = refl
@@ -74,7 +74,7 @@ early-known (card ∷ before) n within =
     early-append (known before).pairs (next_pair before card) n
     ∙ rw (early-known before n (omega arith), early-pair card.symbol (symbol_value (known before).pairs (known before).place card.body) (length before + 1) n (omega arith)) refl
 
--- what comes behind is of later ones, by whichever list its operands are taken
+-- what comes after is of later ones, by whichever list its operands are taken
 late-pairs : (S : List Entry) (before cards : List Card) (n : ℕ) → n ≤ length before → early (pairs_after S before cards) n ≡ []
 unfolding pairs_after
 late-pairs S before [] n within = refl
@@ -104,7 +104,7 @@ pub record Agrees (S : List Entry) (before : List Card) : Type 0 where
   pub pairs : early S (length before) ≡ (known before).pairs
   pub at : place S before ≡ (known before).place
 
--- and so of each front of the cards behind them
+-- and so of each front of the cards after them
 abbrev pub AgreesAlong : List Entry → List Card → List Card → Type 0
 AgreesAlong S before [] = Agrees S before
 AgreesAlong S before (card ∷ cards) = Agrees S before × AgreesAlong S (card ∷ before) cards
@@ -118,7 +118,7 @@ pairs-further : (S : List Entry) (before : List Card) (card : Card) (later : Lis
 unfolding known
 pairs-further S before card later is = is ∙ sym (append_assoc (known before).pairs (next_pair before card) later)
 
--- a list that fits behind what is known has the pairs that come next
+-- a list that fits after what is known has the pairs that come next
 agree_fitting : (S : List Entry) (before cards : List Card) → S ≡ (known before).pairs ++ pairs_after S before cards → place S before ≡ (known before).place
     → (pairs_after S before cards ≡ next_pairs before cards) × AgreesAlong S before cards
 unfolding pairs_after next_pairs

@@ -10,7 +10,7 @@ use Rattle.ags_card.specs.declared.terms.Term.{Term}
 use Rattle.ags_symbol.specs.Symbol.{Entry}
 use Rattle.ags_places.specs.Place.{early, operand, place, place_after, size, sets_place, is_org, sizes}
 
--- a card that is no ORG leaves the place behind its words
+-- a card that is no ORG leaves the place after its words
 moved : (E : List Entry) (at : ℕ) (body : Body) → sets_place body ≡ false → place_after E at body ≡ at + size E at body
 moved E at Comment plain = omega arith
 moved E at (Order order terms indexed) plain = refl
@@ -26,7 +26,7 @@ neither : (a b : Bool) → (a || b) ≡ false → (a ≡ false) × (b ≡ false)
 neither true b none = absurd cc
 neither false b none = (refl, none)
 
--- the place behind some cards without an ORG
+-- the place after some cards without an ORG
 place-since : (S : List Entry) (since before : List Card) → list_any is_org since ≡ false → place S (since ++ before) ≡ place S before + sizes S since before
 unfolding place sizes
 place-since S [] before none = omega arith

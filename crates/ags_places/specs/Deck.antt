@@ -44,7 +44,7 @@ EndsAtFirstEnd lines cards = ((cards ≡ lines) × All ReadsOn lines)
     ⊎ ((front : List LineAt) × (last : LineAt) × (behind : List LineAt) × (lines ≡ front ++ last ∷ behind) × (cards ≡ front ++ last ∷ [])
     × All ReadsOn front × ReadsAsEnd last)
 
--- The lines of a source's cards. What stands behind an END is none of the source.
+-- The lines of a source's cards. What stands after an END is none of the source.
 abbrev pub card_lines : List ℕ → List LineAt
 card_lines text = deck (lines_of text)
 

@@ -3,9 +3,9 @@ use Rattle.std.specs.Prelude.{◌≡◌, ℕ, ◌≤◌, List, Option, Some, Non
 use Rattle.ags_card.specs.declared.cards.Body.{Body}
 use Rattle.ags_symbol.specs.Symbol.{Entry, IsValue}
 use Rattle.ags_places.specs.declared.placing.Effect.{Effect}
-use Rattle.ags_places.specs.declared.placing.Stop.{Stop}
-use Rattle.ags_places.specs.declared.placing.Stop.TheVariants.{Fault, NoMemory}
-use Rattle.ags_places.specs.declared.source_error.SourceKind.{SourceKind}
+use Rattle.ags_places.specs.declared.placing.Unplaced.{Unplaced}
+use Rattle.ags_places.specs.declared.placing.Unplaced.TheVariants.{Fault, NoMemory}
+use Rattle.ags_places.specs.declared.source_error.PlaceFault.{PlaceFault}
 use Rattle.ags_places.specs.Place.{place_after, symbol_value}
 use Rattle.ags_places.specs.Fault.{body_fault}
 
@@ -17,7 +17,7 @@ pub record IsEffect (early : List Entry) (at : ℕ) (body : Body) (effect : Effe
   pub is_value : IsValue effect.value
   pub small : effect.next ≤ 4096
 
--- this stops a card from being placed, where it was not want of memory
-abbrev pub IsStop : Option SourceKind → Stop → Type 0
-IsStop fault (Fault kind) = fault ≡ Some kind
-IsStop fault NoMemory = Unit {0}
+-- why a card is not placed, where it was not want of memory
+abbrev pub IsUnplaced : Option PlaceFault → Unplaced → Type 0
+IsUnplaced found (Fault fault) = found ≡ Some fault
+IsUnplaced found NoMemory = Unit {0}

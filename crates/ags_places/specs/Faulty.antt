@@ -9,34 +9,35 @@ use Rattle.ags_card.specs.declared.cards.Card.{Card}
 use Rattle.ags_card.specs.declared.cards.CardFault.{CardFault}
 use Rattle.ags_card.specs.declared.terms.Atom.TheVariants.{Symbol}
 use Rattle.ags_card.specs.declared.terms.Term.{Term}
-use Rattle.ags_card.specs.Spelling.{HasFault}
+use Rattle.ags_card.specs.Spelling.{HasFault, fault_number}
 use Rattle.ags_symbol.specs.Symbol.{Entry, sum_of}
+use Rattle.ags_places.specs.declared.source_error.PlaceFault.{PlaceFault}
+use Rattle.ags_places.specs.declared.source_error.PlaceFault.TheVariants.{SymbolTwice, UndefinedEarly, PlaceRange}
 use Rattle.ags_places.specs.declared.source_error.SourceKind.{SourceKind}
-use Rattle.ags_places.specs.declared.source_error.SourceKind.TheVariants.{BadByte, LongCard, BadSymbol, UnknownOperation, MissingOperand, ExtraOperand, BadExpression, BadDecimal, BadOctal, SymbolTwice, UndefinedEarly, PlaceRange, Undefined, AddressRange, ValueRange, PlaceTwice}
+use Rattle.ags_places.specs.declared.source_error.SourceKind.TheVariants as kind
+use Rattle.ags_places.specs.declared.source_error.WordFault.{WordFault}
+use Rattle.ags_places.specs.declared.source_error.WordFault.TheVariants.{Undefined, AddressRange, ValueRange, PlaceTwice}
 use Rattle.ags_places.specs.Deck.{card_lines, cards}
-use Rattle.ags_places.specs.Fault.{kind_of}
 use Rattle.ags_places.specs.Place.{Fits, early, place}
 
--- the number of a kind of fault: of several faults of a card the one with the least is told
-abbrev pub kind_number : SourceKind → ℕ
-kind_number BadByte = 1
-kind_number LongCard = 2
-kind_number BadSymbol = 3
-kind_number UnknownOperation = 4
-kind_number MissingOperand = 5
-kind_number ExtraOperand = 6
-kind_number BadExpression = 7
-kind_number BadDecimal = 8
-kind_number BadOctal = 9
-kind_number (SymbolTwice first) = 10
-kind_number UndefinedEarly = 11
-kind_number PlaceRange = 12
-kind_number Undefined = 13
-kind_number (AddressRange value) = 14
-kind_number ValueRange = 15
-kind_number (PlaceTwice first) = 16
+-- the number of a fault: of several faults of a card the one with the least is told
+abbrev pub place_fault_number : PlaceFault → ℕ
+place_fault_number (SymbolTwice first) = 10
+place_fault_number UndefinedEarly = 11
+place_fault_number PlaceRange = 12
 
--- Where x stands in a list, behind those elements: this is its number, counted from 1, and this holds of it behind them, nearest first.
+abbrev pub word_fault_number : WordFault → ℕ
+word_fault_number Undefined = 13
+word_fault_number (AddressRange value) = 14
+word_fault_number ValueRange = 15
+word_fault_number (PlaceTwice first) = 16
+
+abbrev pub kind_number : SourceKind → ℕ
+kind_number (kind.Card fault) = fault_number fault
+kind_number (kind.Place fault) = place_fault_number fault
+kind_number (kind.Word fault) = word_fault_number fault
+
+-- Where x stands in a list, after those elements: this is its number, counted from 1, and this holds of it after them, nearest first.
 pub record HoldsAt {X : Type 0} (Is : List X → X → Type 0) (xs : List X) (number : ℕ) : Type 0 where
   pub front : List X
   pub x : X
@@ -47,19 +48,19 @@ pub record HoldsAt {X : Type 0} (Is : List X → X → Type 0) (xs : List X) (nu
 
 -- ---- the phase of cards
 
--- the line has a fault of that kind
-abbrev pub IsMisread : SourceKind → (before : List LineAt) → LineAt → Type 0
-IsMisread kind before line = (fault : CardFault) × HasFault line.bytes fault × (kind ≡ kind_of fault)
+-- the line has the fault, whatever stands before it
+abbrev pub IsMisread : CardFault → (before : List LineAt) → LineAt → Type 0
+IsMisread fault before line = HasFault line.bytes fault
 
--- the line of the card of that number has a fault of that kind
-abbrev pub HasCardFault : (text : List ℕ) (number : ℕ) → SourceKind → Type 0
-HasCardFault text number kind = HoldsAt (IsMisread kind) (card_lines text) number
+-- the line of the card of that number has the fault
+abbrev pub HasCardFault : (text : List ℕ) (number : ℕ) → CardFault → Type 0
+HasCardFault text number fault = HoldsAt (IsMisread fault) (card_lines text) number
 
 -- ---- the phase of places
 
 -- The list `before` of a definition has the cards before one, nearest first; their number is that of the last of them.
 
--- the card is one of those before, of that number, and behind these earlier ones
+-- the card is one of those before, of that number, and after these earlier ones
 abbrev pub IsBefore : (before : List Card) (number : ℕ) → Card → (earlier : List Card) → Type 0
 IsBefore before number card earlier = (later : List Card) × (before ≡ later ++ card ∷ earlier) × (number ≡ length earlier + 1)
 
@@ -101,25 +102,12 @@ IsOutOfRange symbols at (Dec numbers) = 4096 < at + length numbers
 IsOutOfRange symbols at (Oct words) = 4096 < at + length words
 IsOutOfRange symbols at End = ⊥
 
--- the card has a fault of that kind, where S fits the cards: operands are taken over the pairs of the cards before it
-abbrev pub IsMisplacedBy : List Entry → SourceKind → (before : List Card) → Card → Type 0
+-- the card has the fault, where S fits the cards: operands are taken over the pairs of the cards before it
+abbrev pub IsMisplacedBy : List Entry → PlaceFault → (before : List Card) → Card → Type 0
 IsMisplacedBy S (SymbolTwice first) before card = (name : List ℕ) × (card.symbol ≡ Some name) × DefinesBefore before first name
 IsMisplacedBy S UndefinedEarly before card = UsesUndefined before (placing_terms card.body)
 IsMisplacedBy S PlaceRange before card = IsOutOfRange (early S (length before)) (place S before) card.body
-IsMisplacedBy S BadByte before card = ⊥
-IsMisplacedBy S LongCard before card = ⊥
-IsMisplacedBy S BadSymbol before card = ⊥
-IsMisplacedBy S UnknownOperation before card = ⊥
-IsMisplacedBy S MissingOperand before card = ⊥
-IsMisplacedBy S ExtraOperand before card = ⊥
-IsMisplacedBy S BadExpression before card = ⊥
-IsMisplacedBy S BadDecimal before card = ⊥
-IsMisplacedBy S BadOctal before card = ⊥
-IsMisplacedBy S Undefined before card = ⊥
-IsMisplacedBy S (AddressRange value) before card = ⊥
-IsMisplacedBy S ValueRange before card = ⊥
-IsMisplacedBy S (PlaceTwice first) before card = ⊥
 
--- the card of that number has a fault of that kind
-abbrev pub HasPlaceFault : (text : List ℕ) (number : ℕ) → SourceKind → Type 0
-HasPlaceFault text number kind = (S : List Entry) × Fits S (cards text) × HoldsAt (IsMisplacedBy S kind) (cards text) number
+-- the card of that number has the fault
+abbrev pub HasPlaceFault : (text : List ℕ) (number : ℕ) → PlaceFault → Type 0
+HasPlaceFault text number fault = (S : List Entry) × Fits S (cards text) × HoldsAt (IsMisplacedBy S fault) (cards text) number

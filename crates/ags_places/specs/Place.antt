@@ -48,7 +48,7 @@ size early at (Dec numbers) = length numbers
 size early at (Oct words) = length words
 size early at End = 0
 
--- where a card that stands at a place leaves it: an ORG at its operand, every other one behind its words
+-- where a card that stands at a place leaves it: an ORG at its operand, every other one after its words
 abbrev pub place_after : List Entry → ℕ → Body → ℕ
 place_after early at Comment = at
 place_after early at (Order order terms indexed) = at + 1

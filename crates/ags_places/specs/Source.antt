@@ -3,7 +3,7 @@ use Rattle.std.specs.Prelude.{◌≡◌, ℕ, ◌+◌, ◌<◌, ◌≤◌, List,
 use Rattle.ags_text.specs.Line.{LineAt}
 use Rattle.ags_symbol.specs.Symbol.{Entry}
 use Rattle.ags_places.specs.declared.placed.Placed.{Placed}
-use Rattle.ags_places.specs.declared.source_error.SourceError.{SourceError}
+use Rattle.ags_places.specs.declared.source_error.PlaceFault.{PlaceFault}
 use Rattle.ags_places.specs.Deck.{card_lines, cards}
 use Rattle.ags_places.specs.Place.{Fits, counts, places}
 use Rattle.ags_places.specs.Fault.{early_fault, first_place_fault}
@@ -25,17 +25,17 @@ pub record IsPlaced (text : List ℕ) (placed : List Placed) (S : List Entry) : 
   pub faultless : early_fault S text ≡ None
   pub cards_are : placed ≡ placed_cards (card_lines text) (places S (cards text)) (counts (cards text))
 
--- the first fault of the phase of places is this one
-pub record IsFirstPlaceFault (text : List ℕ) (error : SourceError) : Type 0 where
+-- the first fault of the phase of places is this one, of the card of this number
+pub record IsFirstPlaceFault (text : List ℕ) (found : ℕ × PlaceFault) : Type 0 where
   pub symbols : List Entry
   pub fits : Fits symbols (cards text)
-  pub first : first_place_fault symbols text ≡ Some (error.card, error.kind)
+  pub first : first_place_fault symbols text ≡ Some found
 
 -- where a card has a place, it is one of the memory's
 abbrev pub IsInMemory : Placed → Type 0
 IsInMemory card = IfSome card.place (λ at. at < 4096)
 
--- The spans of cards begin at that byte or behind it, lie one behind the other, and end within that limit.
+-- The spans of cards begin at that byte or after it, lie one after the other, and end within that limit.
 abbrev pub AreSpans : (from limit : ℕ) → List Placed → Type 0
 AreSpans from limit [] = Unit {0}
 AreSpans from limit (card ∷ cards) = (from ≤ card.start) × (card.start ≤ card.end) × (card.end ≤ limit) × AreSpans (card.end + 1) limit cards

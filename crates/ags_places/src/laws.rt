@@ -29,7 +29,7 @@ pub fn source_ends_at_its_first_end()
     ensures one { (lines cards other : List LineAt) → EndsAtFirstEnd lines cards → EndsAtFirstEnd lines other → cards ≡ other }
 {}
 
-/// The lines of a source's cards stand in its text where they say, one behind the other.
+/// The lines of a source's cards stand in its text where they say, one after the other.
 pub fn card_lines_follow()
     ensures { (text : List ℕ) → Follow text 0 (card_lines text) }
 {}

@@ -14,6 +14,6 @@ pub use laws::{
     words_stand_in_the_memory,
 };
 pub use placed::{Placed, count_of, place_of_word};
-pub use placing::{Stop, place_card};
-pub use reading::{SOURCE_LIMIT, is_end, kind_of};
-pub use source_error::{AssembleError, SourceError, SourceKind};
+pub use placing::{Unplaced, place_card};
+pub use reading::{SOURCE_LIMIT, is_end};
+pub use source_error::{AssembleError, PlaceFault, SourceError, SourceKind, WordFault};

@@ -1,12 +1,13 @@
 //! What a card does at its place (docs/SOURCE.md, Places).
 
 ghost use Rattle.std.specs.Prelude.{◌≡◌, ◌+◌, ◌≤◌, ◌++◌, pos, None, Some, OnOk, IfOk, IfErr};
+ghost use Rattle.std.specs.Option.{option_or};
 ghost use Rattle.ags_symbol.specs.Symbol.{IsValue, sum_of};
-ghost use Rattle.ags_places.specs.Effect.{IsEffect, IsStop};
-ghost use Rattle.ags_places.specs.Fault.{body_fault, twice, or_else, holds_words, place_fault_at, unless};
+ghost use Rattle.ags_places.specs.Effect.{IsEffect, IsUnplaced};
+ghost use Rattle.ags_places.specs.Fault.{body_fault, twice, holds_words, place_fault_at, unless};
 ghost use Rattle.ags_places.specs.Place.{pair_of, place_after, symbol_value};
 
-use crate::source_error::SourceKind;
+use crate::source_error::PlaceFault;
 use ags_card::{Body, Card, Name, Terms};
 use ags_symbol::{DefineError, Symbols};
 use ags_word::LOCATIONS;
@@ -25,9 +26,9 @@ pub(crate) struct Effect {
 
 /// Why a card isn't placed.
 #[derive(Clone, Copy)]
-pub enum Stop {
+pub enum Unplaced {
     /// It has this fault.
-    Fault(SourceKind),
+    Fault(PlaceFault),
     /// There was too little memory.
     NoMemory,
 }
@@ -46,7 +47,7 @@ fn stay(place: u16) -> Effect
 }
 
 /// A card with so many words.
-fn place_words(place: u16, count: u16) -> Result<Effect, SourceKind>
+fn place_words(place: u16, count: u16) -> Result<Effect, PlaceFault>
     requires place { place ≤ 4096 }
     requires count { count ≤ 64 }
     ensures faultless { OnOk result (unless (holds_words place count) ≡ None) }
@@ -54,7 +55,7 @@ fn place_words(place: u16, count: u16) -> Result<Effect, SourceKind>
     ensures next { IfOk result (λ effect. effect.next ≡ place + count) }
     ensures is_value { IfOk result (λ effect. IsValue effect.value) }
     ensures small { IfOk result (λ effect. effect.next ≤ 4096) }
-    ensures fault { IfErr result (λ kind. unless (holds_words place count) ≡ Some kind) }
+    ensures fault { IfErr result (λ fault. unless (holds_words place count) ≡ Some fault) }
 {
     let next = place + count;
     if next <= LOCATIONS {
@@ -63,58 +64,58 @@ fn place_words(place: u16, count: u16) -> Result<Effect, SourceKind>
             next,
         })
     } else {
-        Err(SourceKind::PlaceRange)
+        Err(PlaceFault::PlaceRange)
     }
 }
 
 /// What an operand comes to at its place.
-fn read_operand(symbols: &Symbols, place: u16, terms: &Terms) -> Result<i32, SourceKind>
+fn read_operand(symbols: &Symbols, place: u16, terms: &Terms) -> Result<i32, PlaceFault>
     requires { place ≤ 4096 }
     ensures value { IfOk result (λ value. sum_of symbols.now place terms.now ≡ Some value) }
-    ensures undefined { IfErr result (λ kind. (sum_of symbols.now place terms.now ≡ None) × (kind ≡ SourceKind.UndefinedEarly)) }
+    ensures undefined { IfErr result (λ fault. (sum_of symbols.now place terms.now ≡ None) × (fault ≡ PlaceFault.UndefinedEarly)) }
 {
     symbols
         .value_of(terms, place)
-        .ok_or(SourceKind::UndefinedEarly)
+        .ok_or(PlaceFault::UndefinedEarly)
 }
 
 /// An ORG.
-fn set_place(symbols: &Symbols, place: u16, terms: &Terms) -> Result<Effect, SourceKind>
+fn set_place(symbols: &Symbols, place: u16, terms: &Terms) -> Result<Effect, PlaceFault>
     requires { place ≤ 4096 }
     ensures effect { IfOk result (IsEffect symbols.now place (Body.Org terms.now)) }
-    ensures fault { IfErr result (λ kind. body_fault symbols.now place (Body.Org terms.now) ≡ Some kind) }
+    ensures fault { IfErr result (λ fault. body_fault symbols.now place (Body.Org terms.now) ≡ Some fault) }
 {
     let value = read_operand(symbols, place, terms)?;
     if value < 0 || value >= i32::from(LOCATIONS) {
-        return Err(SourceKind::PlaceRange);
+        return Err(PlaceFault::PlaceRange);
     }
     let next = value as u16;
     Ok(Effect { value, next })
 }
 
 /// An EQU.
-fn give_value(symbols: &Symbols, place: u16, terms: &Terms) -> Result<Effect, SourceKind>
+fn give_value(symbols: &Symbols, place: u16, terms: &Terms) -> Result<Effect, PlaceFault>
     requires { place ≤ 4096 }
     ensures effect { IfOk result (IsEffect symbols.now place (Body.Equ terms.now)) }
-    ensures fault { IfErr result (λ kind. body_fault symbols.now place (Body.Equ terms.now) ≡ Some kind) }
+    ensures fault { IfErr result (λ fault. body_fault symbols.now place (Body.Equ terms.now) ≡ Some fault) }
 {
     let value = read_operand(symbols, place, terms)?;
     if value < -VALUE_LIMIT || value > VALUE_LIMIT {
-        return Err(SourceKind::PlaceRange);
+        return Err(PlaceFault::PlaceRange);
     }
     let next = place;
     Ok(Effect { value, next })
 }
 
 /// A BSS.
-fn move_place(symbols: &Symbols, place: u16, terms: &Terms) -> Result<Effect, SourceKind>
+fn move_place(symbols: &Symbols, place: u16, terms: &Terms) -> Result<Effect, PlaceFault>
     requires { place ≤ 4096 }
     ensures effect { IfOk result (IsEffect symbols.now place (Body.Bss terms.now)) }
-    ensures fault { IfErr result (λ kind. body_fault symbols.now place (Body.Bss terms.now) ≡ Some kind) }
+    ensures fault { IfErr result (λ fault. body_fault symbols.now place (Body.Bss terms.now) ≡ Some fault) }
 {
     let size = read_operand(symbols, place, terms)?;
     if size < 0 || size > i32::from(LOCATIONS) - i32::from(place) {
-        return Err(SourceKind::PlaceRange);
+        return Err(PlaceFault::PlaceRange);
     }
     let value = i32::from(place);
     let next = place + size as u16;
@@ -122,14 +123,14 @@ fn move_place(symbols: &Symbols, place: u16, terms: &Terms) -> Result<Effect, So
 }
 
 /// A BES.
-fn move_before(symbols: &Symbols, place: u16, terms: &Terms) -> Result<Effect, SourceKind>
+fn move_before(symbols: &Symbols, place: u16, terms: &Terms) -> Result<Effect, PlaceFault>
     requires { place ≤ 4096 }
     ensures effect { IfOk result (IsEffect symbols.now place (Body.Bes terms.now)) }
-    ensures fault { IfErr result (λ kind. body_fault symbols.now place (Body.Bes terms.now) ≡ Some kind) }
+    ensures fault { IfErr result (λ fault. body_fault symbols.now place (Body.Bes terms.now) ≡ Some fault) }
 {
     let size = read_operand(symbols, place, terms)?;
     if size < 0 || size > i32::from(LOCATIONS) - i32::from(place) {
-        return Err(SourceKind::PlaceRange);
+        return Err(PlaceFault::PlaceRange);
     }
     let next = place + size as u16;
     let value = i32::from(next);
@@ -137,10 +138,10 @@ fn move_before(symbols: &Symbols, place: u16, terms: &Terms) -> Result<Effect, S
 }
 
 /// What a card does at its place.
-fn effect_of(symbols: &Symbols, place: u16, body: &Body) -> Result<Effect, SourceKind>
+fn effect_of(symbols: &Symbols, place: u16, body: &Body) -> Result<Effect, PlaceFault>
     requires { place ≤ 4096 }
     ensures effect { IfOk result (IsEffect symbols.now place body.now) }
-    ensures fault { IfErr result (λ kind. body_fault symbols.now place body.now ≡ Some kind) }
+    ensures fault { IfErr result (λ fault. body_fault symbols.now place body.now ≡ Some fault) }
 {
     match body {
         Body::Comment | Body::End => Ok(stay(place)),
@@ -160,51 +161,58 @@ fn define_symbol(
     symbol: Option<Name>,
     value: i32,
     number: u32,
-) -> Result<(), Stop>
+) -> Result<(), Unplaced>
     requires { IsValue value }
     ensures defined { OnOk result (symbols.new ≡ symbols.old ++ pair_of symbol value number) }
     ensures once { OnOk result (twice symbols.old symbol ≡ None) }
-    ensures stop { IfErr result (IsStop (twice symbols.old symbol)) }
+    ensures unplaced { IfErr result (IsUnplaced (twice symbols.old symbol)) }
 {
     let Some(name) = symbol else {
         return Ok(());
     };
     match symbols.define(name, value, number) {
         Ok(()) => Ok(()),
-        Err(DefineError::Twice { first }) => Err(Stop::Fault(SourceKind::SymbolTwice { first })),
-        Err(DefineError::NoMemory) => Err(Stop::NoMemory),
+        Err(DefineError::Twice { first }) => Err(Unplaced::Fault(PlaceFault::SymbolTwice {
+            first,
+        })),
+        Err(DefineError::NoMemory) => Err(Unplaced::NoMemory),
     }
 }
 
 /// A fault of a card, unless its symbol is at fault, which comes before.
-fn symbol_first(symbols: &Symbols, symbol: Option<Name>, kind: SourceKind) -> SourceKind
-    ensures { or_else (twice symbols.now symbol) (Some kind) ≡ Some result }
+fn symbol_first(symbols: &Symbols, symbol: Option<Name>, fault: PlaceFault) -> PlaceFault
+    ensures { option_or (twice symbols.now symbol) (Some fault) ≡ Some result }
 {
     let Some(name) = symbol else {
-        return kind;
+        return fault;
     };
     match symbols.get(&name) {
-        Some(earlier) => SourceKind::SymbolTwice {
+        Some(earlier) => PlaceFault::SymbolTwice {
             first: earlier.card,
         },
-        None => kind,
+        None => fault,
     }
 }
 
 /// Places the card of a number at a place: gives its symbol its value, and answers the place of the next card. Operands are taken
 /// over the symbols that are defined so far. A symbol that an earlier card defines is at fault before the card's operand is, and
 /// after a fault no symbol is defined.
-pub fn place_card(symbols: &mut Symbols, place: u16, number: u32, card: &Card) -> Result<u16, Stop>
+pub fn place_card(
+    symbols: &mut Symbols,
+    place: u16,
+    number: u32,
+    card: &Card,
+) -> Result<u16, Unplaced>
     requires { place ≤ 4096 }
     ensures faultless { OnOk result (place_fault_at symbols.old place card.now ≡ None) }
     ensures pair { OnOk result (symbols.new ≡ symbols.old ++ pair_of card.now.symbol (symbol_value symbols.old place card.now.body) number) }
     ensures next { IfOk result (λ next. next ≡ place_after symbols.old place card.now.body) }
     ensures small { IfOk result (λ next. next ≤ 4096) }
-    ensures stop { IfErr result (IsStop (place_fault_at symbols.old place card.now)) }
+    ensures unplaced { IfErr result (IsUnplaced (place_fault_at symbols.old place card.now)) }
 {
     let effect = match effect_of(symbols, place, &card.body) {
         Ok(effect) => effect,
-        Err(kind) => return Err(Stop::Fault(symbol_first(symbols, card.symbol, kind))),
+        Err(fault) => return Err(Unplaced::Fault(symbol_first(symbols, card.symbol, fault))),
     };
     define_symbol(symbols, card.symbol, effect.value, number)?;
     Ok(effect.next)

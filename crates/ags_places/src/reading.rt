@@ -1,11 +1,9 @@
-//! What a line is read as (docs/SOURCE.md, Faults).
+//! How long a source may be, and where it ends (docs/SOURCE.md, Cards).
 
 ghost use Rattle.std.specs.Prelude.{◌≡◌};
 ghost use Rattle.ags_places.specs.Deck.{is_end};
-ghost use Rattle.ags_places.specs.Fault.{kind_of};
 
-use crate::source_error::SourceKind;
-use ags_card::{Body, CardFault};
+use ags_card::Body;
 
 /// The most bytes of a source.
 pub const SOURCE_LIMIT: usize = 4_194_304;
@@ -15,21 +13,4 @@ pub fn is_end(body: &Body) -> bool
     ensures { result ≡ is_end body.now }
 {
     matches!(body, Body::End)
-}
-
-/// The fault of a line that is no card.
-pub fn kind_of(fault: CardFault) -> SourceKind
-    ensures { result ≡ kind_of fault }
-{
-    match fault {
-        CardFault::BadByte => SourceKind::BadByte,
-        CardFault::LongCard => SourceKind::LongCard,
-        CardFault::BadSymbol => SourceKind::BadSymbol,
-        CardFault::UnknownOperation => SourceKind::UnknownOperation,
-        CardFault::MissingOperand => SourceKind::MissingOperand,
-        CardFault::ExtraOperand => SourceKind::ExtraOperand,
-        CardFault::BadExpression => SourceKind::BadExpression,
-        CardFault::BadDecimal => SourceKind::BadDecimal,
-        CardFault::BadOctal => SourceKind::BadOctal,
-    }
 }

@@ -2,32 +2,14 @@
 
 ghost use Rattle.std.specs.Prelude.{◌≡◌};
 
+use ags_card::CardFault;
 use ags_text::SevenDigits;
 use std::alloc::{AllocError, AllocFailed};
 use std::fmt;
 
-/// What is wrong with a card, by the number and the name that its line is printed with. The first nine are faults of the
-/// phase of cards, the next three of the phase of places, the last four of the phase of words.
+/// Why a card isn't placed: the faults of the phase of places.
 #[derive(Clone, Copy, PartialEq, Eq)]
-pub enum SourceKind {
-    /// Number 1: a byte is neither a tab nor a character from the space to the tilde.
-    BadByte,
-    /// Number 2: the card has more than 120 bytes.
-    LongCard,
-    /// Number 3: the symbol field is no symbol, or an EQU or a SYN has none.
-    BadSymbol,
-    /// Number 4: the operation is missing, or is none of the names.
-    UnknownOperation,
-    /// Number 5: an operation that takes an operand has none.
-    MissingOperand,
-    /// Number 6: the operand of an ORG, EQU, SYN, BSS or BES has a comma.
-    ExtraOperand,
-    /// Number 7: the operand is no expression.
-    BadExpression,
-    /// Number 8: some operand of a DEC, an empty one too, is no decimal.
-    BadDecimal,
-    /// Number 9: some operand of an OCT, an empty one too, is no octal number.
-    BadOctal,
+pub enum PlaceFault {
     /// Number 10: an earlier card, `first`, defines the symbol.
     SymbolTwice {
         /// The earlier card's number, counted from 1.
@@ -37,6 +19,11 @@ pub enum SourceKind {
     UndefinedEarly,
     /// Number 12: a place or a value is out of its limits.
     PlaceRange,
+}
+
+/// Why a card has no words: the faults of the phase of words.
+#[derive(Clone, Copy, PartialEq, Eq)]
+pub enum WordFault {
     /// Number 13: an order uses a symbol that no card defines.
     Undefined,
     /// Number 14: the operand of an order comes to `value`, which is no address.
@@ -51,6 +38,17 @@ pub enum SourceKind {
         /// The earlier card's number, counted from 1.
         first: u32,
     },
+}
+
+/// What is wrong with a card, by the phase that finds it.
+#[derive(Clone, Copy, PartialEq, Eq)]
+pub enum SourceKind {
+    /// Numbers 1 to 9: the line is no card.
+    Card(CardFault),
+    /// Numbers 10 to 12: the card isn't placed.
+    Place(PlaceFault),
+    /// Numbers 13 to 16: the card has no words.
+    Word(WordFault),
 }
 
 /// The first fault of a source.
@@ -71,8 +69,47 @@ pub enum AssembleError {
     NoMemory,
 }
 
-/// Prints the kind as it stands in the line of a source's fault: its number and its name, and the first card's
-/// number where two are at odds, or the value that is out of range.
+/// Prints the fault as it stands in the line of a source's fault: its number and its name, and the first card's number where two
+/// are at odds.
+impl fmt::Display for PlaceFault {
+    ghost use Rattle.std.specs.Prelude.{Some};
+    ghost use Rattle.ags_places.specs.FaultText.{place_fault_text};
+
+    ghost output = { λ fault. Some (place_fault_text fault) };
+
+    fn fmt<W: fmt::Write>(&self, f: &mut fmt::Formatter<W>) -> fmt::Result {
+        match self {
+            PlaceFault::SymbolTwice { first } => {
+                let first = SevenDigits(*first);
+                write!(f, "10 SymbolTwice {first}")
+            }
+            PlaceFault::UndefinedEarly => f.write_str("11 UndefinedEarly"),
+            PlaceFault::PlaceRange => f.write_str("12 PlaceRange"),
+        }
+    }
+}
+
+/// Prints the fault likewise, and the value that is out of range.
+impl fmt::Display for WordFault {
+    ghost use Rattle.std.specs.Prelude.{Some};
+    ghost use Rattle.ags_places.specs.FaultText.{word_fault_text};
+
+    ghost output = { λ fault. Some (word_fault_text fault) };
+
+    fn fmt<W: fmt::Write>(&self, f: &mut fmt::Formatter<W>) -> fmt::Result {
+        match self {
+            WordFault::Undefined => f.write_str("13 Undefined"),
+            WordFault::AddressRange { value } => write!(f, "14 AddressRange {value}"),
+            WordFault::ValueRange => f.write_str("15 ValueRange"),
+            WordFault::PlaceTwice { first } => {
+                let first = SevenDigits(*first);
+                write!(f, "16 PlaceTwice {first}")
+            }
+        }
+    }
+}
+
+/// Prints the fault of its phase.
 impl fmt::Display for SourceKind {
     ghost use Rattle.std.specs.Prelude.{Some};
     ghost use Rattle.ags_places.specs.FaultText.{kind_text};
@@ -80,31 +117,11 @@ impl fmt::Display for SourceKind {
     ghost output = { λ kind. Some (kind_text kind) };
 
     fn fmt<W: fmt::Write>(&self, f: &mut fmt::Formatter<W>) -> fmt::Result {
-        let text = match self {
-            SourceKind::BadByte => "1 BadByte",
-            SourceKind::LongCard => "2 LongCard",
-            SourceKind::BadSymbol => "3 BadSymbol",
-            SourceKind::UnknownOperation => "4 UnknownOperation",
-            SourceKind::MissingOperand => "5 MissingOperand",
-            SourceKind::ExtraOperand => "6 ExtraOperand",
-            SourceKind::BadExpression => "7 BadExpression",
-            SourceKind::BadDecimal => "8 BadDecimal",
-            SourceKind::BadOctal => "9 BadOctal",
-            SourceKind::SymbolTwice { first } => {
-                let first = SevenDigits(*first);
-                return write!(f, "10 SymbolTwice {first}");
-            }
-            SourceKind::UndefinedEarly => "11 UndefinedEarly",
-            SourceKind::PlaceRange => "12 PlaceRange",
-            SourceKind::Undefined => "13 Undefined",
-            SourceKind::AddressRange { value } => return write!(f, "14 AddressRange {value}"),
-            SourceKind::ValueRange => "15 ValueRange",
-            SourceKind::PlaceTwice { first } => {
-                let first = SevenDigits(*first);
-                return write!(f, "16 PlaceTwice {first}");
-            }
-        };
-        f.write_str(text)
+        match self {
+            SourceKind::Card(fault) => write!(f, "{fault}"),
+            SourceKind::Place(fault) => write!(f, "{fault}"),
+            SourceKind::Word(fault) => write!(f, "{fault}"),
+        }
     }
 }
 

@@ -1,4 +1,4 @@
--- How loaders compose. Behind `plans_are_loaded_file_by_file` of `laws.rt` stand
+-- How loaders compose. After `plans_are_loaded_file_by_file` of `laws.rt` stand
 --     loads_stop   where the first file of a plan isn't loaded, nothing of it is
 --     loads_on     where it is, the rest of the plan goes on from its value
 --     takes_stop   the same of bytes that the program makes itself, where they hold no value

@@ -1,4 +1,4 @@
--- Status by status: what each says of the files, and when it comes. Behind `content_decides` of `laws.rt` stand
+-- Status by status: what each says of the files, and when it comes. After `content_decides` of `laws.rt` stand
 --     absent_exactly, long_exactly, refused_exactly, work_exactly, ends_exactly
 use Rattle.std.proofs.Common.{◌≡◌, ℕ, List, Option, refl, sym, ap, subst, ◌∙◌, inl, inr}
 use Rattle.std.specs.Prelude.{◌⊎◌}

@@ -25,11 +25,6 @@ pub told_is : (known : ToldFile) (file other : Option (List ℕ)) → Tells know
 told_is known None other is agrees = (subst (λ (k : ToldFile). Agrees k other → other ≡ None) (sym is) (λ same. same)) agrees
 told_is known (Some bytes) other is agrees = (subst (λ (k : ToldFile). Agrees k other → other ≡ Some bytes) (sym is) (λ same. same)) agrees
 
--- a file that is told agrees with what is told
-pub told_agrees : (known : ToldFile) (file : Option (List ℕ)) → Tells known file → Agrees known file
-told_agrees known None is = subst (λ (k : ToldFile). Agrees k None) (sym is) refl
-told_agrees known (Some bytes) is = subst (λ (k : ToldFile). Agrees k (Some bytes)) (sym is) refl
-
 -- bytes that agree with told ones are these
 pub told_bytes : (known : ToldFile) (bytes other : List ℕ) → Tells known (Some bytes) → Agrees known (Some other) → other ≡ bytes
 told_bytes known bytes other is agrees = let same = told_is known (Some bytes) (Some other) is agrees in cc
@@ -76,7 +71,7 @@ module _ {Status : Type 0} (D : Definition Status) where
 
   -- ---- each plan has an end
 
-  -- one that reads a file has one, where each value of the file has one behind it
+  -- one that reads a file has one, where each value of the file has one after it
   some_end_of_file : (readable : AreReadable D) (told : Told) (kind : D.Kind) (name : List ℕ) (next : D.Value kind → Plan D)
       → ((value : D.Value kind) → (end : End D) × EndsAt D Agrees told (next value) end)
       → (file : Option (List ℕ)) → Agrees (told name) file → (end : End D) × EndsAt D Agrees told (Read kind name next) end
@@ -95,7 +90,7 @@ module _ {Status : Type 0} (D : Definition Status) where
   some_end readable told (Read kind name next) = some_end_of_file readable told kind name next (λ value. some_end readable told (next value))
       (some_file (told name)).0 (some_file (told name)).1
 
-  -- ---- where the shelf tells the way to a part of the plan, each end lies behind it
+  -- ---- where the shelf tells the way to a part of the plan, each end lies after it
 
   pub passes : (readable : AreReadable D) (told : Told) (At : Plan D → Type 0) (plan : Plan D) (end : End D) → ComesTo D Tells told At plan → EndsAt D Agrees told plan end
       → (part : Plan D) × At part × EndsAt D Agrees told part end

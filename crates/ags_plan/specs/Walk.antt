@@ -38,8 +38,8 @@ module _ {Status : Type 0} (D : Definition Status) (See : Sight) (told : Told) w
   abbrev pub SeesValue : (kind : D.Kind) (name : List ℕ) → D.Value kind → Type 0
   SeesValue kind name value = (bytes : List ℕ) × See (told name) (Some bytes) × HoldsWithin D kind bytes value
 
-  -- The walk comes to a part of the plan of which the fact holds: to the plan itself, or behind a file that is seen with a
-  -- value, or behind bytes of the program's own that hold one.
+  -- The walk comes to a part of the plan of which the fact holds: to the plan itself, or after a file that is seen with a
+  -- value, or after bytes of the program's own that hold one.
   abbrev pub ComesTo : (At : Plan D → Type 0) → Plan D → Type 0
   ComesTo At (Do work) = At (Do work)
   ComesTo At (Read kind name next) = At (Read kind name next)

@@ -1,7 +1,7 @@
 //! One walk for every command. A program's commands are values of one type; a command's plan (`specs/Plan.antt`) says
 //! which file is wanted next, what the bytes so far ask for, and what is answered when a file is absent or too long.
 //! `load_or_say` walks the plan of whatever command the arguments ask for, and either hands its work over or says why it
-//! can't, and `run` does the work behind that; their contracts say, once for all commands, what is printed, which status
+//! can't, and `run` does the work after that; their contracts say, once for all commands, what is printed, which status
 //! the process leaves with and what each answer of the surroundings leads to. A program gives its own part by the traits
 //! `Loader` and `Program`: its definitions, and for each what its own functions prove. It stands on
 //! `ags_outside` for files and output.

@@ -47,8 +47,6 @@ pub fn fetch_file<'a, S: Shelf, R: Drop>(
     ensures absences { HasCause (S.absences shelf.old) (S.absences shelf.new) (is_absence result) }
 {
     let mut bytes = Vec::new(alloc);
-    match fetch_file_into(shelf, name, limit, &mut bytes) {
-        Ok(()) => Ok(bytes),
-        Err(why) => Err(why),
-    }
+    fetch_file_into(shelf, name, limit, &mut bytes)?;
+    Ok(bytes)
 }

@@ -1,9 +1,9 @@
 -- Plays that are put together, and plays that are cut. The crates above cite:
---     plays_on          acts behind acts none of whose words was stopped
---     plays_stop        acts behind acts of which one was stopped
+--     plays_on          acts after acts none of whose words was stopped
+--     plays_stop        acts after acts of which one was stopped
 --     cut               a play that is cut
 --     cut_along         and a run of all its events
---     acts_of-append    the acts of commands behind commands
+--     acts_of-append    the acts of commands after commands
 use Rattle.std.proofs.Common.{◌≡◌, ℕ, List, [], ◌∷◌, ◌++◌, refl, sym, ap, subst, ◌∙◌, append_assoc}
 use Rattle.std.specs.Prelude.{Option, Some, None}
 use Rattle.std.proofs.lemmas.Grind.{flat_map-append}

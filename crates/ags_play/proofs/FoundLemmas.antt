@@ -10,7 +10,7 @@ use Rattle.ags_ports.specs.declared.machines.Machine.{Machine}
 use Rattle.ags_ports.specs.Machine.{IsMachine}
 use Rattle.ags_ports.specs.Port.{held_port, register_at}
 use Rattle.ags_ports.specs.State.{State, cell}
-use Rattle.ags_ports.proofs.PortLemmas.{place_of-some}
+use Rattle.ags_ports.proofs.PortLemmas.{position_of-some}
 use Rattle.ags_safe.specs.Certificate.{Certificate}
 use Rattle.ags_script.specs.declared.commands.Command.{Command}
 use Rattle.ags_play.specs.Act.{acts_of}
@@ -33,10 +33,10 @@ module _ (machine : Machine) (image : List (Option ℕ)) (cert : Certificate Val
 
   one_port : (address word another other : ℕ) → IsFirstPort machine image cert s address word → IsFirstPort machine image cert s another other → (address ≡ another) × (word ≡ other)
   one_port address word another other p r =
-      let place = same_number p.place r.place (λ below. p.outside (r.earlier address p.place p.found below)) (λ above. r.outside (p.earlier another r.place r.found above)) in
-      let here = place_of-some machine.ports.inputs address p.place (held_port 0) p.found in
-      let there = place_of-some machine.ports.inputs another p.place (held_port 0) (r.found ∙ ap (λ (n : ℕ). Some n) (sym place)) in
-      (sym here.1 ∙ there.1, p.word_is ∙ ap (λ (n : ℕ). register_at s.inputs (Some n)) place ∙ sym r.word_is)
+      let position = same_number p.position r.position (λ below. p.outside (r.earlier address p.position p.found below)) (λ above. r.outside (p.earlier another r.position r.found above)) in
+      let here = position_of-some machine.ports.inputs address p.position (held_port 0) p.found in
+      let there = position_of-some machine.ports.inputs another p.position (held_port 0) (r.found ∙ ap (λ (n : ℕ). Some n) (sym position)) in
+      (sym here.1 ∙ there.1, p.word_is ∙ ap (λ (n : ℕ). register_at s.inputs (Some n)) position ∙ sym r.word_is)
 
   same_pair : (make : ℕ → ℕ → Outside) (a b c d : ℕ) → a ≡ c → b ≡ d → ◌≡◌ {A = Option Outside} (Some (make a b)) (Some (make c d))
   same_pair make a b c d p r = rw (p, r) refl
@@ -45,7 +45,7 @@ module _ (machine : Machine) (image : List (Option ℕ)) (cert : Certificate Val
   one_found None None p r = refl
   one_found None (Some (Place script stated)) p r = misplaced script stated r p.location
   one_found None (Some (Cell address word)) p r = absurd (r.outside (p.cells address r.erasable))
-  one_found None (Some (Port address word)) p r = absurd (r.outside (p.inputs address r.place r.found))
+  one_found None (Some (Port address word)) p r = absurd (r.outside (p.inputs address r.position r.found))
   one_found (Some (Place script stated)) None p r = misplaced script stated p r.location
   one_found (Some (Place script stated)) (Some (Place another other)) p r = same_pair Place script stated another other (p.0 ∙ sym r.0) (p.1 ∙ sym r.1)
   one_found (Some (Place script stated)) (Some (Cell address word)) p r = misplaced script stated p r.location
@@ -55,7 +55,7 @@ module _ (machine : Machine) (image : List (Option ℕ)) (cert : Certificate Val
   one_found (Some (Cell address word)) (Some (Cell another other)) p r =
       let same = one_cell address word another other p r in same_pair Cell address word another other same.0 same.1
   one_found (Some (Cell address word)) (Some (Port another other)) p r = absurd (p.outside (r.cells address p.erasable))
-  one_found (Some (Port address word)) None p r = absurd (p.outside (r.inputs address p.place p.found))
+  one_found (Some (Port address word)) None p r = absurd (p.outside (r.inputs address p.position p.found))
   one_found (Some (Port address word)) (Some (Place script stated)) p r = misplaced script stated r p.location
   one_found (Some (Port address word)) (Some (Cell another other)) p r = absurd (r.outside (p.cells another r.erasable))
   one_found (Some (Port address word)) (Some (Port another other)) p r =

@@ -8,7 +8,7 @@ use Rattle.ags_domain.specs.declared.values.Value.{Value}
 use Rattle.ags_ports.specs.declared.events.Event.{Event}
 use Rattle.ags_ports.specs.declared.events.Event.TheVariants as event
 use Rattle.ags_ports.specs.declared.machines.Machine.{Machine}
-use Rattle.ags_ports.specs.Port.{place_of}
+use Rattle.ags_ports.specs.Port.{position_of}
 use Rattle.ags_ports.specs.Run.{Moment, Run, RunsTo}
 use Rattle.ags_ports.proofs.RunLemmas.{run-append, last-append}
 use Rattle.ags_row.specs.Limit.{input_limit}
@@ -71,12 +71,12 @@ module _ (machine : Machine) (cert : Certificate Value) where
   declared_steps zero = tt
   declared_steps (suc count) = (tt, declared_steps count)
 
-  either_held : (place : Option ℕ) (held : Bool) → (is_none place || held) ≡ true → IsSome place → held ≡ true
+  either_held : (position : Option ℕ) (held : Bool) → (is_none position || held) ≡ true → IsSome position → held ≡ true
   either_held None held let_through some = grind arith
-  either_held (Some place) held let_through some = let_through
+  either_held (Some position) held let_through some = let_through
 
   let_put : (put : PutWord) (let_through : Bool) → lets_through machine cert put ≡ let_through → (if let_through then None else Some put) ≡ None → Declared (put_events (Some put))
-  let_put put true same none = (either_held (place_of machine.ports.inputs put.address) (value_meaning.held (input_limit cert.limits put.address) put.word) same, tt)
+  let_put put true same none = (either_held (position_of machine.ports.inputs put.address) (value_meaning.held (input_limit cert.limits put.address) put.word) same, tt)
   let_put put false same none = absurd (cc)
 
   put_declared : (put : Option PutWord) → stopped_by machine (Some cert) put ≡ None → Declared (put_events put)

@@ -10,9 +10,9 @@ use Rattle.ags_image.specs.Image.{entry_at}
 use Rattle.ags_ports.specs.declared.events.Event.{Event}
 use Rattle.ags_ports.specs.declared.machines.Machine.{Machine}
 use Rattle.ags_ports.specs.Machine.{IsMachine}
-use Rattle.ags_ports.specs.Port.{place_of, held_port, register_at}
+use Rattle.ags_ports.specs.Port.{position_of, held_port, register_at}
 use Rattle.ags_ports.specs.State.{State, cell}
-use Rattle.ags_ports.proofs.PortLemmas.{place_of-some, place_of-register}
+use Rattle.ags_ports.proofs.PortLemmas.{position_of-some, position_of-register}
 use Rattle.ags_row.specs.Limit.{input_limit}
 use Rattle.ags_safe.specs.Certificate.{Certificate}
 use Rattle.ags_safe.specs.Start.{IsFirstWord, IsStartWord}
@@ -59,13 +59,13 @@ module _ (machine : Machine) (image : List (Option ℕ)) (cert : Certificate Val
   SomeFound = (found : Option Outside) × IsFirstOutside machine image cert s found
 
   abbrev address_at : ℕ → ℕ
-  address_at place = (get_or machine.ports.inputs place (held_port 0)).address
+  address_at position = (get_or machine.ports.inputs position (held_port 0)).address
 
   abbrev HoldsAt : ℕ → Type 0
-  HoldsAt place = IsInputInside cert s (address_at place) place
+  HoldsAt position = IsInputInside cert s (address_at position) position
 
-  moved : (address place : ℕ) → place_of machine.ports.inputs address ≡ Some place → HoldsAt place → IsInputInside cert s address place
-  moved address place found holds = subst (λ (n : ℕ). IsInputInside cert s n place) (place_of-some machine.ports.inputs address place (held_port 0) found).1 holds
+  moved : (address position : ℕ) → position_of machine.ports.inputs address ≡ Some position → HoldsAt position → IsInputInside cert s address position
+  moved address position found holds = subst (λ (n : ℕ). IsInputInside cert s n position) (position_of-some machine.ports.inputs address position (held_port 0) found).1 holds
 
   found_inputs : s.location ≡ cert.start → ((address : ℕ) → address < 2048 → IsStartWord value_meaning image cert address (cell s address)) → Searched HoldsAt (length machine.ports.inputs) → SomeFound
   found_inputs here cells (inl all) = (
@@ -73,7 +73,8 @@ module _ (machine : Machine) (image : List (Option ℕ)) (cert : Certificate Val
     record {
       location = here;
       cells = cells;
-      inputs = λ address place found. moved address place found (all place (place_of-some machine.ports.inputs address place (held_port 0) found).0);
+      inputs = λ address position found. moved address position found
+          (all position (position_of-some machine.ports.inputs address position (held_port 0) found).0);
     },
   )
   found_inputs here cells (inr first) = (
@@ -81,16 +82,16 @@ module _ (machine : Machine) (image : List (Option ℕ)) (cert : Certificate Val
     record {
       location = here;
       cells = cells;
-      place = first.0;
-      found = place_of-register machine.ports.inputs first.0 (held_port 0) h.inputs first.1;
-      earlier = λ address place found below. moved address place found (first.2 place below);
+      position = first.0;
+      found = position_of-register machine.ports.inputs first.0 (held_port 0) h.inputs first.1;
+      earlier = λ address position found below. moved address position found (first.2 position below);
       outside = first.3;
       word_is = refl;
     },
   )
 
   found_cells : s.location ≡ cert.start → Searched (λ address. IsStartWord value_meaning image cert address (cell s address)) 2048 → SomeFound
-  found_cells here (inl all) = found_inputs here all (search HoldsAt (λ place. true_or_not (value_meaning.held (input_limit cert.limits (address_at place)) (register_at s.inputs (Some place)))) (length machine.ports.inputs))
+  found_cells here (inl all) = found_inputs here all (search HoldsAt (λ position. true_or_not (value_meaning.held (input_limit cert.limits (address_at position)) (register_at s.inputs (Some position)))) (length machine.ports.inputs))
   found_cells here (inr first) = (
     Some (Cell first.0 (cell s first.0)),
     record {
@@ -103,7 +104,8 @@ module _ (machine : Machine) (image : List (Option ℕ)) (cert : Certificate Val
   )
 
   found_place : OrNot (s.location ≡ cert.start) → SomeFound
-  found_place (inl here) = found_cells here (search (λ address. IsStartWord value_meaning image cert address (cell s address)) (λ address. first_word_or_not (entry_at image address) (cert.init address) (cell s address)) 2048)
+  found_place (inl here) = found_cells here (search (λ address. IsStartWord value_meaning image cert address (cell s address))
+      (λ address. first_word_or_not (entry_at image address) (cert.init address) (cell s address)) 2048)
   found_place (inr elsewhere) = (Some (Place s.location cert.start), (refl, refl, elsewhere))
 
   pub some_found : (found : Option Outside) × IsFirstOutside machine image cert s found

@@ -12,7 +12,7 @@ use Rattle.ags_domain.specs.declared.values.Value.{Value}
 use Rattle.ags_image.specs.Image.{IsImage}
 use Rattle.ags_ports.specs.declared.events.Phase.TheVariants.{Running}
 use Rattle.ags_ports.specs.declared.machines.Machine.{Machine}
-use Rattle.ags_ports.specs.Port.{place_of, set_at}
+use Rattle.ags_ports.specs.Port.{position_of, set_at}
 use Rattle.ags_ports.specs.State.{State, IsState, cells_with_word}
 use Rattle.ags_posts.specs.InRow.{HasFixedWords}
 use Rattle.ags_safe.specs.Certificate.{Certificate}
@@ -41,13 +41,13 @@ record IsFresh (machine : Machine) (image : List (Option ℕ)) (s : State) : Typ
   outputs : AreZeros s.outputs
   fixed : HasFixedWords image s
 
-set_words : (words : List ℕ) (place : Option ℕ) (word : ℕ) → AreWords words → word < 2 ^ 18 → AreWords (set_at words place word)
+set_words : (words : List ℕ) (position : Option ℕ) (word : ℕ) → AreWords words → word < 2 ^ 18 → AreWords (set_at words position word)
 set_words words None word are below = are
-set_words words (Some place) word are below = All-set (λ w. w < 2 ^ 18) words place word below are
+set_words words (Some position) word are below = All-set (λ w. w < 2 ^ 18) words position word below are
 
-set_length : (words : List ℕ) (place : Option ℕ) (word : ℕ) → length (set_at words place word) ≡ length words
+set_length : (words : List ℕ) (position : Option ℕ) (word : ℕ) → length (set_at words position word) ≡ length words
 set_length words None word = refl
-set_length words (Some place) word = length-set words place word
+set_length words (Some position) word = length-set words position word
 
 chosen_words : (b : Bool) (xs ys : List ℕ) → AreWords xs → AreWords ys → AreWords (if b then xs else ys)
 chosen_words true xs ys p r = p
@@ -96,25 +96,25 @@ module _ (machine : Machine) (image : List (Option ℕ)) (s : State) (p : IsFres
   }
 
   fresh_setting : (command : Command) → NamesLocation command → NamesWord command → IsFresh machine image (with_setting machine s command)
-  fresh_setting (Start address) place word =
-      fresh_with place p.state.cells_count p.state.cells p.state.inputs_count p.state.inputs p.fixed
-  fresh_setting (Cell address word) place below = fresh_with p.state.location
+  fresh_setting (Start address) located word =
+      fresh_with located p.state.cells_count p.state.cells p.state.inputs_count p.state.inputs p.fixed
+  fresh_setting (Cell address word) located below = fresh_with p.state.location
       (chosen_length (nat_lt address 2048) (set s.cells address word) s.cells 4096 (length-set s.cells address word ∙ p.state.cells_count) p.state.cells_count)
       (chosen_words (nat_lt address 2048) (set s.cells address word) s.cells (All-set (λ w. w < 2 ^ 18) s.cells address word below p.state.cells) p.state.cells)
       p.state.inputs_count p.state.inputs
-      (λ n from inside. fixed_stays s.cells address word n place from ∙ p.fixed n from inside)
-  fresh_setting (Port address word) place below = fresh_with p.state.location p.state.cells_count p.state.cells
-      (set_length s.inputs (place_of machine.ports.inputs address) word ∙ p.state.inputs_count)
-      (set_words s.inputs (place_of machine.ports.inputs address) word p.state.inputs below)
+      (λ n from inside. fixed_stays s.cells address word n located from ∙ p.fixed n from inside)
+  fresh_setting (Port address word) located below = fresh_with p.state.location p.state.cells_count p.state.cells
+      (set_length s.inputs (position_of machine.ports.inputs address) word ∙ p.state.inputs_count)
+      (set_words s.inputs (position_of machine.ports.inputs address) word p.state.inputs below)
       p.fixed
-  fresh_setting _ place word = p
+  fresh_setting _ located word = p
 
 fresh_settings : (machine : Machine) (image : List (Option ℕ)) (s : State) (commands : List Command) → All NamesLocation commands → All NamesWord commands → IsFresh machine image s
     → IsFresh machine image (with_settings machine s commands)
-fresh_settings machine image s [] places words p = p
-fresh_settings machine image s (command ∷ commands) places words p =
-    fresh_settings machine image (with_setting machine s command) commands (All-tail NamesLocation command commands places) (All-tail NamesWord command commands words)
-    (fresh_setting machine image s p command (All-head NamesLocation command commands places) (All-head NamesWord command commands words))
+fresh_settings machine image s [] located words p = p
+fresh_settings machine image s (command ∷ commands) located words p =
+    fresh_settings machine image (with_setting machine s command) commands (All-tail NamesLocation command commands located) (All-tail NamesWord command commands words)
+    (fresh_setting machine image s p command (All-head NamesLocation command commands located) (All-head NamesWord command commands words))
 
 fresh_start : (machine : Machine) (image : List (Option ℕ)) (start : ℕ) → IsImage image → start < 4096 → IsFresh machine image (start_state machine image start)
 fresh_start machine image start is below = record {

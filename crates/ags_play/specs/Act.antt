@@ -39,6 +39,6 @@ acts_of_command (ShowOut address) = ShowsOut address ∷ []
 acts_of_command ShowDeda = ShowsDeda ∷ []
 acts_of_command _ = []
 
--- the acts of a script, those of each command behind those of the one before it
+-- the acts of a script, those of each command after those of the one before it
 abbrev pub acts_of : List Command → List Act
 acts_of commands = flat_map acts_of_command commands

@@ -4,7 +4,7 @@ use Rattle.ags_core.specs.Core.{start_state}
 use Rattle.ags_deda.specs.Happening.{Happening}
 use Rattle.ags_domain.specs.declared.values.Value.{Value}
 use Rattle.ags_ports.specs.declared.machines.Machine.{Machine}
-use Rattle.ags_ports.specs.Port.{place_of, set_at}
+use Rattle.ags_ports.specs.Port.{position_of, set_at}
 use Rattle.ags_ports.specs.State.{State, cells_with_word}
 use Rattle.ags_safe.specs.Certificate.{Certificate}
 use Rattle.ags_script.specs.declared.commands.Command.{Command}
@@ -21,10 +21,10 @@ pub record Bench : Type 0 where
 abbrev pub with_setting : Machine → State → Command → State
 with_setting machine s (Start address) = record s { location = address }
 with_setting machine s (Cell address word) = record s { cells = cells_with_word s.cells address word }
-with_setting machine s (Port address word) = record s { inputs = set_at s.inputs (place_of machine.ports.inputs address) word }
+with_setting machine s (Port address word) = record s { inputs = set_at s.inputs (position_of machine.ports.inputs address) word }
 with_setting machine s _ = s
 
--- The state with all that these commands set, in order: what is set later at the same place replaces what was set earlier.
+-- The state with all that these commands set, in order: what is set later of the same cell or register replaces what was set earlier.
 abbrev pub with_settings : Machine → State → List Command → State
 with_settings machine s [] = s
 with_settings machine s (command ∷ commands) = with_settings machine (with_setting machine s command) commands

@@ -13,14 +13,14 @@ use Rattle.ags_play.specs.Bench.{Bench, start_bench}
 use Rattle.ags_play.specs.Doing.{PutWord}
 use Rattle.ags_play.specs.Played.{Plays}
 
--- Behind the cut the acts are played from the bench that those before it left, where none of their words was stopped; and
+-- After the cut the acts are played from the bench that those before it left, where none of their words was stopped; and
 -- where one was, that is the end.
 abbrev pub GoesOnFrom : Machine → Option (Certificate Value) → (mid : Bench) → (stopped : Option PutWord) → List Act → List Event → List ℕ → (after : Bench) (met : Option PutWord) → Type 0
 GoesOnFrom machine guard mid None acts events text after met = Plays machine guard mid acts events text after met
 GoesOnFrom machine guard mid (Some put) acts events text after met = Plays machine guard mid [] events text after None × (met ≡ Some put)
 
 -- A play that is cut between two acts: what stands before the cut is a play whose events are one run from the first bench's
--- state to that of the bench that it leaves, and what stands behind it goes on from there.
+-- state to that of the bench that it leaves, and what stands after it goes on from there.
 pub record PlaysInTurn (machine : Machine) (guard : Option (Certificate Value)) (b : Bench) (first second : List Act) (events : List Event) (text : List ℕ) (after : Bench) (met : Option PutWord) : Type 0 where
   pub early : List Event
   pub moments : List Moment

@@ -8,7 +8,7 @@ use Rattle.ags_ports.specs.declared.events.Phase.{Phase}
 use Rattle.ags_ports.specs.declared.events.Phase.TheVariants.{Running}
 use Rattle.ags_ports.specs.declared.events.Stored.{Stored}
 use Rattle.ags_ports.specs.declared.machines.Machine.{Machine}
-use Rattle.ags_ports.specs.Port.{place_of, register_at}
+use Rattle.ags_ports.specs.Port.{position_of, register_at}
 use Rattle.ags_ports.specs.Run.{Moment, Run, last_state}
 use Rattle.ags_ports.specs.State.{State, cell}
 use Rattle.ags_play.specs.Shown.{reg_text, cell_text, output_text}
@@ -29,14 +29,14 @@ abbrev pub next_digit : List ℕ → Option ℕ
 next_digit [] = None
 next_digit (digit ∷ digits) = Some digit
 
--- the register at a place is there, and its word is 0
+-- the register at a position is there, and its word is 0
 abbrev pub has_zero : List ℕ → Option ℕ → Bool
 has_zero words None = false
-has_zero words (Some place) = slice_index words place == 0
+has_zero words (Some position) = slice_index words position == 0
 
 -- a cycle feeds in this state: the panel's digits go to a register of the machine, and its word is 0
 abbrev pub wants_digit : Machine → State → Bool
-wants_digit machine s = has_zero s.inputs (place_of machine.ports.inputs machine.deda_in)
+wants_digit machine s = has_zero s.inputs (position_of machine.ports.inputs machine.deda_in)
 
 -- the digit that an act takes of the panel, where it takes one
 abbrev pub digit_taken : Machine → Bench → Act → Option ℕ
@@ -84,7 +84,7 @@ Makes machine b act events moments = events ≡ put_events (put_by machine b act
 abbrev pub digit_given : Machine → Option Stored → Option ℕ
 digit_given machine None = None
 digit_given machine (Some gave) =
-    if gave.address == machine.deda_out && is_some (place_of machine.ports.outputs machine.deda_out) then Some (gave.word % 16) else None
+    if gave.address == machine.deda_out && is_some (position_of machine.ports.outputs machine.deda_out) then Some (gave.word % 16) else None
 
 -- what happened to the panel once a digit was shown to it, where one is
 abbrev pub with_shown : List Happening → Option ℕ → List Happening
@@ -140,6 +140,6 @@ deda_text panel = codes "DEDA |" ++ text panel ++ codes "|"
 abbrev pub shown_text : Machine → Bench → Act → List ℕ
 shown_text machine b ShowsReg = reg_text b.core ++ codes "\n"
 shown_text machine b (ShowsCell address) = cell_text address (cell b.core address) ++ codes "\n"
-shown_text machine b (ShowsOut address) = output_text address (register_at b.core.outputs (place_of machine.ports.outputs address)) ++ codes "\n"
+shown_text machine b (ShowsOut address) = output_text address (register_at b.core.outputs (position_of machine.ports.outputs address)) ++ codes "\n"
 shown_text machine b ShowsDeda = deda_text b.panel ++ codes "\n"
 shown_text machine b _ = []

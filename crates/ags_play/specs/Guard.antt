@@ -4,7 +4,7 @@ use Rattle.std.specs.Prelude.{◌≡◌, ◌≢◌, ℕ, ◌<◌, Bool, true, �
 use Rattle.ags_domain.specs.Value.{value_meaning}
 use Rattle.ags_domain.specs.declared.values.Value.{Value}
 use Rattle.ags_ports.specs.declared.machines.Machine.{Machine}
-use Rattle.ags_ports.specs.Port.{place_of, register_at}
+use Rattle.ags_ports.specs.Port.{position_of, register_at}
 use Rattle.ags_ports.specs.State.{State, cell}
 use Rattle.ags_posts.specs.InRow.{AreInputsHeld}
 use Rattle.ags_row.specs.Limit.{input_limit}
@@ -17,7 +17,7 @@ use Rattle.ags_play.specs.Doing.{PutWord}
 -- the certificate lets the word be put: it is one of the register's limit, where the machine has that register
 abbrev pub lets_through : Machine → Certificate Value → PutWord → Bool
 lets_through machine cert put =
-    is_none (place_of machine.ports.inputs put.address) || value_meaning.held (input_limit cert.limits put.address) put.word
+    is_none (position_of machine.ports.inputs put.address) || value_meaning.held (input_limit cert.limits put.address) put.word
 
 -- the word that a guard stops of what an act would put; without a guard none is stopped
 abbrev pub stopped_by : Machine → Option (Certificate Value) → Option PutWord → Option PutWord
@@ -39,13 +39,13 @@ AreCellsInside machine image cert s limit =
     (address : ℕ) → address < limit → IsStartWord value_meaning image cert address (cell s address)
 
 -- the input register at an address has a word of its limit
-abbrev pub IsInputInside : Certificate Value → State → (address place : ℕ) → Type 0
-IsInputInside cert s address place = value_meaning.held (input_limit cert.limits address) (register_at s.inputs (Some place)) ≡ true
+abbrev pub IsInputInside : Certificate Value → State → (address position : ℕ) → Type 0
+IsInputInside cert s address position = value_meaning.held (input_limit cert.limits address) (register_at s.inputs (Some position)) ≡ true
 
--- each input register before a place in the table has a word of its limit
+-- each input register before a position in the table has a word of its limit
 abbrev pub AreInputsInside : Machine → Certificate Value → State → ℕ → Type 0
 AreInputsInside machine cert s limit =
-    (address place : ℕ) → place_of machine.ports.inputs address ≡ Some place → place < limit → IsInputInside cert s address place
+    (address position : ℕ) → position_of machine.ports.inputs address ≡ Some position → position < limit → IsInputInside cert s address position
 
 -- the cell at an address is the first that is outside, and this is its word
 pub record IsFirstCell (machine : Machine) (image : List (Option ℕ)) (cert : Certificate Value) (s : State) (address word : ℕ) : Type 0 where
@@ -59,11 +59,11 @@ pub record IsFirstCell (machine : Machine) (image : List (Option ℕ)) (cert : C
 pub record IsFirstPort (machine : Machine) (image : List (Option ℕ)) (cert : Certificate Value) (s : State) (address word : ℕ) : Type 0 where
   pub location : s.location ≡ cert.start
   pub cells : AreCellsInside machine image cert s 2048
-  pub place : ℕ
-  pub found : place_of machine.ports.inputs address ≡ Some place
-  pub earlier : AreInputsInside machine cert s place
-  pub outside : ¬ IsInputInside cert s address place
-  pub word_is : word ≡ register_at s.inputs (Some place)
+  pub position : ℕ
+  pub found : position_of machine.ports.inputs address ≡ Some position
+  pub earlier : AreInputsInside machine cert s position
+  pub outside : ¬ IsInputInside cert s address position
+  pub word_is : word ≡ register_at s.inputs (Some position)
 
 -- nothing of the state is outside
 pub record IsInside (machine : Machine) (image : List (Option ℕ)) (cert : Certificate Value) (s : State) : Type 0 where

@@ -89,7 +89,7 @@ pub fn each_script_has_one_play()
 {}
 
 /// Wherever a play is cut, what stands before the cut is a play whose events are one run from the first state, and what stands
-/// behind it is played on the bench that the first part leaves, which is where this run ends. So each state that is shown is one
+/// after it is played on the bench that the first part leaves, which is where this run ends. So each state that is shown is one
 /// that the run of all events has come to, and what comes later doesn't change it.
 pub fn what_is_shown_lies_on_one_run()
     ensures split { (machine : Machine) (guard : Option (Certificate Value)) (b : Bench) (first second : List Act)
@@ -104,7 +104,7 @@ pub fn what_is_shown_lies_on_one_run()
         × (all ≡ cut.moments ++ further) }
 {}
 
-/// Acts behind others go on from the bench that those leave, where none of their words was stopped; where one was, they are not
+/// Acts after others go on from the bench that those leave, where none of their words was stopped; where one was, they are not
 /// played.
 pub fn plays_follow_one_another()
     ensures on { (machine : Machine) (guard : Option (Certificate Value)) (b mid after : Bench) (first second : List Act)

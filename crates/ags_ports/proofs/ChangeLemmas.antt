@@ -73,9 +73,6 @@ record Tells (machine : Machine) (s : State) (report : Done) (after : State) : T
 differ : true ≡ false → ⊥
 differ h = cc
 
-told_ran : (report told : Done) (ran : Bool) → report ≡ told → told.ran ≡ ran → report.ran ≡ ran
-told_ran report told ran same is = ap (λ (v : Done). v.ran) same ∙ is
-
 -- where nothing else is told than where the machine stands, no order ran
 idle_ran : (s : State) (report : Done) → report ≡ idle_report s → report.ran ≡ true → ⊥
 idle_ran s report told ran = differ (sym ran ∙ ap (λ (v : Done). v.ran) told)
@@ -87,8 +84,8 @@ halts_not : Running ≡ Halted → ⊥
 halts_not h = cc
 
 -- the location and its word are told, as they were before the event
-abbrev TellsPlace : State → Done → Type 0
-TellsPlace s report = (report.location ≡ s.location) × (report.word ≡ word_here s)
+abbrev TellsHere : State → Done → Type 0
+TellsHere s report = (report.location ≡ s.location) × (report.word ≡ word_here s)
 
 module _ (machine : Machine) (s : State) where
   unchanged_told : (report : Done) (after : State) → report ≡ idle_report s → after.cells ≡ s.cells → after.inputs ≡ s.inputs
@@ -180,17 +177,17 @@ module _ (machine : Machine) (s : State) where
   idle_told Pulse report after p none = p.0
   idle_told (Put address word) report after p none = p.0
 
-  obeys_place : (named : Option Decoded) (report : Done) (after : State) → Obeys machine s named report after → TellsPlace s report
-  obeys_place (Some d) report after p = (ap (λ (v : Done). v.location) p.0, ap (λ (v : Done). v.word) p.0)
-  obeys_place None report after p = (ap (λ (v : Done). v.location) p.0, ap (λ (v : Done). v.word) p.0)
+  obeys_here : (named : Option Decoded) (report : Done) (after : State) → Obeys machine s named report after → TellsHere s report
+  obeys_here (Some d) report after p = (ap (λ (v : Done). v.location) p.0, ap (λ (v : Done). v.word) p.0)
+  obeys_here None report after p = (ap (λ (v : Done). v.location) p.0, ap (λ (v : Done). v.word) p.0)
 
-  step_in_place : (phase : Phase) (report : Done) (after : State) → StepsIn phase machine s report after → TellsPlace s report
-  step_in_place Running report after p = obeys_place p.0 report after p.2
-  step_in_place Waiting report after p = (ap (λ (v : Done). v.location) p.0, ap (λ (v : Done). v.word) p.0)
-  step_in_place Halted report after p = (ap (λ (v : Done). v.location) p.0, ap (λ (v : Done). v.word) p.0)
+  step_here : (phase : Phase) (report : Done) (after : State) → StepsIn phase machine s report after → TellsHere s report
+  step_here Running report after p = obeys_here p.0 report after p.2
+  step_here Waiting report after p = (ap (λ (v : Done). v.location) p.0, ap (λ (v : Done). v.word) p.0)
+  step_here Halted report after p = (ap (λ (v : Done). v.location) p.0, ap (λ (v : Done). v.word) p.0)
 
-  pub place_told : (event : Event) (report : Done) (after : State) → Steps machine s event report after
+  pub here_told : (event : Event) (report : Done) (after : State) → Steps machine s event report after
       → (report.location ≡ s.location) × (report.word ≡ word_here s)
-  place_told Step report after p = step_in_place s.phase report after p
-  place_told Pulse report after p = (ap (λ (v : Done). v.location) p.0, ap (λ (v : Done). v.word) p.0)
-  place_told (Put address word) report after p = (ap (λ (v : Done). v.location) p.0, ap (λ (v : Done). v.word) p.0)
+  here_told Step report after p = step_here s.phase report after p
+  here_told Pulse report after p = (ap (λ (v : Done). v.location) p.0, ap (λ (v : Done). v.word) p.0)
+  here_told (Put address word) report after p = (ap (λ (v : Done). v.location) p.0, ap (λ (v : Done). v.word) p.0)

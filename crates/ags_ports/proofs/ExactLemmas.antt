@@ -134,11 +134,11 @@ quotient_zero a q m count n zero is = let smaller = is.smaller in omega (arith, 
 
 -- ---- what each order leaves where it doesn't overflow
 
-get_below : (words : List ℕ) → All (λ word. word < 2 ^ 18) words → (place : ℕ) → get_or words place 0 < 2 ^ 18
-get_below words are place = ⊎_elim
-    (λ inside. are place 0 inside)
-    (λ outside. let e : get_or words place 0 ≡ 0 = get_or-eq_default words 0 outside in omega arith)
-    (cases_lt place (length words))
+get_below : (words : List ℕ) → All (λ word. word < 2 ^ 18) words → (position : ℕ) → get_or words position 0 < 2 ^ 18
+get_below words are position = ⊎_elim
+    (λ inside. are position 0 inside)
+    (λ outside. let e : get_or words position 0 ≡ 0 = get_or-eq_default words 0 outside in omega arith)
+    (cases_lt position (length words))
 
 -- A holds a number that fits, and the pair one that a pair stands for
 fit_left : (n : ℤ) → not (fits n) ≡ false → val (wrap n) ≡ n

@@ -23,7 +23,7 @@ use Rattle.ags_ports.specs.Machine.{IsMachine}
 use Rattle.ags_ports.specs.State.{State}
 use Rattle.ags_ports.specs.Step.{Steps, Reads}
 use Rattle.ags_ports.specs.OrderTime.{order_time}
-use Rattle.ags_ports.proofs.ChangeLemmas.{ran_reads, reads_ran, place_told}
+use Rattle.ags_ports.proofs.ChangeLemmas.{ran_reads, reads_ran, here_told}
 use Rattle.ags_ports.proofs.HaltLemmas.{no_order_halts}
 
 -- ---- by a report
@@ -70,10 +70,10 @@ module _ (machine : Machine) (s : State) where
   pub time-read : (order : Order) (report : Done) (after : State) → IsMachine machine → Reads machine s order → Steps machine s Step report after
       → order_time machine report ≡ time_of machine.times order
   time-read order report after is reads step =
-      let place = place_told machine s Step report after step in
+      let here = here_told machine s Step report after step in
       let ran = reads_ran machine s order report after reads step in
       time-named machine report order reads.indexed reads.address is ran
-      (subst (λ (word : ℕ). Names machine.codes word order reads.indexed reads.address) (sym place.1) reads.names)
+      (subst (λ (word : ℕ). Names machine.codes word order reads.indexed reads.address) (sym here.1) reads.names)
 
   pub time-least : (event : Event) (report : Done) (after : State) → IsMachine machine → Steps machine s event report after → report.ran ≡ true → 1 ≤ order_time machine report
   time-least event report after is step ran =

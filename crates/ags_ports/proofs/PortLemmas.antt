@@ -4,13 +4,13 @@ use Rattle.std.specs.Prelude.{Bool, ◌==◌, nat_lt, not, cond, Some, None}
 use Rattle.std.specs.List.{position_or_len}
 use Rattle.std.proofs.lemmas.Bool.Decides.{nat_tests}
 use Rattle.std.proofs.lemmas.List.Quantifiers.{position-Some}
-use Rattle.ags_ports.specs.Port.{AreRegisters, place_of}
+use Rattle.ags_ports.specs.Port.{AreRegisters, position_of}
 use Rattle.std.proofs.lemmas.List.{get_or-take, get_or_default}
 use Rattle.std.proofs.Math.ListN.{length-take}
 use Rattle.std.proofs.lemmas.Bool.{cases_lt}
 use Rattle.ags_ports.specs.declared.registers.Port.{Port}
 
--- where an earlier register has the address of the one at a place, the list has an address twice
+-- where an earlier register has the address of the one at a position, the list has an address twice
 pub taken_twice : (xs : List Port) (n : ℕ) (d : Port) → n < length xs
     → Any (λ port. port.address ≡ (get_or xs n d).address) (take n xs)
     → AllPairs (λ one another. one.address ≢ another.address) xs → ⊥
@@ -57,27 +57,28 @@ true_eq m n h = grind (arith, nat_tests)
 
 -- where a register has the address, one is found
 placed : (ports : List Port) (address k : ℕ) (d : Port) → k < length ports → (get_or ports k d).address ≡ address
-    → place_of ports address ≡ Some (position_or_len (λ port. port.address == address) ports)
+    → position_of ports address ≡ Some (position_or_len (λ port. port.address == address) ports)
 placed ports address k d below h = rw (lt_true _ _ (passing (λ port. port.address == address) ports k d below (eq_true _ address h)))
 
 -- what is found is a register of that address
-pub place_of-some : (ports : List Port) (address place : ℕ) (d : Port) → place_of ports address ≡ Some place → (place < length ports) × ((get_or ports place d).address ≡ address)
-place_of-some ports address place d h =
-    let at = position-Some (λ port. port.address == address) ports place d h in
+pub position_of-some : (ports : List Port) (address position : ℕ) (d : Port) → position_of ports address ≡ Some position → (position < length ports) × ((get_or ports position d).address ≡ address)
+position_of-some ports address position d h =
+    let at = position-Some (λ port. port.address == address) ports position d h in
     (at.0, true_eq _ address at.1)
 
 -- nothing is found only where none has that address
-pub place_of-none : (ports : List Port) (address : ℕ) → place_of ports address ≡ None → All (λ port. port.address ≢ address) ports
-place_of-none ports address h k d below same = let found = placed ports address k d below same in cc
+pub position_of-none : (ports : List Port) (address : ℕ) → position_of ports address ≡ None → All (λ port. port.address ≢ address) ports
+position_of-none ports address h k d below same = let found = placed ports address k d below same in cc
 
 -- each register of a table is found by its address
-pub place_of-register : (ports : List Port) (k : ℕ) (d : Port) → AreRegisters ports → k < length ports → place_of ports ((get_or ports k d).address) ≡ Some k
-place_of-register ports k d are below =
+pub position_of-register : (ports : List Port) (k : ℕ) (d : Port) → AreRegisters ports → k < length ports
+    → position_of ports ((get_or ports k d).address) ≡ Some k
+position_of-register ports k d are below =
     let address = (get_or ports k d).address in
-    let place = position_or_len (λ port. port.address == address) ports in
-    let found : place_of ports address ≡ Some place = placed ports address k d below refl in
-    let at = place_of-some ports address place d found in
-    found ∙ ap (λ (n : ℕ). Some n) (numbers_of ports place k d are at.0 below at.1)
+    let position = position_or_len (λ port. port.address == address) ports in
+    let found : position_of ports address ≡ Some position = placed ports address k d below refl in
+    let at = position_of-some ports address position d found in
+    found ∙ ap (λ (n : ℕ). Some n) (numbers_of ports position k d are at.0 below at.1)
   where
     numbers_of : (xs : List Port) (i j : ℕ) (e : Port) → AreRegisters xs → i < length xs → j < length xs → (get_or xs i e).address ≡ (get_or xs j e).address → i ≡ j
     numbers_of xs i j e are under over same = ⊎_elim

@@ -26,7 +26,7 @@ use Rattle.ags_ports.specs.declared.events.Event.TheVariants.{Step, Pulse, Put}
 use Rattle.ags_ports.specs.declared.events.Done.{Done}
 use Rattle.ags_ports.specs.declared.machines.Machine.{Machine}
 use Rattle.ags_ports.specs.Machine.{IsMachine}
-use Rattle.ags_ports.specs.Port.{place_of, register_at, set_at, read_at, is_once}
+use Rattle.ags_ports.specs.Port.{position_of, register_at, set_at, read_at, is_once}
 use Rattle.ags_ports.specs.State.{State, IsState, cell, word_here, next_location, cells_with_word}
 use Rattle.ags_ports.specs.Effect.{Effect, effect, effective, counts_index, then_stores, leaves, moved_on, loads, computes, rounds_product}
 use Rattle.ags_ports.specs.Step.{IsEvent, Obeys, StepsIn, Steps, phase_after_pulse}
@@ -37,11 +37,11 @@ abbrev AreWords : List ℕ → Type 0
 AreWords words = All (λ word. word < 2 ^ 18) words
 
 -- a word of the list, or 0 past its end
-get_below : (words : List ℕ) → AreWords words → (place : ℕ) → get_or words place 0 < 2 ^ 18
-get_below words are place = ⊎_elim
-    (λ inside. are place 0 inside)
-    (λ outside. let e : get_or words place 0 ≡ 0 = get_or-eq_default words 0 outside in omega arith)
-    (cases_lt place (length words))
+get_below : (words : List ℕ) → AreWords words → (position : ℕ) → get_or words position 0 < 2 ^ 18
+get_below words are position = ⊎_elim
+    (λ inside. are position 0 inside)
+    (λ outside. let e : get_or words position 0 ≡ 0 = get_or-eq_default words 0 outside in omega arith)
+    (cases_lt position (length words))
 
 choose_words : (b : Bool) (xs ys : List ℕ) → AreWords xs → AreWords ys → AreWords (if b then xs else ys)
 choose_words true xs ys p r = p
@@ -51,8 +51,8 @@ choose_length : (b : Bool) (xs ys : List ℕ) (n : ℕ) → length xs ≡ n → 
 choose_length true xs ys n p r = p
 choose_length false xs ys n p r = r
 
-set_words : (words : List ℕ) (place word : ℕ) → AreWords words → word < 2 ^ 18 → AreWords (set words place word)
-set_words words place word are below = All-set (λ w. w < 2 ^ 18) words place word below are
+set_words : (words : List ℕ) (position word : ℕ) → AreWords words → word < 2 ^ 18 → AreWords (set words position word)
+set_words words position word are below = All-set (λ w. w < 2 ^ 18) words position word below are
 
 written_words : (cells : List ℕ) (address word : ℕ) → AreWords cells → word < 2 ^ 18 → AreWords (cells_with_word cells address word)
 written_words cells address word are below = choose_words (nat_lt address 2048) (set cells address word) cells (set_words cells address word are below) are
@@ -60,25 +60,25 @@ written_words cells address word are below = choose_words (nat_lt address 2048) 
 written_length : (cells : List ℕ) (address word : ℕ) → length (cells_with_word cells address word) ≡ length cells
 written_length cells address word = choose_length (nat_lt address 2048) (set cells address word) cells (length cells) (length-set cells address word) refl
 
-set_at_words : (words : List ℕ) (place : Option ℕ) (word : ℕ) → AreWords words → word < 2 ^ 18 → AreWords (set_at words place word)
+set_at_words : (words : List ℕ) (position : Option ℕ) (word : ℕ) → AreWords words → word < 2 ^ 18 → AreWords (set_at words position word)
 set_at_words words None word are below = are
-set_at_words words (Some place) word are below = set_words words place word are below
+set_at_words words (Some position) word are below = set_words words position word are below
 
-set_at_length : (words : List ℕ) (place : Option ℕ) (word : ℕ) → length (set_at words place word) ≡ length words
+set_at_length : (words : List ℕ) (position : Option ℕ) (word : ℕ) → length (set_at words position word) ≡ length words
 set_at_length words None word = refl
-set_at_length words (Some place) word = length-set words place word
+set_at_length words (Some position) word = length-set words position word
 
-read_at_words : (ports : List Port) (words : List ℕ) (place : Option ℕ) → AreWords words → AreWords (read_at ports words place)
+read_at_words : (ports : List Port) (words : List ℕ) (position : Option ℕ) → AreWords words → AreWords (read_at ports words position)
 read_at_words ports words None are = are
-read_at_words ports words (Some place) are = choose_words (is_once (slice_get ports place)) (set words place 0) words (set_words words place 0 are (omega arith)) are
+read_at_words ports words (Some position) are = choose_words (is_once (slice_get ports position)) (set words position 0) words (set_words words position 0 are (omega arith)) are
 
-read_at_length : (ports : List Port) (words : List ℕ) (place : Option ℕ) → length (read_at ports words place) ≡ length words
+read_at_length : (ports : List Port) (words : List ℕ) (position : Option ℕ) → length (read_at ports words position) ≡ length words
 read_at_length ports words None = refl
-read_at_length ports words (Some place) = choose_length (is_once (slice_get ports place)) (set words place 0) words (length words) (length-set words place 0) refl
+read_at_length ports words (Some position) = choose_length (is_once (slice_get ports position)) (set words position 0) words (length words) (length-set words position 0) refl
 
-register_at_below : (words : List ℕ) (place : Option ℕ) → AreWords words → register_at words place < 2 ^ 18
+register_at_below : (words : List ℕ) (position : Option ℕ) → AreWords words → register_at words position < 2 ^ 18
 register_at_below words None are = omega arith
-register_at_below words (Some place) are = get_below words are place
+register_at_below words (Some position) are = get_below words are position
 
 -- ---- the parts of a state
 
@@ -157,11 +157,11 @@ effect_keeps machine s Tix e y h is e_below y_below = chosen machine s is _ _ _ 
 effect_keeps machine s Axt e y h is e_below y_below = holds machine s is s.a s.q (y % 8) s.indicator (next_location s) s.phase is.a is.q (omega arith) (omega arith)
 effect_keeps machine s Tsq e y h is e_below y_below = holds machine s is s.a _ s.index s.indicator e s.phase is.a (order_word-below machine.codes h.codes Tra false (next_location s) (omega arith)) is.index e_below
 effect_keeps machine s Inp e y h is e_below y_below =
-    let place = place_of machine.ports.inputs y in
-    record { a = register_at_below s.inputs place is.inputs; q = is.q; index = is.index; location = omega arith; cells_count = is.cells_count; cells = is.cells; inputs_count = read_at_length machine.ports.inputs s.inputs place ∙ is.inputs_count; inputs = read_at_words machine.ports.inputs s.inputs place is.inputs; outputs_count = is.outputs_count; outputs = is.outputs }
+    let position = position_of machine.ports.inputs y in
+    record { a = register_at_below s.inputs position is.inputs; q = is.q; index = is.index; location = omega arith; cells_count = is.cells_count; cells = is.cells; inputs_count = read_at_length machine.ports.inputs s.inputs position ∙ is.inputs_count; inputs = read_at_words machine.ports.inputs s.inputs position is.inputs; outputs_count = is.outputs_count; outputs = is.outputs }
 effect_keeps machine s Out e y h is e_below y_below =
-    let place = place_of machine.ports.outputs y in
-    record { a = is.a; q = is.q; index = is.index; location = omega arith; cells_count = is.cells_count; cells = is.cells; inputs_count = is.inputs_count; inputs = is.inputs; outputs_count = set_at_length s.outputs place s.a ∙ is.outputs_count; outputs = set_at_words s.outputs place s.a is.outputs is.a }
+    let position = position_of machine.ports.outputs y in
+    record { a = is.a; q = is.q; index = is.index; location = omega arith; cells_count = is.cells_count; cells = is.cells; inputs_count = is.inputs_count; inputs = is.inputs; outputs_count = set_at_length s.outputs position s.a ∙ is.outputs_count; outputs = set_at_words s.outputs position s.a is.outputs is.a }
 effect_keeps machine s Dly e y h is e_below y_below = holds machine s is s.a s.q s.index s.indicator y Waiting is.a is.q is.index y_below
 
 -- ---- and so does each step
@@ -192,5 +192,5 @@ pub step_keeps : (machine : Machine) (s : State) (event : Event) (report : Done)
 step_keeps machine s Step report after h is right p = step_in_keeps s.phase machine s report after h is p
 step_keeps machine s Pulse report after h is right p = along machine after _ p.1 (holds machine s is s.a s.q s.index s.indicator s.location (phase_after_pulse s.phase) is.a is.q is.index is.location)
 step_keeps machine s (Put address word) report after h is right p =
-    let place = place_of machine.ports.inputs address in
-    along machine after _ p.1 (record { a = is.a; q = is.q; index = is.index; location = is.location; cells_count = is.cells_count; cells = is.cells; inputs_count = set_at_length s.inputs place word ∙ is.inputs_count; inputs = set_at_words s.inputs place word is.inputs right; outputs_count = is.outputs_count; outputs = is.outputs })
+    let position = position_of machine.ports.inputs address in
+    along machine after _ p.1 (record { a = is.a; q = is.q; index = is.index; location = is.location; cells_count = is.cells_count; cells = is.cells; inputs_count = set_at_length s.inputs position word ∙ is.inputs_count; inputs = set_at_words s.inputs position word is.inputs right; outputs_count = is.outputs_count; outputs = is.outputs })

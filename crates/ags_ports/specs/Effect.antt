@@ -9,7 +9,7 @@ use Rattle.ags_isa.specs.Naming.{order_word}
 use Rattle.ags_ports.specs.declared.events.Phase.TheVariants.{Waiting}
 use Rattle.ags_ports.specs.declared.events.Stored.{Stored}
 use Rattle.ags_ports.specs.declared.machines.Machine.{Machine}
-use Rattle.ags_ports.specs.Port.{place_of, register_at, set_at, read_at}
+use Rattle.ags_ports.specs.Port.{position_of, register_at, set_at, read_at}
 use Rattle.ags_ports.specs.State.{State, cell, next_location, cells_with_word}
 
 -- What an order does: the state after it, whether it overflows, the store that it makes and the word of it, the address
@@ -158,10 +158,10 @@ effect machine s Axt e y = leaves (record s { index = y % 8; location = next_loc
 -- Q = the word of TRA, its index bit 0, to the next location; then it goes to e.
 effect machine s Tsq e y = leaves (record s { q = order_word machine.codes Tra false (next_location s); location = e })
 -- A = the word of the input register at y, or 0 where there is none; a register that holds its word once then holds 0.
-effect machine s Inp e y = let place = place_of machine.ports.inputs y in record {
+effect machine s Inp e y = let position = position_of machine.ports.inputs y in record {
   after = record s {
-    a = register_at s.inputs place;
-    inputs = read_at machine.ports.inputs s.inputs place;
+    a = register_at s.inputs position;
+    inputs = read_at machine.ports.inputs s.inputs position;
     location = next_location s;
   };
   overflow = false;
@@ -170,8 +170,8 @@ effect machine s Inp e y = let place = place_of machine.ports.inputs y in record
   gave = None;
 }
 -- The output register at y, if there is one, becomes A.
-effect machine s Out e y = let place = place_of machine.ports.outputs y in record {
-  after = record s { outputs = set_at s.outputs place s.a; location = next_location s };
+effect machine s Out e y = let position = position_of machine.ports.outputs y in record {
+  after = record s { outputs = set_at s.outputs position s.a; location = next_location s };
   overflow = false;
   stored = None;
   took = None;

@@ -13,29 +13,29 @@ pub record Registers : Type 0 where
   pub inputs : List Port
   pub outputs : List Port
 
--- the place of the register at an address, counted from 0, and nothing where the table has none there
-abbrev pub place_of : List Port → ℕ → Option ℕ
-place_of ports address = position (λ port. port.address == address) ports
+-- the position of the register at an address, counted from 0, and nothing where the table has none there
+abbrev pub position_of : List Port → ℕ → Option ℕ
+position_of ports address = position (λ port. port.address == address) ports
 
--- the word that stands in the register at a place, and 0 where there is none
+-- the word that stands in the register at a position, and 0 where there is none
 abbrev pub register_at : List ℕ → Option ℕ → ℕ
 register_at words None = 0
-register_at words (Some place) = slice_index words place
+register_at words (Some position) = slice_index words position
 
--- the registers' words with the one at a place set, and as they are where there is none
+-- the registers' words with the one at a position set, and as they are where there is none
 abbrev pub set_at : List ℕ → Option ℕ → ℕ → List ℕ
 set_at words None word = words
-set_at words (Some place) word = slice_set words place word
+set_at words (Some position) word = slice_set words position word
 
--- whether the register at a place holds its word once: it is 0 again once it was read
+-- whether the register at a position holds its word once: it is 0 again once it was read
 abbrev pub is_once : Option Port → Bool
 is_once None = false
 is_once (Some port) = port.once
 
--- the input registers' words once the one at a place was read
+-- the input registers' words once the one at a position was read
 abbrev pub read_at : List Port → List ℕ → Option ℕ → List ℕ
 read_at ports words None = words
-read_at ports words (Some place) = if is_once (slice_get ports place) then slice_set words place 0 else words
+read_at ports words (Some position) = if is_once (slice_get ports position) then slice_set words position 0 else words
 
 -- the register at an address that holds its word until another one is set
 abbrev pub held_port : ℕ → Port

@@ -49,7 +49,7 @@ pub record RunsTo (machine : Machine) (s : State) (events : List Event) (after :
   pub run : Run machine s events moments
   pub ends : after ≡ last_state s moments
 
--- These moments are those of a run over one list of events, and behind them those of a run over another list, from the state
+-- These moments are those of a run over one list of events, and after them those of a run over another list, from the state
 -- that the first run ends in.
 pub record RunsInTurn (machine : Machine) (s : State) (first second : List Event) (moments : List Moment) : Type 0 where
   pub early : List Moment

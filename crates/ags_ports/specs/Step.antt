@@ -9,7 +9,7 @@ use Rattle.ags_ports.specs.declared.events.Event.{Event}
 use Rattle.ags_ports.specs.declared.events.Event.TheVariants.{Step, Pulse, Put}
 use Rattle.ags_ports.specs.declared.events.Done.{Done}
 use Rattle.ags_ports.specs.declared.machines.Machine.{Machine}
-use Rattle.ags_ports.specs.Port.{place_of, set_at}
+use Rattle.ags_ports.specs.Port.{position_of, set_at}
 use Rattle.ags_ports.specs.State.{State, word_here}
 use Rattle.ags_ports.specs.Effect.{Effect, effect, effective}
 
@@ -85,4 +85,4 @@ Steps machine s Step report after = StepsIn s.phase machine s report after
 Steps machine s Pulse report after = (report ≡ idle_report s) × (after ≡ record s { phase = phase_after_pulse s.phase })
 -- the input register at the address is set, in every phase; where there is none, nothing changes
 Steps machine s (Put address word) report after =
-    (report ≡ idle_report s) × (after ≡ record s { inputs = set_at s.inputs (place_of machine.ports.inputs address) word })
+    (report ≡ idle_report s) × (after ≡ record s { inputs = set_at s.inputs (position_of machine.ports.inputs address) word })

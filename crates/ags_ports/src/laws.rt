@@ -11,7 +11,7 @@ ghost use Rattle.ags_ports.specs.declared.events.Event.{Event};
 ghost use Rattle.ags_ports.specs.declared.events.Event.TheVariants.{Step, Pulse};
 ghost use Rattle.ags_ports.specs.declared.events.Done.{Done};
 ghost use Rattle.ags_ports.specs.declared.registers.Port.{Port};
-ghost use Rattle.ags_ports.specs.Port.{AreRegisters, place_of};
+ghost use Rattle.ags_ports.specs.Port.{AreRegisters, position_of};
 ghost use Rattle.ags_ports.specs.Time.{AreTimes, time_of, standard_time, standard_times};
 ghost use Rattle.ags_ports.specs.Machine.{IsMachine, standard_machine};
 ghost use Rattle.ags_ports.specs.State.{State, IsState, cell, next_location, word_here};
@@ -166,10 +166,10 @@ pub fn tsq_leaves_an_order_that_goes_back()
 /// What is found at an address is a register of that address, nothing is found only where there is none, and each
 /// register of a table is found by its address.
 pub fn registers_are_found_by_their_addresses()
-    ensures found { (ports : List Port) (address place : ℕ) (d : Port) → place_of ports address ≡ Some place
-        → (place < length ports) × ((slice_index_or ports place d).address ≡ address) }
-    ensures absent { (ports : List Port) (address : ℕ) → place_of ports address ≡ None
+    ensures found { (ports : List Port) (address position : ℕ) (d : Port) → position_of ports address ≡ Some position
+        → (position < length ports) × ((slice_index_or ports position d).address ≡ address) }
+    ensures absent { (ports : List Port) (address : ℕ) → position_of ports address ≡ None
         → All (λ port. port.address ≢ address) ports }
-    ensures each { (ports : List Port) (place : ℕ) (d : Port) → AreRegisters ports → place < length ports
-        → place_of ports ((slice_index_or ports place d).address) ≡ Some place }
+    ensures each { (ports : List Port) (position : ℕ) (d : Port) → AreRegisters ports → position < length ports
+        → position_of ports ((slice_index_or ports position d).address) ≡ Some position }
 {}

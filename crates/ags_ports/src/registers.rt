@@ -1,7 +1,7 @@
 //! The input and output registers of a machine.
 
 ghost use Rattle.std.specs.Prelude.{◌≡◌, ◌≢◌, ◌<◌, ◌≤◌, ◌↔◌, ◌==◌, IsTrue, All, Any, AllPairs, length, slice_get, IfSome, Some, None, false};
-ghost use Rattle.ags_ports.specs.Port.{AreRegisters, place_of, is_once, standard_inputs, standard_outputs};
+ghost use Rattle.ags_ports.specs.Port.{AreRegisters, position_of, is_once, standard_inputs, standard_outputs};
 
 use ags_word::LOCATIONS;
 use arrayvec::ArrayVec;
@@ -89,6 +89,16 @@ impl Ports {
         }
     }
 
+    /// A copy.
+    pub fn copy(&self) -> Ports
+        ensures { result ≡ self.now }
+    {
+        Ports {
+            inputs: table(self.inputs()),
+            outputs: table(self.outputs()),
+        }
+    }
+
     /// The input registers.
     pub fn inputs(&self) -> &[Port]
         ensures same { result.now ≡ self.now.inputs }
@@ -105,34 +115,34 @@ impl Ports {
         self.outputs.as_slice()
     }
 
-    /// The place of the input register at an address.
+    /// The position of the input register at an address.
     pub fn find_input(&self, address: u16) -> Option<usize>
-        ensures place { result ≡ place_of self.now.inputs address }
-        ensures in_range { IfSome result (λ place. place < length self.now.inputs) }
+        ensures position { result ≡ position_of self.now.inputs address }
+        ensures in_range { IfSome result (λ position. position < length self.now.inputs) }
     {
-        place(self.inputs.as_slice(), address)
+        position_at(self.inputs.as_slice(), address)
     }
 
-    /// Whether the input register at a place holds its word once.
-    pub fn is_once(&self, place: usize) -> bool
-        requires { place < length self.now.inputs }
-        ensures { result ≡ is_once (slice_get self.now.inputs place) }
+    /// Whether the input register at a position holds its word once.
+    pub fn is_once(&self, position: usize) -> bool
+        requires { position < length self.now.inputs }
+        ensures { result ≡ is_once (slice_get self.now.inputs position) }
     {
-        self.inputs.as_slice()[place].once
+        self.inputs.as_slice()[position].once
     }
 
-    /// The place of the output register at an address.
+    /// The position of the output register at an address.
     pub fn find_output(&self, address: u16) -> Option<usize>
-        ensures place { result ≡ place_of self.now.outputs address }
-        ensures in_range { IfSome result (λ place. place < length self.now.outputs) }
+        ensures position { result ≡ position_of self.now.outputs address }
+        ensures in_range { IfSome result (λ position. position < length self.now.outputs) }
     {
-        place(self.outputs.as_slice(), address)
+        position_at(self.outputs.as_slice(), address)
     }
 }
 
-/// The place of the register at an address.
-fn place(ports: &[Port], address: u16) -> Option<usize>
-    ensures { result ≡ place_of ports.now address }
+/// The position of the register at an address.
+fn position_at(ports: &[Port], address: u16) -> Option<usize>
+    ensures { result ≡ position_of ports.now address }
 {
     ports.iter().position(|port| port.address == address)
 }
@@ -175,8 +185,8 @@ fn all_below(ports: &[Port]) -> bool
 fn all_distinct(ports: &[Port]) -> bool
     ensures { IsTrue result ↔ AllPairs (λ one another. one.address ≢ another.address) ports.now }
 {
-    for (place, port) in ports.iter().enumerate() {
-        if is_among(port.address, &ports[..place]) {
+    for (position, port) in ports.iter().enumerate() {
+        if is_among(port.address, &ports[..position]) {
             return false;
         }
     }

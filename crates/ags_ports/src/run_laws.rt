@@ -74,7 +74,7 @@ pub fn run_is_a_step_at_each_event<F: StepFact>()
         → Run machine s events moments → AtEachStep F.holds s events moments }
 {}
 
-/// What holds at each step of a run holds at each step of its first part, over the first events, and at each step behind it;
+/// What holds at each step of a run holds at each step of its first part, over the first events, and at each step after it;
 /// and what holds in both parts holds at each step of the run.
 pub fn steps_of_a_run_are_those_of_its_parts<F: StepFact>()
     ensures front { (machine : Machine) (s : State) (first second : List Event) (moments others : List Moment)

@@ -11,7 +11,7 @@ use Rattle.ags_isa.specs.declared.orders.Order.TheVariants.{Abs, Add, Adz, Als, 
 use Rattle.ags_isa.specs.declared.decoding.Decoded.{Decoded}
 use Rattle.ags_isa.specs.Naming.{order_word, IsDecoding}
 use Rattle.ags_ports.specs.Effect.{counts_index, effective_at}
-use Rattle.ags_ports.specs.Port.{place_of}
+use Rattle.ags_ports.specs.Port.{position_of}
 use Rattle.ags_domain.specs.Domain.{Ends, Meaning}
 use Rattle.ags_domain.specs.Hull.{no_cell}
 use Rattle.ags_domain.specs.Candidates.{sum_candidates, difference_candidates, sign_candidates, left_shift_candidates, product_candidates, long_left_candidates, quotient_candidates}
@@ -103,9 +103,9 @@ module _ {D : Type 0} (meaning : Meaning D) (c : Case D) where
   stores_goes : (e : ℕ) (follows : Outcome D → Type 0) → Goes follows → Goes (Stores meaning c e follows)
   stores_goes e follows goes = chosen_goes (is_erasable e) follows _ goes
 
-  port_goes : (place : Option ℕ) (follows : Outcome D → Type 0) → Goes follows → Goes (HasPort meaning c place follows)
+  port_goes : (position : Option ℕ) (follows : Outcome D → Type 0) → Goes follows → Goes (HasPort meaning c position follows)
   port_goes None follows goes pair is = absurd cc
-  port_goes (Some place) follows goes pair is = goes pair is
+  port_goes (Some position) follows goes pair is = goes pair is
 
   -- each line that goes to a location of the memory does so by what follows it
   abbrev EachGoes : (Line D → Outcome D → Type 0) → Type 0
@@ -174,9 +174,9 @@ module _ {D : Type 0} (meaning : Meaning D) (c : Case D) where
         (chosen_line (nat_eq c.index 0) (moves_on c) (record (moves_on c) { next = y; x = c.index - 1 }) next_within (y_below, refl))
     order_goes Axt = single_goes (record (moves_on c) { x = y % 8 }) next_within
     order_goes Tsq = single_goes (record (moves_on c) { next = e; q = OneWord (order_word c.machine.codes Tra false (next_of_row c.row)) }) (e_below, refl)
-    order_goes Inp = port_goes (place_of c.machine.ports.inputs y) (IsSingle meaning c (record (unlinks meaning c) { a = These (input_limit c.limits y) }))
+    order_goes Inp = port_goes (position_of c.machine.ports.inputs y) (IsSingle meaning c (record (unlinks meaning c) { a = These (input_limit c.limits y) }))
         (single_goes (record (unlinks meaning c) { a = These (input_limit c.limits y) }) next_within)
-    order_goes Out = port_goes (place_of c.machine.ports.outputs y) (IsGiven meaning c y (moves_on c)) (given_goes y (moves_on c) next_within)
+    order_goes Out = port_goes (position_of c.machine.ports.outputs y) (IsGiven meaning c y (moves_on c)) (given_goes y (moves_on c) next_within)
     order_goes Dly = single_goes (record (moves_on c) { next = y }) (y_below, refl)
 
   choose_below : (b : Bool) (m n : ℕ) → m < 4096 → n < 4096 → (if b then m else n) < 4096

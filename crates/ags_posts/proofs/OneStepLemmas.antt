@@ -8,7 +8,7 @@ use Rattle.ags_domain.specs.Domain.{Meaning, IsMeaning}
 use Rattle.ags_ports.specs.declared.events.Phase.{Phase}
 use Rattle.ags_ports.specs.declared.events.Event.TheVariants.{Step}
 use Rattle.ags_ports.specs.declared.events.Done.{Done}
-use Rattle.ags_ports.specs.Port.{place_of}
+use Rattle.ags_ports.specs.Port.{position_of}
 use Rattle.ags_ports.specs.Machine.{IsMachine}
 use Rattle.ags_ports.specs.State.{State, IsState, word_here}
 use Rattle.ags_ports.specs.Effect.{effect, effective, effective_at}
@@ -48,7 +48,7 @@ module _ {D : Type 0} (meaning : Meaning D) (lawful : IsMeaning D meaning) (c : 
         ∙ ap (λ (n : ℕ). is_named c.limits n) in_case.in_row.location
         ∙ sound.overflow (sym (ap (λ (r : Done). r.overflow) told) ∙ over);
     stored = subst (λ (r : Done). IfSome r.stored (IsStoreInLimit meaning c.limits)) (sym told) sound.stored;
-    took = subst (λ (r : Done). IfSome r.took (λ address. IsSome (place_of c.machine.ports.inputs address))) (sym told) sound.took;
+    took = subst (λ (r : Done). IfSome r.took (λ address. IsSome (position_of c.machine.ports.inputs address))) (sym told) sound.took;
     gave = subst (λ (r : Done). IfSome r.gave (IsGivenInLimit meaning c)) (sym told) sound.gave;
   }
 

@@ -17,7 +17,7 @@ use Rattle.ags_domain.specs.Candidates.{sum_candidates, difference_candidates, s
 use Rattle.ags_domain.specs.declared.operands.Operands.{Operands}
 use Rattle.ags_image.specs.Image.{word_at}
 use Rattle.ags_ports.specs.declared.events.Phase.{Phase}
-use Rattle.ags_ports.specs.Port.{place_of, register_at}
+use Rattle.ags_ports.specs.Port.{position_of, register_at}
 use Rattle.ags_ports.specs.State.{State, IsState, cell, next_location}
 use Rattle.ags_ports.specs.Effect.{effect, leaves, moved_on, gone_to, then_clears, then_stores, loads as loads_a}
 use Rattle.ags_row.specs.Limit.{input_limit}
@@ -46,8 +46,8 @@ fixed_from : (address : ℕ) → is_erasable address ≡ false → 2048 ≤ addr
 fixed_from address h = grind (arith, nat_tests)
 
 -- a register was found where there are posts
-port_found : {D : Type 0} (meaning : Meaning D) (c : Case D) (place : Option ℕ) (follows : Outcome D → Type 0) (pair : PostPair D)
-    → HasPort meaning c place follows (Ok pair) → (n : ℕ) × (place ≡ Some n) × follows (Ok pair)
+port_found : {D : Type 0} (meaning : Meaning D) (c : Case D) (position : Option ℕ) (follows : Outcome D → Type 0) (pair : PostPair D)
+    → HasPort meaning c position follows (Ok pair) → (n : ℕ) × (position ≡ Some n) × follows (Ok pair)
 port_found meaning c None follows pair h = absurd cc
 port_found meaning c (Some n) follows pair h = (n, refl, h)
 
@@ -372,9 +372,9 @@ module _ {D : Type 0} (meaning : Meaning D) (lawful : IsMeaning D meaning) (c : 
       (record (moves_on c) { next = e; q = OneWord (order_word c.machine.codes Tra false (next_of_row c.row)) }) both _ p
       (left_in_line refl a_stays (kept.q, ap (λ (n : ℕ). order_word c.machine.codes Tra false n) next_here) in_case.index in_case.in_row.link) kept
   order_sound Inp e y both below p kept =
-      let place = place_of c.machine.ports.inputs y in
-      let found = port_found meaning c place (IsSingle meaning c (record (unlinks meaning c) { a = These (input_limit c.limits y) })) both p in
-      let input_held : meaning.held (input_limit c.limits y) (register_at s.inputs place) ≡ true =
+      let position = position_of c.machine.ports.inputs y in
+      let found = port_found meaning c position (IsSingle meaning c (record (unlinks meaning c) { a = These (input_limit c.limits y) })) both p in
+      let input_held : meaning.held (input_limit c.limits y) (register_at s.inputs position) ≡ true =
       subst (λ (at : Option ℕ). meaning.held (input_limit c.limits y) (register_at s.inputs at) ≡ true) (sym found.1) (in_case.inputs y found.0 found.1) in
       record {
         agrees = single_agrees meaning lawful c s is in_case (record (unlinks meaning c) { a = These (input_limit c.limits y) }) both _ found.2
@@ -385,8 +385,8 @@ module _ {D : Type 0} (meaning : Meaning D) (lawful : IsMeaning D meaning) (c : 
         gave = tt;
       }
   order_sound Out e y both below p kept =
-      let place = place_of c.machine.ports.outputs y in
-      let found = port_found meaning c place (IsGiven meaning c y (moves_on c)) both p in
+      let position = position_of c.machine.ports.outputs y in
+      let found = port_found meaning c position (IsGiven meaning c y (moves_on c)) both p in
       record {
         agrees = single_agrees meaning lawful c s is in_case (moves_on c) both _ found.2.1
             (left_in_line next_here a_stays q_stays in_case.index in_case.in_row.link) kept;

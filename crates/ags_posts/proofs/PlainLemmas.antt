@@ -114,10 +114,10 @@ module _ {D : Type 0} (meaning : Meaning D) (c : Case D) where
       → Stores meaning c e Q (outcome_without_link o)
   plain_stores e P Q o goes is = plain_choice _ P Q _ o goes is
 
-  plain_port : (place : Option ℕ) (P Q : Outcome D → Type 0) (o : Outcome D) → (P o → Q (outcome_without_link o)) → HasPort meaning c place P o
-      → HasPort meaning c place Q (outcome_without_link o)
+  plain_port : (position : Option ℕ) (P Q : Outcome D → Type 0) (o : Outcome D) → (P o → Q (outcome_without_link o)) → HasPort meaning c position P o
+      → HasPort meaning c position Q (outcome_without_link o)
   plain_port None P Q o goes is = ap (λ (x : Outcome D). outcome_without_link x) is
-  plain_port (Some place) P Q o goes is = goes is
+  plain_port (Some position) P Q o goes is = goes is
 
   plain_linked : (link : Option Link) → link ≡ None → (ends : Ends) (line : Line D) (post : Option (Post D)) → IsPostLinked meaning c link ends line post
       → IsSomeAnd (some_without_link post) (IsPostOf meaning c (record line { link = None }))
@@ -280,10 +280,10 @@ module _ {D : Type 0} (meaning : Meaning D) (c : Case D) where
   back_stores : (e : ℕ) (P Q : Outcome D → Type 0) (o : Outcome D) → (Q o → Back P o) → Stores meaning c e Q o → Back (Stores meaning c e P) o
   back_stores e P Q o goes is = back_choice _ P Q _ o goes is
 
-  back_port : (place : Option ℕ) (P Q : Outcome D → Type 0) (o : Outcome D) → (Q o → Back P o) → HasPort meaning c place Q o
-      → Back (HasPort meaning c place P) o
+  back_port : (position : Option ℕ) (P Q : Outcome D → Type 0) (o : Outcome D) → (Q o → Back P o) → HasPort meaning c position Q o
+      → Back (HasPort meaning c position P) o
   back_port None P Q o goes is = (Err BadPort, refl, sym is)
-  back_port (Some place) P Q o goes is = goes is
+  back_port (Some position) P Q o goes is = goes is
 
   -- a part of A
   back_linked : (link : Option Link) → link ≡ None → (ends : Ends) (line : Line D) (post : Option (Post D))

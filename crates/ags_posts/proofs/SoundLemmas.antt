@@ -7,7 +7,7 @@ use Rattle.ags_word.specs.Operation.{Operation}
 use Rattle.ags_domain.specs.Domain.{Ends, Meaning, IsMeaning, IsBetween}
 use Rattle.ags_domain.specs.Hull.{Answers, IsOperands, new_a_at, overflows_at}
 use Rattle.ags_domain.specs.declared.operands.Operands.{Operands}
-use Rattle.ags_ports.specs.Port.{place_of}
+use Rattle.ags_ports.specs.Port.{position_of}
 use Rattle.ags_ports.specs.State.{State, IsState, cell, next_location}
 use Rattle.ags_ports.specs.Effect.{Effect, leaves, overflowing, then_stores}
 use Rattle.ags_row.specs.Limit.{is_named}
@@ -30,7 +30,7 @@ pub record IsSound {D : Type 0} (meaning : Meaning D) (c : Case D) (pair : PostP
   pub agrees : AgreesWithOne meaning c.limits c.row pair does.after
   pub overflow : does.overflow ≡ true → is_named c.limits c.row.location ≡ true
   pub stored : IfSome does.stored (IsStoreInLimit meaning c.limits)
-  pub took : IfSome does.took (λ address. IsSome (place_of c.machine.ports.inputs address))
+  pub took : IfSome does.took (λ address. IsSome (position_of c.machine.ports.inputs address))
   pub gave : IfSome does.gave (IsGivenInLimit meaning c)
 
 pub never : false ≡ true → ⊥
@@ -108,7 +108,7 @@ module _ {D : Type 0} (meaning : Meaning D) (lawful : IsMeaning D meaning) (c : 
         is_stored.3 in_line_after is_state;
     overflow = named;
     stored = (low, is_stored.2 w below (told_held meaning told is_stored.0 w is_stored.1 below among));
-    took = subst (λ (t : Option ℕ). IfSome t (λ address. IsSome (place_of c.machine.ports.inputs address))) (sym takes_none) tt;
+    took = subst (λ (t : Option ℕ). IfSome t (λ address. IsSome (position_of c.machine.ports.inputs address))) (sym takes_none) tt;
     gave = subst (λ (g : Option _). IfSome g (IsGivenInLimit meaning c)) (sym gives_none) tt;
   }
     where

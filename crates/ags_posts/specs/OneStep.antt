@@ -3,7 +3,7 @@ use Rattle.std.specs.Prelude.{◌≡◌, ℕ, ◌<◌, true, false, Option, Some
 use Rattle.ags_domain.specs.Domain.{Meaning}
 use Rattle.ags_ports.specs.declared.events.Done.{Done}
 use Rattle.ags_ports.specs.declared.events.Stored.{Stored}
-use Rattle.ags_ports.specs.Port.{place_of}
+use Rattle.ags_ports.specs.Port.{position_of}
 use Rattle.ags_ports.specs.State.{State, cell}
 use Rattle.ags_row.specs.Limit.{Limiting, cell_limit, output_limit, is_named}
 use Rattle.ags_row.specs.Cover.{post_value}
@@ -41,7 +41,7 @@ IsStoreInLimit meaning limits stored = (stored.address < 2048) × (meaning.held 
 -- a word is given to an output register, and is one of its limit
 abbrev pub IsGivenInLimit : {D : Type 0} → Meaning D → Case D → Stored → Type 0
 IsGivenInLimit meaning c gave =
-    IsSome (place_of c.machine.ports.outputs gave.address) × (meaning.held (output_limit c.limits gave.address) gave.word ≡ true)
+    IsSome (position_of c.machine.ports.outputs gave.address) × (meaning.held (output_limit c.limits gave.address) gave.word ≡ true)
 
 -- One step follows a case's posts: an order ran; the state that it leaves agrees with one of the posts, and its fixed cells hold the
 -- image's words; it overflows at a named place only; it stores to no fixed cell; a word is taken from a register and given to one;
@@ -52,5 +52,5 @@ pub record Follows {D : Type 0} (meaning : Meaning D) (c : Case D) (pair : PostP
   pub fixed : HasFixedWords c.image after
   pub overflow : report.overflow ≡ true → is_named c.limits report.location ≡ true
   pub stored : IfSome report.stored (IsStoreInLimit meaning c.limits)
-  pub took : IfSome report.took (λ address. IsSome (place_of c.machine.ports.inputs address))
+  pub took : IfSome report.took (λ address. IsSome (position_of c.machine.ports.inputs address))
   pub gave : IfSome report.gave (IsGivenInLimit meaning c)

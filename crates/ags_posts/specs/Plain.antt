@@ -7,7 +7,7 @@ use Rattle.ags_isa.specs.declared.orders.Order.TheVariants.{Abs, Add, Adz, Als, 
 use Rattle.ags_isa.specs.declared.decoding.Decoded.{Decoded}
 use Rattle.ags_isa.specs.Naming.{order_word, IsDecoding}
 use Rattle.ags_ports.specs.Effect.{effective_at}
-use Rattle.ags_ports.specs.Port.{place_of}
+use Rattle.ags_ports.specs.Port.{position_of}
 use Rattle.ags_domain.specs.Domain.{Meaning, IsPart, is_negative, is_not_negative}
 use Rattle.ags_domain.specs.Hull.{IsInterval, no_cell}
 use Rattle.ags_domain.specs.Candidates.{sum_candidates, difference_candidates, sign_candidates, left_shift_candidates, product_candidates, long_left_candidates, quotient_candidates}
@@ -85,9 +85,9 @@ module _ {D : Type 0} (meaning : Meaning D) (c : Case D) where
   IsPlainPosts Tix e y outcome = IsSingle meaning c (if nat_eq c.index 0 then unlinks meaning c else (record (unlinks meaning c) { next = y; x = c.index - 1 })) outcome
   IsPlainPosts Axt e y outcome = IsSingle meaning c (record (unlinks meaning c) { x = y % 8 }) outcome
   IsPlainPosts Tsq e y outcome = IsSingle meaning c (record (unlinks meaning c) { next = e; q = OneWord (order_word c.machine.codes Tra false (next_of_row c.row)) }) outcome
-  IsPlainPosts Inp e y outcome = HasPort meaning c (place_of c.machine.ports.inputs y)
+  IsPlainPosts Inp e y outcome = HasPort meaning c (position_of c.machine.ports.inputs y)
       (IsSingle meaning c (record (unlinks meaning c) { a = These (input_limit c.limits y) })) outcome
-  IsPlainPosts Out e y outcome = HasPort meaning c (place_of c.machine.ports.outputs y) (IsGiven meaning c y (unlinks meaning c)) outcome
+  IsPlainPosts Out e y outcome = HasPort meaning c (position_of c.machine.ports.outputs y) (IsGiven meaning c y (unlinks meaning c)) outcome
   IsPlainPosts Dly e y outcome = IsSingle meaning c (record (unlinks meaning c) { next = y }) outcome
 
   -- by what the case's word was read as

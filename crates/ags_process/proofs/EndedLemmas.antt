@@ -20,7 +20,7 @@ ends_for arguments old new WriteFault ends = inr tt
 ends_for arguments old new NoMemory ends = inr tt
 ends_for arguments old new _ ends = inl (ends.text, ends.answer)
 
--- and the same where the output behind it was written, or wasn't
+-- and the same where the output after it was written, or wasn't
 pub ended_for : (arguments : List (List ℕ)) (old new : Option (List ℕ)) (status ended : Status) (written : Bool) → Ends program (IsAnswer program (λ _. Untold) (plan_of arguments)) old new status
     → (written ≡ true → ended ≡ status) → (written ≡ false → ended ≡ WriteFault) → EndsFor arguments ended
 ended_for arguments old new status ended true ends done fault = rw (done refl) (ends_for arguments old new status ends)

@@ -23,7 +23,7 @@ use std::fs::Files;
 use std::io::{self, ErrorKind};
 
 /// Runs the program as a process, and answers the number that it ends with (the README, Commands): that of a status which
-/// answers the arguments behind the program's name for some files, since the system tells nothing of them, or of one that
+/// answers the arguments after the program's name for some files, since the system tells nothing of them, or of one that
 /// stops; 11 where there was no memory for the arguments, and 3 where one of them isn't UTF-8. What it reads and writes is
 /// what `run` says of any shelf and sink, these being the real ones. The arguments come twice, as the system hands them over: the
 /// second time their names are for a person, who is told of a run that isn't answered as asked.

@@ -51,7 +51,7 @@ impl Ran {
     }
 }
 
-/// The arguments behind the program's name.
+/// The arguments after the program's name.
 fn arguments_of(alloc: Global, all: Args) -> Result<Vec<String>, AllocError>
     ensures { IfOk result (λ arguments. arguments.items ≡ drop 1 (into_iter_items all)) }
 {
@@ -64,7 +64,7 @@ fn arguments_of(alloc: Global, all: Args) -> Result<Vec<String>, AllocError>
     Ok(arguments)
 }
 
-/// The arguments behind the program's name, and none where they can't be had.
+/// The arguments after the program's name, and none where they can't be had.
 pub(crate) fn words_of(alloc: Global, again: io::Result<Args>) -> Vec<String>
     ensures { result.items ≢ [] → IfOk again (λ all. result.items ≡ drop 1 (into_iter_items all)) }
 {
@@ -89,7 +89,7 @@ fn status_of_error(error: &io::Error) -> Status
     }
 }
 
-/// Runs the program over the arguments behind its name, and answers its status; there is no other where memory is wanting for
+/// Runs the program over the arguments after its name, and answers its status; there is no other where memory is wanting for
 /// the arguments themselves.
 fn answer<S: Shelf, K: HeldSink>(alloc: Global, all: Args, shelf: &mut S, out: &mut K) -> Status
     ensures content { Ends program (IsAnswer program (S.told shelf.old) (plan_of (map string_bytes (drop 1 (into_iter_items all))))) (K.told out.old) (K.told out.new) result }
@@ -110,7 +110,7 @@ fn answer<S: Shelf, K: HeldSink>(alloc: Global, all: Args, shelf: &mut S, out: &
     }
 }
 
-/// Runs the program over the arguments behind its name, and then finishes the sink: what it holds at the end was written, or
+/// Runs the program over the arguments after its name, and then finishes the sink: what it holds at the end was written, or
 /// the status that the process ends with is `WriteFault`. Of content and counts this says what `ags_main` does.
 pub fn run_over<S: Shelf, K: HeldSink>(alloc: Global, all: Args, shelf: &mut S, out: &mut K) -> Ran
     ensures content { Ends program (IsAnswer program (S.told shelf.old) (plan_of (map string_bytes (drop 1 (into_iter_items all))))) (K.told out.old) (K.told out.new) result.status }

@@ -135,7 +135,7 @@ loads_as_before told now kind name result same loads = subst (λ (t : Told). Loa
 
 module _ (told now : Told) (former : Kind) (one : List ℕ) (latter : Kind) (other : List ℕ) (done : Value former → Value latter → Work) (held : Value former)
     (first : LoadsFile program told former one (Ok held)) (same : now ≡ told) where
-  -- both, one behind the other
+  -- both, one after the other
   abbrev pub both : Plan program
   both = Read former one (λ a. Read latter other (λ b. Do (done a b)))
 
@@ -154,7 +154,7 @@ module _ (told now : Told) (former : Kind) (one : List ℕ) (latter : Kind) (oth
 -- ---- a source and a certificate
 
 module _ (told now : Told) (machine : Machine) (source certificate : List ℕ) where
-  -- what is read behind the source
+  -- what is read after the source
   abbrev certificate_plan : (behind : Pair → Plan program) → Assembly → Plan program
   certificate_plan behind assembly = Read (Certificate machine) certificate (λ cert. behind (record { machine = machine; assembly = assembly; cert = cert }))
 
@@ -214,7 +214,7 @@ edits_ready told name (Err NoMemory) reads = tt
 
 module _ (told now : Told) (machine : Machine) (source certificate name : List ℕ) (kind_of : Pair → Kind) (sequel_of : (pair : Pair) → Value (kind_of pair) → Sequel)
     (pair : Pair) (first : LoadsPair told machine source certificate (Ok pair)) (same : now ≡ told) where
-  -- what is read behind the pair
+  -- what is read after the pair
   abbrev file_plan : Pair → Plan program
   file_plan p = Read (kind_of p) name (λ value. Do (JudgePair p (sequel_of p value)))
 
@@ -249,7 +249,7 @@ module _ (told : Told) (size : ℕ) where
   abbrev workload_work : Assembly → Stated → Work
   workload_work assembly cert = JudgePair (record { machine = standard_machine; assembly = assembly; cert = cert }) (CountsInstead size)
 
-  -- what is read behind the source
+  -- what is read after the source
   abbrev certificate_of_workload : Assembly → Plan program
   certificate_of_workload assembly = Take (Certificate standard_machine) workload_certificate (cert_text size) (λ cert. Do (workload_work assembly cert))
 

@@ -8,7 +8,7 @@ use Rattle.ags_program.specs.Files.{Pair}
 use Rattle.ags_program.specs.Program.{program, pair_plan}
 use Rattle.ags_program.specs.Work.{Work}
 
--- A loader's answer for a source and a certificate, whatever a plan goes on with behind them: with what it read the rest goes on, or
+-- A loader's answer for a source and a certificate, whatever a plan goes on with after them: with what it read the rest goes on, or
 -- the walk ends at one of the two.
 abbrev pub LoadsPair : (told : Told) → Machine → (source certificate : List ℕ) → Result Pair (Option (End program)) → Type 0
 LoadsPair told machine source certificate (Ok pair) = (behind : Pair → Plan program) (result : Result Work (Option (End program)))

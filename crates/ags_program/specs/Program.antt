@@ -25,7 +25,7 @@ program = record {
   cause = cause_of;
 }
 
--- what is read of a source and a certificate, in this order, and what goes on behind the two
+-- what is read of a source and a certificate, in this order, and what goes on after the two
 abbrev pub pair_plan : Machine → (source certificate : List ℕ) → (behind : Pair → Plan program) → Plan program
 pair_plan machine source certificate behind =
     Read (Source machine) source (λ assembly. Read (Certificate machine) certificate (λ cert. behind (record { machine = machine; assembly = assembly; cert = cert })))

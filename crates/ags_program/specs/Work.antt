@@ -42,8 +42,8 @@ use Rattle.ags_program.specs.declared.status.Status.TheVariants.{Done, No, BadWo
 use Rattle.ags_program.specs.Files.{Assembly, Pair}
 use Rattle.ags_program.specs.Text.{compared_line, edit_lines, met_line, scaled_line, timed_line, verdict_line, words_line, workload_line}
 
--- What stands with the verdict of a certificate for a source's words: the listing of the source before it; or behind it, where it
--- certifies, the play of a script with the certificate as its guard, or what comes of the bounds of its rows, or of scales; or behind
+-- What stands with the verdict of a certificate for a source's words: the listing of the source before it; or after it, where it
+-- certifies, the play of a script with the certificate as its guard, or what comes of the bounds of its rows, or of scales; or after
 -- it, whatever it is, what comes of edits; or nothing, and where it certifies the counts of the workload of a size stand in its place.
 pub data Sequel : Type 0 where
   ListingBefore : Sequel
@@ -107,7 +107,7 @@ abbrev pub met_status : Met → Status
 met_status Nothing = Done
 met_status met = No
 
--- The text is the line of the verdict, behind it what the commands' play shows with the certificate as its guard, and behind that,
+-- The text is the line of the verdict, after it what the commands' play shows with the certificate as its guard, and after that,
 -- where the play met a start or a word that the certificate doesn't declare, the line that says so; and this is the status of what
 -- it met.
 pub record IsGuardedPlay (machine : Machine) (image : List (Option ℕ)) (cert : Stated) (commands : List Command) (verdict : Verdict Value) (text : List ℕ) (status : Status) : Type 0 where
@@ -128,7 +128,7 @@ abbrev pub timed_status : Timed → Status
 timed_status (Within rows cases greatest) = Done
 timed_status timed = No
 
--- The text is the line of the verdict, and behind it the line of what comes of these bounds of the rows for the image, where the
+-- The text is the line of the verdict, and after it the line of what comes of these bounds of the rows for the image, where the
 -- certificate is certified; and this is the status of that.
 pub record IsBudgetJudged (machine : Machine) (image : List (Option ℕ)) (cert : Stated) (bounds : List ℕ) (verdict : Verdict Value) (text : List ℕ) (status : Status) : Type 0 where
   pub timed : Timed
@@ -141,7 +141,7 @@ abbrev pub scaled_status : Scaled → Status
 scaled_status (Agree rows cases) = Done
 scaled_status answer = No
 
--- The text is the line of the verdict, and behind it the line of what comes of these scales for the image, where the certificate is
+-- The text is the line of the verdict, and after it the line of what comes of these scales for the image, where the certificate is
 -- certified; and this is the status of that.
 pub record IsScalesJudged (machine : Machine) (image : List (Option ℕ)) (cert : Stated) (scales : Scaling) (verdict : Verdict Value) (text : List ℕ) (status : Status) : Type 0 where
   pub answer : Scaled
@@ -155,7 +155,7 @@ edits_status status [] = status
 edits_status status (Made verdict ∷ more) = edits_status (verdict_status verdict) more
 edits_status status (NotMade error ∷ more) = No
 
--- The text is the line of the verdict, and behind it a line for each of these edits, made one behind the other of the image and the
+-- The text is the line of the verdict, and after it a line for each of these edits, made one after the other of the image and the
 -- certificate, also where that is refused; and this is the status of all.
 pub record AreEditsTold (machine : Machine) (image : List (Option ℕ)) (cert : Stated) (edits : List Edit) (verdict : Verdict Value) (text : List ℕ) (status : Status) : Type 0 where
   pub told : List Told

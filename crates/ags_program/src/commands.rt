@@ -85,7 +85,7 @@ fn load_play<'a, S: Shelf>(
     })
 }
 
-/// Loads the source and the certificate of these names, in this order, for a machine, whatever is read behind them.
+/// Loads the source and the certificate of these names, in this order, for a machine, whatever is read after them.
 fn load_pair<'a, S: Shelf>(
     alloc: Global,
     machine: Machine,

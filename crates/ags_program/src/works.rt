@@ -27,15 +27,15 @@ pub struct ReadPair {
 pub enum Sequel {
     /// The listing of the source stands before it.
     ListingBefore,
-    /// Behind it, where it certifies, stands the play of a script, with the certificate as its guard.
+    /// After it, where it certifies, stands the play of a script, with the certificate as its guard.
     PlayBehind(Script),
     /// The counts of the workload of this size stand in its place, where it certifies.
     CountsInstead(u32),
-    /// Behind it, where it certifies, stands what comes of the bounds of its rows on order time.
+    /// After it, where it certifies, stands what comes of the bounds of its rows on order time.
     BudgetBehind(Budget),
-    /// Behind it, where it certifies, stands what comes of scales.
+    /// After it, where it certifies, stands what comes of scales.
     ScalesBehind(Scales),
-    /// Behind it, whatever it is, stands what comes of edits.
+    /// After it, whatever it is, stands what comes of edits.
     EditsBehind(Vec<Edit>),
 }
 

@@ -17,7 +17,7 @@ use Rattle.ags_certtype.specs.Cert.{Stated, certificate_of}
 use Rattle.ags_certtype.specs.Edit.{IsNoRow, with_row}
 use Rattle.ags_recheck.specs.Bound.{HaveCasesAt, IsMostOfRow}
 use Rattle.ags_recheck.specs.Joined.{joined}
-use Rattle.ags_recheck.specs.Places.{has_place}
+use Rattle.ags_recheck.specs.Locations.{has_location}
 use Rattle.ags_recheck.specs.Kept.{AreItemsKept, AreOthersKept, IsBook, IsBeforeEdit}
 use Rattle.ags_recheck.specs.declared.items.Item.{Item}
 use Rattle.ags_recheck.proofs.OrderLemmas.{one_more, first_fault}
@@ -26,30 +26,30 @@ use Rattle.ags_recheck.proofs.KeepingLemmas.{some_at}
 
 module _ (machine : Machine) (image : List (Option ℕ)) (stated : Stated) (items : List Item) (book : IsBook machine image stated items) where
   -- a row in place of another
-  module _ (place : ℕ) (old new : Row Value) (one other : ℕ) (inside : place < length stated.rows) (stands : get_or stated.rows place old ≡ old)
+  module _ (position : ℕ) (old new : Row Value) (one other : ℕ) (inside : position < length stated.rows) (stands : get_or stated.rows position old ≡ old)
       (one_is : one ≡ old.location) (other_is : other ≡ new.location) where
     abbrev pub After : Stated
-    After = record stated { rows = set stated.rows place new }
+    After = record stated { rows = set stated.rows position new }
 
-    row_before : (p : ℕ) (row : Row Value) → p ≢ place → get_or After.rows p row ≡ row → get_or stated.rows p row ≡ row
-    row_before p row apart is = sym (get_or-set_other stated.rows place p new row apart) ∙ is
+    row_before : (p : ℕ) (row : Row Value) → p ≢ position → get_or After.rows p row ≡ row → get_or stated.rows p row ≡ row
+    row_before p row apart is = sym (get_or-set_other stated.rows position p new row apart) ∙ is
 
     below_before : (p : ℕ) → p < length After.rows → p < length stated.rows
-    below_before p below = subst (λ (n : ℕ). p < n) (length-set stated.rows place new) below
+    below_before p below = subst (λ (n : ℕ). p < n) (length-set stated.rows position new) below
 
     -- the others are kept where their posts go to neither location
-    pub others_kept : AreOthersKept machine image After place one other items
+    pub others_kept : AreOthersKept machine image After position one other items
     others_kept p row item below row_is item_is apart no_one no_other =
-        kept_local machine image stated place old new row item.outcome item.places inside stands
-        (ap (has_place item.places) (sym one_is) ∙ no_one) (ap (has_place item.places) (sym other_is) ∙ no_other)
+        kept_local machine image stated position old new row item.outcome item.locations inside stands
+        (ap (has_location item.locations) (sym one_is) ∙ no_one) (ap (has_location item.locations) (sym other_is) ∙ no_other)
         (book.kept p row item (below_before p below) (row_before p row apart row_is) item_is)
 
     -- so the rows were before the edit
-    pub before_edit : IsBeforeEdit machine image After place one other stated.rows new items
+    pub before_edit : IsBeforeEdit machine image After position one other stated.rows new items
     before_edit = record {
-      whole = sym (length-set stated.rows place new);
-      new_stands = λ row below is. sym is ∙ get_or-set_same stated.rows place new row inside;
-      others_stand = λ p row apart. get_or-set_other stated.rows place p new row apart;
+      whole = sym (length-set stated.rows position new);
+      new_stands = λ row below is. sym is ∙ get_or-set_same stated.rows position new row inside;
+      others_stand = λ p row apart. get_or-set_other stated.rows position p new row apart;
       one_noted = λ p row item below apart row_is item_is has.
           ((book.kept p row item (below_before p below) (row_before p row apart row_is) item_is).noted one).0 has;
       other_noted = λ p row item below apart row_is item_is has.
@@ -80,7 +80,7 @@ module _ (machine : Machine) (image : List (Option ℕ)) (stated : Stated) (item
   few_of (Err fault) number more result few counted refused is =
       let same : ◌≡◌ {A = Result ℕ (Refusal Value)} (Err (refusal_of number fault)) (Ok more) = sym (refused fault refl) ∙ is in absurd cc
 
-  module _ (i number : ℕ) (place_is : number ≡ i + 1) (item : Item) (result : Result ℕ (Refusal Value)) (inside : i < length items) (item_is : item ≡ get_or items i item)
+  module _ (i number : ℕ) (position_is : number ≡ i + 1) (item : Item) (result : Result ℕ (Refusal Value)) (inside : i < length items) (item_is : item ≡ get_or items i item)
       (counted : (count : ℕ) → item.outcome ≡ Ok count → result ≡ Ok count)
       (refused : (fault : RowFault Value) → item.outcome ≡ Err fault → result ≡ Err (refusal_of number fault)) where
     below : i < length stated.rows
@@ -91,7 +91,7 @@ module _ (machine : Machine) (image : List (Option ℕ)) (stated : Stated) (item
         let row = some_at stated.rows i below in (
           row.0,
           row.1,
-          subst (λ (n : ℕ). Told n row.0 result) place_is
+          subst (λ (n : ℕ). Told n row.0 result) position_is
               (told_judged number row.0 item.outcome result counted refused (book.kept i row.0 item below row.1 (sym item_is)).judged),
         )
 

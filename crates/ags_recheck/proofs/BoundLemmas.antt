@@ -12,7 +12,7 @@ use Rattle.ags_walk.specs.Counting.{HasCases, number_with}
 use Rattle.ags_certtype.specs.Cert.{Stated}
 use Rattle.ags_certtype.specs.Edit.{with_row}
 use Rattle.ags_recheck.specs.Bound.{HaveCasesAt, IsMostOfRow}
-use Rattle.ags_recheck.specs.Places.{has_place}
+use Rattle.ags_recheck.specs.Locations.{has_location}
 use Rattle.ags_recheck.specs.Kept.{IsItemKept, IsBook}
 use Rattle.ags_recheck.specs.declared.items.Item.{Item}
 use Rattle.ags_recheck.proofs.EditLemmas.{true_false}
@@ -28,7 +28,7 @@ module _ (machine : Machine) (image : List (Option ℕ)) (stated : Stated) (item
   Decided row location = HasPostAt value_meaning machine image stated.limits row location
       ⊎ (¬ HasPostAt value_meaning machine image stated.limits row location)
 
-  by_flag : (row : Row Value) (item : Item) → IsItemKept machine image stated row item → (location : ℕ) (b : Bool) → has_place item.places location ≡ b
+  by_flag : (row : Row Value) (item : Item) → IsItemKept machine image stated row item → (location : ℕ) (b : Bool) → has_location item.locations location ≡ b
       → Decided row location
   by_flag row item kept location true is = inl ((kept.noted location).0 is)
   by_flag row item kept location false is = inr (λ has. true_false (sym ((kept.noted location).1 has) ∙ is))
@@ -36,7 +36,7 @@ module _ (machine : Machine) (image : List (Option ℕ)) (stated : Stated) (item
   decided : (i : ℕ) (row : Row Value) → i < length stated.rows → get_or stated.rows i row ≡ row → (location : ℕ) → Decided row location
   decided i row inside is location =
       let item = some_at items i (subst (λ (n : ℕ). i < n) (sym book.whole) inside) in
-      by_flag row item.0 (book.kept i row item.0 inside is item.1) location (has_place item.0.places location) refl
+      by_flag row item.0 (book.kept i row item.0 inside is item.1) location (has_location item.0.locations location) refl
 
   module _ (one other : ℕ) where
     abbrev HaveAt : List (Row Value) → ℕ → Type 0

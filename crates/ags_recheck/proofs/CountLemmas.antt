@@ -1,7 +1,6 @@
 -- How many steps it takes to judge all rows.
 use Rattle.std.proofs.Common.{◌≡◌, ℕ, zero, suc, ◌+◌, ◌<◌, ◌≤◌, refl, sym, subst, arith, List, [], ◌∷◌, length, take, get_or}
 use Rattle.std.specs.Prelude.{Option}
-use Rattle.std.proofs.lemmas.List.{take_all}
 use Rattle.ags_domain.specs.Value.{value_meaning}
 use Rattle.ags_domain.specs.declared.values.Value.{Value}
 use Rattle.ags_row.specs.Limit.{Limiting}
@@ -27,10 +26,3 @@ module _ (image : List (Option ℕ)) (limits : Limiting Value) where
       let next : i + 1 ≡ suc i = omega arith in
       let last = last_suc rows i cases row inside is (subst (λ (n : ℕ). HaveCases value_meaning image limits (take n rows) cases) next have) in
       omega (arith, before last.0 last.2, here last.1 last.3, last.4)
-
-  -- the steps at all rows
-  pub steps_all : (rows : List (Row Value)) (i old new : ℕ) → length rows ≤ i
-      → ((cases : ℕ) → HaveCases value_meaning image limits (take i rows) cases → new ≤ old + cases)
-      → (cases : ℕ) → HaveCases value_meaning image limits rows cases → new ≤ old + cases
-  steps_all rows i old new whole before cases have =
-      before cases (subst (λ (rs : List (Row Value)). HaveCases value_meaning image limits rs cases) (sym (take_all i rows whole)) have)

@@ -1,5 +1,5 @@
 mod OrderLemmas
-mod PlacesLemmas
+mod LocationsLemmas
 mod NotingLemmas
 mod RowLemmas
 mod EditLemmas

@@ -21,22 +21,22 @@ module _ {X F : Type 0} (judged : ℕ → X → Result ℕ F → Type 0) where
       → InOrder judged first (take i xs) before → judged (i + first) x one → InOrder judged first (take (suc i) xs) (joined before one)
   one_more_suc first [] i x d before one inside is so_far passes = absurd (omega (arith, inside))
   one_more_suc first (y ∷ ys) zero x d (Ok count) one inside is so_far passes =
-      let place : 0 + first ≡ first = omega arith in
+      let position : 0 + first ≡ first = omega arith in
       subst (λ (n : ℕ). InOrder judged first (y ∷ []) (joined (Ok n) one)) (sym so_far)
-      (first_one first y one (subst (λ (z : X). judged first z one) is (subst (λ (p : ℕ). judged p x one) place passes)))
+      (first_one first y one (subst (λ (z : X). judged first z one) is (subst (λ (p : ℕ). judged p x one) position passes)))
   one_more_suc first (y ∷ ys) zero x d (Err fault) one inside is so_far passes = absurd so_far
   one_more_suc first (y ∷ ys) (suc i) x d (Ok count) one inside is so_far passes =
-      let place : suc i + first ≡ i + (first + 1) = omega arith in
+      let position : suc i + first ≡ i + (first + 1) = omega arith in
       subst (λ (n : ℕ). InOrder judged first (y ∷ take (suc i) ys) (joined (Ok n) one)) (sym so_far.4)
       (in_front first y (take (suc i) ys) (Ok count) one so_far.0 so_far.1 so_far.2
-      (one_more_suc (first + 1) ys i x d (Ok so_far.1) one (omega (arith, inside)) is so_far.3 (subst (λ (p : ℕ). judged p x one) place passes)))
+      (one_more_suc (first + 1) ys i x d (Ok so_far.1) one (omega (arith, inside)) is so_far.3 (subst (λ (p : ℕ). judged p x one) position passes)))
   one_more_suc first (y ∷ ys) (suc i) x d (Err fault) one inside is (inl fails) passes = inl fails
   one_more_suc first (y ∷ ys) (suc i) x d (Err fault) one inside is (inr later) passes =
-      let place : suc i + first ≡ i + (first + 1) = omega arith in
+      let position : suc i + first ≡ i + (first + 1) = omega arith in
       inr (
         later.0,
         later.1,
-        one_more_suc (first + 1) ys i x d (Err fault) one (omega (arith, inside)) is later.2 (subst (λ (p : ℕ). judged p x one) place passes),
+        one_more_suc (first + 1) ys i x d (Err fault) one (omega (arith, inside)) is later.2 (subst (λ (p : ℕ). judged p x one) position passes),
       )
 
   -- one thing more

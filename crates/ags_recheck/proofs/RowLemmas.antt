@@ -16,7 +16,7 @@ use Rattle.ags_verdict.specs.declared.verdicts.RowFault.{RowFault}
 use Rattle.ags_verdict.specs.declared.verdicts.RowFault.TheVariants.{CodeUnknown}
 use Rattle.ags_walk.specs.Counting.{HasCases, number_with}
 use Rattle.ags_certtype.specs.Cert.{Stated, certificate_of}
-use Rattle.ags_recheck.specs.Places.{has_place}
+use Rattle.ags_recheck.specs.Locations.{has_location}
 use Rattle.ags_recheck.specs.Kept.{IsRowKept}
 use Rattle.ags_recheck.proofs.EditLemmas.{true_false}
 
@@ -34,16 +34,16 @@ module _ (machine : Machine) (image : List (Option ℕ)) (stated : Stated) (row 
 
   -- with a code
   module _ (set : WordSet) (is_code : IsCode value_meaning image stated.limits row (Some set)) (cases : List RowCase) (are : cases ≡ cases_in row set.list) where
-    pub row_kept : (outcome : Result ℕ (RowFault Value)) (places : List ℕ)
-        → InOrder (λ place c o. IsCaseJudged value_meaning (certificate_of stated) (case_in machine image stated.limits row c) o) 0 cases outcome
-        → ((location : ℕ) → (has_place places location ≡ true)
+    pub row_kept : (outcome : Result ℕ (RowFault Value)) (locations : List ℕ)
+        → InOrder (λ position c o. IsCaseJudged value_meaning (certificate_of stated) (case_in machine image stated.limits row c) o) 0 cases outcome
+        → ((location : ℕ) → (has_location locations location ≡ true)
         ↔ Any (λ c. CaseGoesTo value_meaning machine image stated.limits (case_in machine image stated.limits row c) location) cases)
-        → IfOk outcome (λ count. count ≤ 256) → IsRowKept machine image stated row outcome places
-    row_kept outcome places judged noted few = record {
+        → IfOk outcome (λ count. count ≤ 256) → IsRowKept machine image stated row outcome locations
+    row_kept outcome locations judged noted few = record {
       judged = (
         Some set,
         is_code,
-        subst (λ (cs : List RowCase). InOrder (λ place c o. IsCaseJudged value_meaning (certificate_of stated) (case_in machine image stated.limits row c) o) 0 cs outcome)
+        subst (λ (cs : List RowCase). InOrder (λ position c o. IsCaseJudged value_meaning (certificate_of stated) (case_in machine image stated.limits row c) o) 0 cs outcome)
             are judged,
       );
       noted = λ location. (
@@ -68,9 +68,9 @@ module _ (machine : Machine) (image : List (Option ℕ)) (stated : Stated) (row 
         omega (arith, is, same)
 
   -- without one
-  pub row_kept_none : IsCode value_meaning image stated.limits row None → (places : List ℕ) → ((location : ℕ) → has_place places location ≡ false)
-      → IsRowKept machine image stated row (Err CodeUnknown) places
-  row_kept_none is_code places empty = record {
+  pub row_kept_none : IsCode value_meaning image stated.limits row None → (locations : List ℕ) → ((location : ℕ) → has_location locations location ≡ false)
+      → IsRowKept machine image stated row (Err CodeUnknown) locations
+  row_kept_none is_code locations empty = record {
     judged = (None, is_code, refl);
     noted = λ location. (
       λ has. absurd (true_false (sym has ∙ empty location)),

@@ -12,7 +12,7 @@ use Rattle.ags_walk.specs.Counting.{HasCases}
 use Rattle.ags_verdict.specs.Locality.{HasPostAt}
 use Rattle.ags_certtype.specs.Cert.{Stated}
 use Rattle.ags_recheck.specs.Bound.{HaveCasesAt}
-use Rattle.ags_recheck.specs.Places.{has_place}
+use Rattle.ags_recheck.specs.Locations.{has_location}
 use Rattle.ags_recheck.specs.Kept.{IsBeforeEdit}
 use Rattle.ags_recheck.specs.declared.items.Item.{Item}
 use Rattle.ags_recheck.proofs.EditLemmas.{apart_of}
@@ -87,7 +87,7 @@ module _ (machine : Machine) (image : List (Option ℕ)) (stated : Stated) (edit
   abbrev HaveAt : List (Row Value) → ℕ → Type 0
   HaveAt = HaveCasesAt machine image stated.limits one other
 
-  -- the steps up to a place
+  -- the steps up to a position
   abbrev pub Spent : ℕ → ℕ → Type 0
   Spent i steps = (others : ℕ) → HaveAt (take i before) others → (edited < i → steps ≤ start + own + others) × (i ≤ edited → steps ≤ start + others)
 
@@ -96,7 +96,7 @@ module _ (machine : Machine) (image : List (Option ℕ)) (stated : Stated) (edit
 
   module _ (i steps after : ℕ) (row : Row Value) (item : Item) (inside : i < length stated.rows) (row_is : get_or stated.rows i row ≡ row) (item_is : get_or items i item ≡ item)
       (so_far : Spent i steps) (taken : (n : ℕ) → HasCases value_meaning image stated.limits row n → after ≤ steps + n)
-      (idle : (i == edited) ≡ false → has_place item.places one ≡ false → has_place item.places other ≡ false → after ≡ steps) where
+      (idle : (i == edited) ≡ false → has_location item.locations one ≡ false → has_location item.locations other ≡ false → after ≡ steps) where
     inside_before : i < length before
     inside_before = subst (λ (n : ℕ). i < n) (sym is_before.whole) inside
 
@@ -110,7 +110,7 @@ module _ (machine : Machine) (image : List (Option ℕ)) (stated : Stated) (edit
         let was = (so_far last.0 last.1).1 (omega (arith, same)) in
         (λ done. omega (arith, spent, was, more), λ late. omega (arith, same, late))
 
-    elsewhere : (i == edited) ≡ false → (b c : Bool) → has_place item.places one ≡ b → has_place item.places other ≡ c → Spent (i + 1) after
+    elsewhere : (i == edited) ≡ false → (b c : Bool) → has_location item.locations one ≡ b → has_location item.locations other ≡ c → Spent (i + 1) after
     elsewhere apart b c one_is other_is others have =
         let differs = apart_of i edited apart in
         let row_before : get_or before i row ≡ row = sym (is_before.others_stand i row differs) ∙ row_is in
@@ -123,7 +123,7 @@ module _ (machine : Machine) (image : List (Option ℕ)) (stated : Stated) (edit
         early done differs = ⊎_elim (λ less. less) (λ more. absurd (differs (omega (arith, done, more)))) (cases_lt edited i)
 
         by_flags : (front cases : ℕ) → Last machine image stated.limits one other row front cases → (i == edited) ≡ false
-            → (b c : Bool) → has_place item.places one ≡ b → has_place item.places other ≡ c → after + front ≤ steps + cases
+            → (b c : Bool) → has_location item.locations one ≡ b → has_location item.locations other ≡ c → after + front ≤ steps + cases
         by_flags front cases last apart true c one_is other_is = last_own machine image stated.limits one other row front cases steps after
             (inl (is_before.one_noted i row item inside (apart_of i edited apart) row_is item_is one_is)) last taken
         by_flags front cases last apart false true one_is other_is = last_own machine image stated.limits one other row front cases steps after
@@ -138,7 +138,7 @@ module _ (machine : Machine) (image : List (Option ℕ)) (stated : Stated) (edit
       where
         by : (b : Bool) → (i == edited) ≡ b → Spent (i + 1) after
         by true same = here (eqb-true i edited same)
-        by false apart = elsewhere apart (has_place item.places one) (has_place item.places other) refl refl
+        by false apart = elsewhere apart (has_location item.locations one) (has_location item.locations other) refl refl
 
   pub all_spent : (i steps others : ℕ) → length stated.rows ≤ i → Spent i steps → HaveAt before others → steps ≤ start + own + others
   all_spent i steps others whole so_far have =

@@ -84,7 +84,7 @@ module _ (limits : Limiting Value) where
   first_is : (at : At Value) (cells : List (At Value)) → ¬ Within at → All (λ other. other.address < at.address → Within other) cells
       → IsLeastOutside limits (at ∷ cells) at.address
   first_is at cells not all = record {
-    place = zero;
+    position = zero;
     inside = omega arith;
     here = λ d. refl;
     outside = λ d. not;
@@ -94,7 +94,7 @@ module _ (limits : Limiting Value) where
   later_is : (at : At Value) (cells : List (At Value)) (address : ℕ) → IsLeastOutside limits cells address → (at.address < address → Within at)
       → IsLeastOutside limits (at ∷ cells) address
   later_is at cells address is own = record {
-    place = suc is.place;
+    position = suc is.position;
     inside = omega (arith, is.inside);
     here = λ d. is.here d;
     outside = λ d. is.outside d;
@@ -121,7 +121,8 @@ module _ (limits : Limiting Value) where
   none_outside : (cells : List (At Value)) (address : ℕ) → AreCellsWithin limits cells → IsLeastOutside limits cells address → ⊥
   none_outside cells address all is =
       is.outside nothing
-      (subst (λ (n : ℕ). IsWithin value_meaning (get_or cells is.place nothing).value (cell_limit limits n)) (is.here nothing) (all is.place nothing is.inside))
+      (subst (λ (n : ℕ). IsWithin value_meaning (get_or cells is.position nothing).value (cell_limit limits n)) (is.here nothing)
+      (all is.position nothing is.inside))
     where
       nothing : At Value
       nothing = record { address = 0; value = limits.every }
@@ -129,8 +130,8 @@ module _ (limits : Limiting Value) where
   not_less : (cells : List (At Value)) (one other : ℕ) → IsLeastOutside limits cells one → IsLeastOutside limits cells other → one < other → ⊥
   not_less cells one other is least less =
       is.outside nothing
-      (subst (λ (n : ℕ). IsWithin value_meaning (get_or cells is.place nothing).value (cell_limit limits n)) (is.here nothing)
-      (least.least is.place nothing is.inside (subst (λ (n : ℕ). n < other) (sym (is.here nothing)) less)))
+      (subst (λ (n : ℕ). IsWithin value_meaning (get_or cells is.position nothing).value (cell_limit limits n)) (is.here nothing)
+      (least.least is.position nothing is.inside (subst (λ (n : ℕ). n < other) (sym (is.here nothing)) less)))
     where
       nothing : At Value
       nothing = record { address = 0; value = limits.every }

@@ -25,7 +25,7 @@ IsEdited old (edit.Word location word) (Err told) new = ⊥
 IsEdited old (edit.Limit cell) outcome new = ReplacesLimit old.cert cell outcome new.cert × ChangesCert old new
 IsEdited old (edit.Row number row) outcome new = ReplacesRow old.cert number row outcome new.cert × ChangesCert old new
 
--- What comes of edits, one behind the other.
+-- What comes of edits, one after the other.
 abbrev pub AreEdited : (old : Judging) → List Edit → List (Result Unit EditError) → (new : Judging) → Type 0
 AreEdited old [] [] new = new ≡ old
 AreEdited old (edit ∷ edits) (outcome ∷ outcomes) new =

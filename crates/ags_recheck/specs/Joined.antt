@@ -1,4 +1,4 @@
--- What comes of some things, and of one more behind them.
+-- What comes of some things, and of one more after them.
 use Rattle.std.specs.Prelude.{ℕ, ◌+◌, Result, Ok, Err}
 
 -- the counts together, or the first fault

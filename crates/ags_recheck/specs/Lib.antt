@@ -4,6 +4,6 @@ pub mod Bound
 pub mod Told
 pub mod ToldText
 -- what serves inside
-pub mod Places
+pub mod Locations
 pub mod Joined
 pub mod Kept

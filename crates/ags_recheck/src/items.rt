@@ -3,23 +3,21 @@
 ghost use Rattle.std.specs.Prelude.{◌≡◌, ◌+◌, ◌<◌, ◌≤◌, ℕ, Ok, Err, false, IfOk, length};
 ghost use Rattle.ags_domain.specs.Value.{value_meaning};
 ghost use Rattle.ags_domain.specs.declared.values.Value.{Value};
-ghost use Rattle.ags_verdict.specs.Fault.{refusal_of, refusal_of_stop};
+ghost use Rattle.ags_verdict.specs.Fault.{refusal_of};
 ghost use Rattle.ags_verdict.specs.declared.verdicts.RowFault.{RowFault};
 ghost use Rattle.ags_walk.specs.Counting.{HasCases};
-ghost use Rattle.ags_recheck.specs.Places.{has_place};
+ghost use Rattle.ags_recheck.specs.Locations.{has_location};
 ghost use Rattle.ags_recheck.specs.Kept.{IsItemKept};
 
+use crate::locations::Locations;
 use crate::noting::row_noted;
-use crate::places::Places;
 use ags_certtype::Cert;
-use ags_check::{Refusal, RowFault};
+use ags_check::{Refusal, RowFault, refusal_of};
 use ags_domain::Value;
 use ags_image::Image;
 use ags_ports::Machine;
 use ags_row::Row;
 use ags_steps::Steps;
-use ags_transfer::Stop;
-use ags_word::Word;
 use std::alloc::{AllocError, Global};
 use std::sync::ledger::Ledger;
 
@@ -29,7 +27,7 @@ pub struct Item {
     /// What comes of the row.
     pub(crate) outcome: Result<u64, RowFault>,
     /// The locations of its posts.
-    pub(crate) places: Places,
+    pub(crate) locations: Locations,
 }
 
 impl Item {
@@ -45,18 +43,18 @@ impl Item {
         ensures kept { IsItemKept machine.now image.now cert.now row.now self.new }
         ensures steps { (cases : ℕ) → HasCases value_meaning image.now cert.now.limits row.now cases → steps.new ≤ steps.old + cases }
     {
-        self.outcome = row_noted(machine, image, cert, row, &mut self.places, steps);
+        self.outcome = row_noted(machine, image, cert, row, &mut self.locations, steps);
     }
 
     /// Whether a post of the row goes to one of two locations.
     pub(crate) fn has_one(&self, one: u16, other: u16) -> bool
         requires one { one < 4096 }
         requires other { other < 4096 }
-        ensures none { result ≡ false → has_place self.now.places one ≡ false }
-        ensures neither { result ≡ false → has_place self.now.places other ≡ false }
-        ensures both { has_place self.now.places one ≡ false → has_place self.now.places other ≡ false → result ≡ false }
+        ensures none { result ≡ false → has_location self.now.locations one ≡ false }
+        ensures neither { result ≡ false → has_location self.now.locations other ≡ false }
+        ensures both { has_location self.now.locations one ≡ false → has_location self.now.locations other ≡ false → result ≡ false }
     {
-        self.places.has(one) || self.places.has(other)
+        self.locations.has(one) || self.locations.has(other)
     }
 }
 
@@ -68,59 +66,10 @@ pub(crate) fn room_for(alloc: Global, count: usize) -> Result<Vec<Item>, AllocEr
     for _ in 0..count {
         items.push(Item {
             outcome: Ok(0),
-            places: Places::new(),
+            locations: Locations::new(),
         })?;
     }
     Ok(items)
-}
-
-/// The refusal that tells a stop.
-fn refusal_of_stop(row: u32, word: Word, stop: &Stop<Value>) -> Refusal
-    ensures { result ≡ refusal_of_stop row word stop.now }
-{
-    match stop {
-        Stop::NoOrder => Refusal::NoOrder { row, word },
-        Stop::BadPort => Refusal::BadPort { row, word },
-        Stop::FixedWrite { address } => Refusal::FixedWrite {
-            row,
-            word,
-            address: *address,
-        },
-        Stop::MayOverflow(operands) => Refusal::MayOverflow {
-            row,
-            word,
-            operands: *operands,
-        },
-        Stop::CellRange { address, value } => Refusal::CellRange {
-            row,
-            word,
-            address: *address,
-            value: *value,
-        },
-        Stop::OutputRange { address, value } => Refusal::OutputRange {
-            row,
-            word,
-            address: *address,
-            value: *value,
-        },
-    }
-}
-
-/// The refusal that tells what fails in a row.
-fn refusal_of(row: u32, fault: &RowFault) -> Refusal
-    ensures { result ≡ refusal_of row fault.now }
-{
-    match fault {
-        RowFault::CodeUnknown => Refusal::CodeUnknown { row },
-        RowFault::Stops { word, stop } => refusal_of_stop(row, *word, stop),
-        RowFault::NotCovered { word, x, v, next } => Refusal::NotCovered {
-            row,
-            word: *word,
-            x: *x,
-            v: *v,
-            next: *next,
-        },
-    }
 }
 
 /// What is kept of a row, told by its number.

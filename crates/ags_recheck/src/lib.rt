@@ -9,8 +9,8 @@ mod books;
 mod items;
 mod joining;
 pub mod laws;
+mod locations;
 mod noting;
-mod places;
 mod rejudging;
 mod telling;
 

@@ -9,11 +9,11 @@ ghost use Rattle.ags_verdict.specs.Locality.{GoesTo, OneGoesTo, CaseGoesTo};
 ghost use Rattle.ags_verdict.specs.RowCase.{case_in};
 ghost use Rattle.ags_walk.specs.Counting.{HasCases};
 ghost use Rattle.ags_certtype.specs.Cert.{certificate_of};
-ghost use Rattle.ags_recheck.specs.Places.{has_place};
+ghost use Rattle.ags_recheck.specs.Locations.{has_location};
 ghost use Rattle.ags_recheck.specs.Kept.{IsRowKept};
 
 use crate::joining::join;
-use crate::places::Places;
+use crate::locations::Locations;
 use ags_certtype::Cert;
 use ags_check::{RowFault, first_uncovered};
 use ags_domain::Value;
@@ -28,22 +28,22 @@ use ags_walk::{OneCase, cases_of};
 use std::sync::ledger::Ledger;
 
 /// Notes where a post goes, if it is there.
-fn note(places: &mut Places, post: &Option<Post<Value>>)
+fn note(locations: &mut Locations, post: &Option<Post<Value>>)
     requires { IfSome post.now (λ p. p.next < 4096) }
-    ensures { (location : ℕ) → (has_place places.new location ≡ true) ↔ ((has_place places.old location ≡ true) ⊎ GoesTo post.now location) }
+    ensures { (location : ℕ) → (has_location locations.new location ≡ true) ↔ ((has_location locations.old location ≡ true) ⊎ GoesTo post.now location) }
 {
     if let Some(post) = post {
-        places.note(post.next);
+        locations.note(post.next);
     }
 }
 
 /// Notes where the posts of a case go.
-fn note_pair(places: &mut Places, pair: &PostPair<Value>)
+fn note_pair(locations: &mut Locations, pair: &PostPair<Value>)
     requires { GoWithin pair.now }
-    ensures { (location : ℕ) → (has_place places.new location ≡ true) ↔ ((has_place places.old location ≡ true) ⊎ OneGoesTo pair.now location) }
+    ensures { (location : ℕ) → (has_location locations.new location ≡ true) ↔ ((has_location locations.old location ≡ true) ⊎ OneGoesTo pair.now location) }
 {
-    note(places, &pair.first);
-    note(places, &pair.second);
+    note(locations, &pair.first);
+    note(locations, &pair.second);
 }
 
 /// A case counts once, or fails; and where its posts go is noted.
@@ -53,11 +53,11 @@ fn case_noted<L: Ledger>(
     cert: &Cert,
     row: &Row<Value>,
     case: OneCase,
-    places: &mut Places,
+    locations: &mut Locations,
     steps: &mut Steps<L>,
 ) -> Result<u64, RowFault>
     ensures judged { IsCaseJudged value_meaning (certificate_of cert.now) (case_in machine.now image.now cert.now.limits row.now case) result }
-    ensures noted { (location : ℕ) → (has_place places.new location ≡ true) ↔ ((has_place places.old location ≡ true)
+    ensures noted { (location : ℕ) → (has_location locations.new location ≡ true) ↔ ((has_location locations.old location ≡ true)
         ⊎ CaseGoesTo value_meaning machine.now image.now cert.now.limits (case_in machine.now image.now cert.now.limits row.now case) location) }
     ensures once { IfOk result (λ count. count ≡ 1) }
     ensures step { steps.new ≡ steps.old + 1 }
@@ -83,7 +83,7 @@ fn case_noted<L: Ledger>(
         &mut pair,
     ) {
         Ok(()) => {
-            note_pair(places, &pair);
+            note_pair(locations, &pair);
             match first_uncovered(cert, row, &pair) {
                 Some(next) => Err(RowFault::NotCovered { word, x, v, next }),
                 None => Ok(1),
@@ -100,21 +100,21 @@ fn cases_noted<L: Ledger>(
     cert: &Cert,
     row: &Row<Value>,
     cases: &[OneCase],
-    places: &mut Places,
+    locations: &mut Locations,
     steps: &mut Steps<L>,
 ) -> Result<u64, RowFault>
     requires few { length cases.now ≤ 256 }
-    requires empty { (location : ℕ) → has_place places.old location ≡ false }
-    ensures judged { InOrder (λ place c o. IsCaseJudged value_meaning (certificate_of cert.now)
+    requires empty { (location : ℕ) → has_location locations.old location ≡ false }
+    ensures judged { InOrder (λ position c o. IsCaseJudged value_meaning (certificate_of cert.now)
         (case_in machine.now image.now cert.now.limits row.now c) o) 0 cases.now result }
-    ensures noted { (location : ℕ) → (has_place places.new location ≡ true)
+    ensures noted { (location : ℕ) → (has_location locations.new location ≡ true)
         ↔ Any (λ c. CaseGoesTo value_meaning machine.now image.now cert.now.limits (case_in machine.now image.now cert.now.limits row.now c) location) cases.now }
     ensures counted { IfOk result (λ count. count ≤ 256) }
     ensures steps { steps.new ≡ steps.old + length cases.now }
 {
     let mut outcome: Result<u64, RowFault> = Ok(0);
     for case in cases {
-        let one = case_noted(machine, image, cert, row, *case, places, steps);
+        let one = case_noted(machine, image, cert, row, *case, locations, steps);
         outcome = join(outcome, one);
     }
     outcome
@@ -126,14 +126,14 @@ pub(crate) fn row_noted<L: Ledger>(
     image: &Image,
     cert: &Cert,
     row: &Row<Value>,
-    places: &mut Places,
+    locations: &mut Locations,
     steps: &mut Steps<L>,
 ) -> Result<u64, RowFault>
-    ensures kept { IsRowKept machine.now image.now cert.now row.now result places.new }
+    ensures kept { IsRowKept machine.now image.now cert.now row.now result locations.new }
     ensures steps { (cases : ℕ) → HasCases value_meaning image.now cert.now.limits row.now cases → steps.new ≤ steps.old + cases }
 {
     code_has_the_word_of_each_state::<Value>();
-    places.clear();
+    locations.clear();
     match code(image, cert.limits(), row) {
         Some(set) => cases_noted(
             machine,
@@ -141,7 +141,7 @@ pub(crate) fn row_noted<L: Ledger>(
             cert,
             row,
             cases_of(row, set.words()).as_slice(),
-            places,
+            locations,
             steps,
         ),
         None => Err(RowFault::CodeUnknown),

@@ -6,7 +6,7 @@ ghost use Rattle.ags_domain.specs.declared.values.Value.{Value};
 ghost use Rattle.ags_row.specs.declared.rows.Row.{Row};
 ghost use Rattle.ags_walk.specs.Counting.{HasCases, HaveCases};
 ghost use Rattle.ags_recheck.specs.Bound.{HaveCasesAt};
-ghost use Rattle.ags_recheck.specs.Places.{has_place};
+ghost use Rattle.ags_recheck.specs.Locations.{has_location};
 ghost use Rattle.ags_recheck.specs.Kept.{IsItemKept, AreItemsKept, AreOthersKept, IsBeforeEdit};
 
 use crate::items::Item;
@@ -32,8 +32,8 @@ pub(crate) fn judge_all<L: Ledger>(
     ensures steps { (cases : ℕ) → HaveCases value_meaning image.now cert.now.limits cert.now.rows cases → steps.new ≤ steps.old + cases }
 {
     let rows = cert.rows();
-    for place in 0..rows.len() {
-        items[place].judge(machine, image, cert, &rows[place], steps);
+    for position in 0..rows.len() {
+        items[position].judge(machine, image, cert, &rows[position], steps);
     }
 }
 
@@ -51,11 +51,11 @@ fn judge_if<L: Ledger>(
 )
     requires one { one < 4096 }
     requires other { other < 4096 }
-    requires kept { edited ≡ false → has_place item.old.places one ≡ false → has_place item.old.places other ≡ false
+    requires kept { edited ≡ false → has_location item.old.locations one ≡ false → has_location item.old.locations other ≡ false
         → IsItemKept machine.now image.now cert.now row.now item.old }
     ensures kept { IsItemKept machine.now image.now cert.now row.now item.new }
     ensures steps { (cases : ℕ) → HasCases value_meaning image.now cert.now.limits row.now cases → steps.new ≤ steps.old + cases }
-    ensures idle { edited ≡ false → has_place item.old.places one ≡ false → has_place item.old.places other ≡ false → steps.new ≡ steps.old }
+    ensures idle { edited ≡ false → has_location item.old.locations one ≡ false → has_location item.old.locations other ≡ false → steps.new ≡ steps.old }
 {
     if edited {
         item.judge(machine, image, cert, row, steps);
@@ -64,7 +64,7 @@ fn judge_if<L: Ledger>(
     }
 }
 
-/// After an edit of the row at a place, that row and those with a post at one of two locations are judged again.
+/// After an edit of the row at a position, that row and those with a post at one of two locations are judged again.
 pub(crate) fn rejudge<L: Ledger>(
     machine: &Machine,
     image: &Image,
@@ -87,14 +87,14 @@ pub(crate) fn rejudge<L: Ledger>(
         → HaveCasesAt machine.now image.now cert.now.limits one other before others → steps.new ≤ steps.old + own + others }
 {
     let rows = cert.rows();
-    for place in 0..rows.len() {
+    for position in 0..rows.len() {
         judge_if(
             machine,
             image,
             cert,
-            &rows[place],
-            &mut items[place],
-            place == edited,
+            &rows[position],
+            &mut items[position],
+            position == edited,
             one,
             other,
             steps,

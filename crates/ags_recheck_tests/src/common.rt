@@ -104,7 +104,7 @@ pub(crate) fn expect_verdict<L: Ledger>(
     assert!(rt; fresh == *wanted, "{fresh}");
 }
 
-/// Makes an edit, and asserts the verdict behind it.
+/// Makes an edit, and asserts the verdict after it.
 pub(crate) fn expect_edit<L: Ledger>(
     rt: &impl Abort,
     book: &mut Book,

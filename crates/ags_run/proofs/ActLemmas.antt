@@ -19,7 +19,7 @@ use Rattle.ags_ports.specs.declared.events.Event.TheVariants as event
 use Rattle.ags_ports.specs.declared.events.Done.{Done}
 use Rattle.ags_ports.specs.declared.events.Stored.{Stored}
 use Rattle.ags_ports.specs.declared.machines.Machine.{Machine}
-use Rattle.ags_ports.specs.Port.{place_of}
+use Rattle.ags_ports.specs.Port.{position_of}
 use Rattle.ags_ports.specs.Run.{Moment, Run, last_state}
 use Rattle.ags_ports.specs.State.{State}
 use Rattle.ags_ports.specs.Step.{Steps, idle_report}
@@ -40,16 +40,16 @@ neither : (same there : Bool) (digit : ℕ) → there ≡ false → None ≡ (if
 neither true there digit is = rw is refl
 neither false there digit is = refl
 
-heard_there : (machine : Machine) (there : Bool) (gave : Option Stored) → is_some (place_of machine.ports.outputs machine.deda_out) ≡ there
+heard_there : (machine : Machine) (there : Bool) (gave : Option Stored) → is_some (position_of machine.ports.outputs machine.deda_out) ≡ there
     → heard (if there then Some machine.deda_out else None) gave ≡ digit_given machine gave
 heard_there machine true None is = refl
 heard_there machine false None is = refl
-heard_there machine true (Some gave) is = both (gave.address == machine.deda_out) (is_some (place_of machine.ports.outputs machine.deda_out)) (gave.word % 16) is
-heard_there machine false (Some gave) is = neither (gave.address == machine.deda_out) (is_some (place_of machine.ports.outputs machine.deda_out)) (gave.word % 16) is
+heard_there machine true (Some gave) is = both (gave.address == machine.deda_out) (is_some (position_of machine.ports.outputs machine.deda_out)) (gave.word % 16) is
+heard_there machine false (Some gave) is = neither (gave.address == machine.deda_out) (is_some (position_of machine.ports.outputs machine.deda_out)) (gave.word % 16) is
 
 -- a panel that listens where the machine has its register hears what the definition gives it
 heard_given : (machine : Machine) (address : Option ℕ) (gave : Option Stored) → address ≡ listening machine → heard address gave ≡ digit_given machine gave
-heard_given machine address gave is = ap (λ (a : Option ℕ). heard a gave) is ∙ heard_there machine (is_some (place_of machine.ports.outputs machine.deda_out)) gave refl
+heard_given machine address gave is = ap (λ (a : Option ℕ). heard a gave) is ∙ heard_there machine (is_some (position_of machine.ports.outputs machine.deda_out)) gave refl
 
 pub seen_address : (moments : List Moment) (old new : Listener) → LooksAt Hears old moments new → new.address ≡ old.address
 seen_address [] old new p = ap (λ (l : Listener). l.address) p

@@ -1,6 +1,6 @@
--- So many cycles, one behind another. The proofs of `cycling` cite:
+-- So many cycles, one after another. The proofs of `cycling` cite:
 --     one_cycle, one_stopped           one cycle
---     cycles_more, cycles_stopped      a cycle behind those before it
+--     cycles_more, cycles_stopped      a cycle after those before it
 use Rattle.std.proofs.Common.{◌≡◌, ℕ, zero, suc, ◌+◌, ◌-◌, ◌<◌, List, [], ◌∷◌, ◌++◌, refl, ap, subst, ◌∙◌, arith}
 use Rattle.std.specs.Prelude.{Option, Some, None}
 use Rattle.ags_play.specs.Act.{Act, FeedsWhereZero, Pulses, RunsCycle, cycles}
@@ -20,7 +20,7 @@ cycles_end (suc count) = ap (λ (acts : List Act). FeedsWhereZero ∷ Pulses ∷
 cycles_next : (count : ℕ) → cycles count ++ one ≡ cycles (count + 1)
 cycles_next count = let next : suc count ≡ count + 1 = omega arith in cycles_end count ∙ ap cycles next
 
--- cycles are those before one of them, that one, and those behind it
+-- cycles are those before one of them, that one, and those after it
 cycles_cut : (early late : ℕ) → cycles early ++ (one ++ cycles late) ≡ cycles (suc (early + late))
 cycles_cut zero late = let same : suc late ≡ suc (0 + late) = omega arith in ap cycles same
 cycles_cut (suc early) late =

@@ -1,8 +1,8 @@
--- Acts that were played one behind another. The proofs of the player's methods cite:
+-- Acts that were played one after another. The proofs of the player's methods cite:
 --     none_played, made_played, plain_played, under_played     no act, and one
---     played_on            acts were played behind acts
---     part_on              of acts behind those that were played a part was printed
---     stopped_before, part_before     others would have come behind them
+--     played_on            acts were played after acts
+--     part_on              of acts after those that were played a part was printed
+--     stopped_before, part_before     others would have come after them
 --     none_stopped         an act that puts no word is let through
 --     act_in_part          of an act that puts no word a part was printed
 --     keeps_same, is_machine     the machine and the guard are the same
@@ -185,7 +185,7 @@ under_played act told before after met shows_none p = record {
   played = λ b stands. act_met before.machine.now (guard_in before) b act told before.bench after.bench (option_map put_of met) (shows_none b) (p.by_guard b stands);
 }
 
--- ---- acts behind acts
+-- ---- acts after acts
 
 module _ (first second : List Act) where
   pub played_on : (old mid new : Option (List ℕ)) (before between after : Player) (met : Option StoppedWord) → PlayedActs first old mid before between None

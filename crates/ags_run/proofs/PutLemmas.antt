@@ -18,8 +18,8 @@ use Rattle.ags_ports.specs.declared.machines.Machine.{Machine}
 use Rattle.ags_ports.specs.declared.registers.Port.{Port}
 use Rattle.ags_ports.specs.State.{State}
 use Rattle.ags_ports.specs.Step.{Steps}
-use Rattle.ags_ports.specs.Port.{AreRegisters, place_of, held_port}
-use Rattle.ags_ports.proofs.PortLemmas.{place_of-some}
+use Rattle.ags_ports.specs.Port.{AreRegisters, position_of, held_port}
+use Rattle.ags_ports.proofs.PortLemmas.{position_of-some}
 use Rattle.ags_safe.specs.Certificate.{Certificate}
 use Rattle.ags_run.specs.declared.benches.Bench.{Bench}
 use Rattle.ags_run.specs.declared.listeners.Listener.{Listener}
@@ -29,10 +29,10 @@ use Rattle.ags_run.specs.Standing.{StandsAs}
 use Rattle.ags_run.proofs.ActLemmas.{at_stood, idle_panel, counted_none}
 use Rattle.ags_run.proofs.JoinLemmas.{none_stopped, none_counted}
 
-pub registers_below : (ports : List Port) (address place : ℕ) → AreRegisters ports → place_of ports address ≡ Some place → address < 4096
-registers_below ports address place are found =
-    let at = place_of-some ports address place (held_port 0) found in
-    subst (λ (n : ℕ). n < 4096) at.1 (are.below place (held_port 0) at.0)
+pub registers_below : (ports : List Port) (address position : ℕ) → AreRegisters ports → position_of ports address ≡ Some position → address < 4096
+registers_below ports address position are found =
+    let at = position_of-some ports address position (held_port 0) found in
+    subst (λ (n : ℕ). n < 4096) at.1 (are.below position (held_port 0) at.0)
 
 module _ (machine : Machine) (guard : Option (Certificate Value)) where
   put_panel : (address word : ℕ) (before after : Bench) (happenings : List Happening) (p : WordPut machine address word before after) → StandsFor before.listener.panel happenings

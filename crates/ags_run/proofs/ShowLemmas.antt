@@ -10,7 +10,7 @@ use Rattle.ags_play.specs.Act.{Act, ShowsReg, ShowsCell, ShowsOut, ShowsDeda}
 use Rattle.ags_play.specs.Bench as play
 use Rattle.ags_play.specs.Doing.{Makes, put_by, bench_after, shown_text, deda_text}
 use Rattle.ags_play.specs.Shown.{reg_text, cell_text, output_text}
-use Rattle.ags_ports.specs.Port.{place_of, register_at}
+use Rattle.ags_ports.specs.Port.{position_of, register_at}
 use Rattle.ags_ports.specs.State.{cell}
 use Rattle.ags_run.specs.declared.players.Player.{Player}
 use Rattle.ags_run.specs.Playing.{guard_in, Acted, PlayedActs, InPart}
@@ -65,7 +65,7 @@ module _ (player : Player) where
     text_is = λ b stands. at_stood (λ (x : play.Bench). line ++ codes "\n" ≡ shown_text player.machine.now x (ShowsCell address)) player.bench b stands (ap (λ (t : List ℕ). t ++ codes "\n") is);
   }
 
-  pub out_shown : (address : ℕ) (line : List ℕ) → line ≡ output_text address (register_at player.bench.core.outputs (place_of player.machine.now.ports.outputs address))
+  pub out_shown : (address : ℕ) (line : List ℕ) → line ≡ output_text address (register_at player.bench.core.outputs (position_of player.machine.now.ports.outputs address))
       → IsShown (ShowsOut address) (line ++ codes "\n")
   out_shown address line is = record {
     puts_none = λ b. refl;

@@ -6,12 +6,12 @@ use Rattle.ags_play.specs.Doing.{with_shown}
 use Rattle.ags_ports.specs.declared.events.Done.{Done}
 use Rattle.ags_ports.specs.declared.events.Stored.{Stored}
 use Rattle.ags_ports.specs.declared.machines.Machine.{Machine}
-use Rattle.ags_ports.specs.Port.{place_of}
+use Rattle.ags_ports.specs.Port.{position_of}
 use Rattle.ags_run.specs.declared.listeners.Listener.{Listener}
 
 -- where the panel listens: at the output register of the machine that it is connected to, and nowhere where there is none
 abbrev pub listening : Machine → Option ℕ
-listening machine = if is_some (place_of machine.ports.outputs machine.deda_out) then Some machine.deda_out else None
+listening machine = if is_some (position_of machine.ports.outputs machine.deda_out) then Some machine.deda_out else None
 
 -- the digit that a word given to a register shows to a panel that listens there
 abbrev pub heard : (address : Option ℕ) (gave : Option Stored) → Option ℕ

@@ -58,29 +58,29 @@ fn find_cell(image: &Image, cert: &Cert, core: &Core) -> Option<u16>
     None
 }
 
-/// Whether the input register at a place begins with a word of its limit.
-fn is_input_inside(machine: &Machine, cert: &Cert, core: &Core, place: usize) -> bool
-    requires inside { place < length machine.now.ports.inputs }
+/// Whether the input register at a position begins with a word of its limit.
+fn is_input_inside(machine: &Machine, cert: &Cert, core: &Core, position: usize) -> bool
+    requires inside { position < length machine.now.ports.inputs }
     requires registers { length core.now.inputs ≡ length machine.now.ports.inputs }
     ensures { IsTrue result
-        ↔ IsInputInside (certificate_of cert.now) core.now ((slice_index_or machine.now.ports.inputs place (held_port 0)).address) place }
+        ↔ IsInputInside (certificate_of cert.now) core.now ((slice_index_or machine.now.ports.inputs position (held_port 0)).address) position }
 {
-    let address = machine.ports.inputs()[place].address;
-    cert.limits().input(address).holds(core.input(place))
+    let address = machine.ports.inputs()[position].address;
+    cert.limits().input(address).holds(core.input(position))
 }
 
-/// The place in the machine's table of the first input register that is outside.
+/// The position in the machine's table of the first input register that is outside.
 fn find_input(machine: &Machine, cert: &Cert, core: &Core) -> Option<usize>
     requires { length core.now.inputs ≡ length machine.now.ports.inputs }
-    ensures inside { IfSome result (λ place. place < length machine.now.ports.inputs) }
+    ensures inside { IfSome result (λ position. position < length machine.now.ports.inputs) }
     ensures earlier { IfSome result (AreInputsInside machine.now (certificate_of cert.now) core.now) }
-    ensures outside { IfSome result (λ place.
-        ¬ IsInputInside (certificate_of cert.now) core.now ((slice_index_or machine.now.ports.inputs place (held_port 0)).address) place) }
+    ensures outside { IfSome result (λ position.
+        ¬ IsInputInside (certificate_of cert.now) core.now ((slice_index_or machine.now.ports.inputs position (held_port 0)).address) position) }
     ensures none { result ≡ None → AreInputsHeld value_meaning machine.now (certificate_of cert.now).limits core.now }
 {
-    for place in 0..machine.ports.inputs().len() {
-        if !is_input_inside(machine, cert, core, place) {
-            return Some(place);
+    for position in 0..machine.ports.inputs().len() {
+        if !is_input_inside(machine, cert, core, position) {
+            return Some(position);
         }
     }
     None
@@ -96,11 +96,11 @@ fn find_word(machine: &Machine, image: &Image, cert: &Cert, core: &Core) -> Opti
         let word = core.cell(address);
         return Some(Outside::Cell { address, word });
     }
-    let Some(place) = find_input(machine, cert, core) else {
+    let Some(position) = find_input(machine, cert, core) else {
         return None;
     };
-    let address = machine.ports.inputs()[place].address;
-    let word = core.input(place);
+    let address = machine.ports.inputs()[position].address;
+    let word = core.input(position);
     Some(Outside::Port { address, word })
 }
 

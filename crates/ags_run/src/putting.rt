@@ -53,7 +53,7 @@ impl<'a> Player<'a> {
         ensures { result ≡ doing.wants_digit self.now.machine.now self.now.bench.core }
     {
         match self.machine.ports.find_input(self.machine.deda_in) {
-            Some(place) => self.bench.core.input(place).number() == 0,
+            Some(position) => self.bench.core.input(position).number() == 0,
             None => false,
         }
     }

@@ -8,7 +8,7 @@ ghost use Rattle.ags_outside.specs.Send.{is_write_fault};
 ghost use Rattle.ags_outside.specs.Sink.{appended, WroteFront};
 ghost use Rattle.ags_play.specs.Act as act;
 ghost use Rattle.ags_play.specs.Doing.{deda_text};
-ghost use Rattle.ags_ports.specs.Port.{place_of, register_at};
+ghost use Rattle.ags_ports.specs.Port.{position_of, register_at};
 ghost use Rattle.ags_run.specs.Playing.{PlayedActs, InPart};
 
 use crate::players::Player;
@@ -36,10 +36,10 @@ fn deda_line(panel: &Panel) -> ArrayVec<u8, 17>
 /// The word of the output register at an address, and 0 where there is none.
 pub fn output_at(machine: &Machine, core: &Core, address: u16) -> Word
     requires { length core.now.outputs ≡ length machine.now.ports.outputs }
-    ensures { result ≡ register_at core.now.outputs (place_of machine.now.ports.outputs address) }
+    ensures { result ≡ register_at core.now.outputs (position_of machine.now.ports.outputs address) }
 {
     match machine.ports.find_output(address) {
-        Some(place) => core.output(place),
+        Some(position) => core.output(position),
         None => Word::ZERO,
     }
 }

@@ -74,8 +74,8 @@ fn set_by(machine: &Machine, core: &mut Core, command: Command)
     match command {
         Command::Cell { address, word } => core.set_cell(address, word),
         Command::Port { address, word } => {
-            if let Some(place) = machine.ports.find_input(address) {
-                core.set_input(place, word);
+            if let Some(position) = machine.ports.find_input(address) {
+                core.set_input(position, word);
             }
         }
         _ => {}

@@ -11,9 +11,9 @@ use Rattle.ags_image.specs.Image.{IsImage, entry_at, word_at}
 use Rattle.ags_ports.specs.declared.registers.Port.{Port}
 use Rattle.ags_ports.specs.declared.events.Phase.TheVariants.{Running}
 use Rattle.ags_ports.specs.declared.machines.Machine.{Machine}
-use Rattle.ags_ports.specs.Port.{place_of, held_port}
+use Rattle.ags_ports.specs.Port.{position_of, held_port}
 use Rattle.ags_ports.specs.State.{State}
-use Rattle.ags_ports.proofs.PortLemmas.{place_of-some}
+use Rattle.ags_ports.proofs.PortLemmas.{position_of-some}
 use Rattle.ags_row.specs.Limit.{input_limit}
 use Rattle.ags_safe.specs.Certificate.{Certificate, IsCertificate}
 use Rattle.ags_safe.specs.Start.{IsFirstWord, IsStart}
@@ -59,15 +59,15 @@ module _ {D : Type 0} (meaning : Meaning D) (lawful : IsMeaning D meaning) (mach
   abbrev input_words : List ℕ
   input_words = map input_word machine.ports.inputs
 
-  input_read : (place : ℕ) (d : ℕ) → place < length machine.ports.inputs → get_or input_words place d ≡ input_word (get_or machine.ports.inputs place (held_port 0))
-  input_read place d inside = get_or-map input_word machine.ports.inputs place (held_port 0) d inside
+  input_read : (position : ℕ) (d : ℕ) → position < length machine.ports.inputs → get_or input_words position d ≡ input_word (get_or machine.ports.inputs position (held_port 0))
+  input_read position d inside = get_or-map input_word machine.ports.inputs position (held_port 0) d inside
 
-  input_held : (address place : ℕ) → place_of machine.ports.inputs address ≡ Some place
-      → meaning.held (input_limit cert.limits address) (get_or input_words place 0) ≡ true
-  input_held address place found =
-      let port = get_or machine.ports.inputs place (held_port 0) in
-      let at = place_of-some machine.ports.inputs address place (held_port 0) found in
-      subst (λ (w : ℕ). meaning.held (input_limit cert.limits address) w ≡ true) (sym (input_read place 0 at.0))
+  input_held : (address position : ℕ) → position_of machine.ports.inputs address ≡ Some position
+      → meaning.held (input_limit cert.limits address) (get_or input_words position 0) ≡ true
+  input_held address position found =
+      let port = get_or machine.ports.inputs position (held_port 0) in
+      let at = position_of-some machine.ports.inputs address position (held_port 0) found in
+      subst (λ (w : ℕ). meaning.held (input_limit cert.limits address) w ≡ true) (sym (input_read position 0 at.0))
       (subst (λ (n : ℕ). meaning.held (input_limit cert.limits n) (input_word port) ≡ true) at.1 (lawful.least_held (input_limit cert.limits port.address)))
 
   input_below : All (λ word. word < 2 ^ 18) input_words

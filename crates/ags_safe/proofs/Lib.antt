@@ -1,4 +1,5 @@
 pub mod RegisterLemmas
+pub mod StartRowLemmas
 pub mod StartLemmas
 pub mod StepLemmas
 pub mod RunLemmas

@@ -10,14 +10,14 @@ use Rattle.ags_ports.specs.declared.events.Done.{Done}
 use Rattle.ags_ports.specs.declared.events.Stored.{Stored}
 use Rattle.ags_ports.specs.declared.machines.Machine.{Machine}
 use Rattle.ags_ports.specs.Machine.{IsMachine}
-use Rattle.ags_ports.specs.Port.{place_of, set_at}
+use Rattle.ags_ports.specs.Port.{position_of, set_at}
 use Rattle.ags_ports.specs.State.{State, IsState, word_here}
 use Rattle.ags_ports.specs.Change.{inputs_after_take, outputs_after_give}
 use Rattle.ags_ports.specs.Step.{IsEvent, Steps, StepsIn, NamesNone, idle_report, phase_after_pulse}
 use Rattle.ags_ports.specs.Run.{Moment}
 use Rattle.ags_ports.proofs.StateLemmas.{step_keeps}
 use Rattle.ags_ports.proofs.HaltLemmas.{no_order_halts, halted_at_no_order}
-use Rattle.ags_ports.proofs.ChangeLemmas.{inputs_told, outputs_told, place_told}
+use Rattle.ags_ports.proofs.ChangeLemmas.{inputs_told, outputs_told, here_told}
 use Rattle.ags_row.specs.Limit.{input_limit, output_limit}
 use Rattle.ags_row.specs.declared.posts.Post.{Post}
 use Rattle.ags_row.specs.declared.rows.Row.{Row}
@@ -95,8 +95,8 @@ module _ {D : Type 0} (meaning : Meaning D) (machine : Machine) (image : List (O
     ran = λ ran. absurd (differ (sym (ap (λ (r : Done). r.ran) told) ∙ ran));
     order = λ is running none. never is running;
     stored = subst (λ (r : Done). IfSome r.stored (λ stored. stored.address < 2048)) (sym told) tt;
-    took = subst (λ (r : Done). IfSome r.took (λ address. IsSome (place_of machine.ports.inputs address))) (sym told) tt;
-    gave = subst (λ (r : Done). IfSome r.gave (λ gave. IsSome (place_of machine.ports.outputs gave.address)
+    took = subst (λ (r : Done). IfSome r.took (λ address. IsSome (position_of machine.ports.inputs address))) (sym told) tt;
+    gave = subst (λ (r : Done). IfSome r.gave (λ gave. IsSome (position_of machine.ports.outputs gave.address)
         × (meaning.held (output_limit cert.limits gave.address) gave.word ≡ true))) (sym told) tt;
     after = after;
   }
@@ -114,14 +114,14 @@ module _ {D : Type 0} (meaning : Meaning D) (machine : Machine) (image : List (O
     taken : (took : Option ℕ) → HoldsOfEach machine.ports.inputs (inputs_after_take machine.ports.inputs s.inputs took) IsInput
     taken None = kept.safe.inputs
     taken (Some address) = read_each machine.ports.inputs s.inputs IsInput kept.state.inputs_count kept.safe.inputs address
-        (place_of machine.ports.inputs address) refl
-        (λ place found once. once_address machine.ports.inputs (λ (n : ℕ). IsInput n 0) suits.once address place found once)
+        (position_of machine.ports.inputs address) refl
+        (λ position found once. once_address machine.ports.inputs (λ (n : ℕ). IsInput n 0) suits.once address position found once)
 
     given : (c : Case D) → c.limits ≡ cert.limits → (gave : Option Stored) → IfSome gave (IsGivenInLimit meaning c)
         → HoldsOfEach machine.ports.outputs (outputs_after_give machine.ports.outputs s.outputs gave) IsOutput
     given c same None is = kept.safe.outputs
     given c same (Some gave) is = set_each machine.ports.outputs s.outputs IsOutput kept.state.outputs_count kept.safe.outputs gave.address gave.word
-        (place_of machine.ports.outputs gave.address) refl
+        (position_of machine.ports.outputs gave.address) refl
         (λ found. inr (ap (λ limits. meaning.held (output_limit limits gave.address) gave.word) (sym same) ∙ is.1))
 
     stored_erasable : (c : Case D) (stored : Option Stored) → IfSome stored (IsStoreInLimit meaning c.limits) → IfSome stored (λ (d : Stored). d.address < 2048)
@@ -195,7 +195,7 @@ module _ {D : Type 0} (meaning : Meaning D) (machine : Machine) (image : List (O
         let row = kept.safe.row in
         let row_is : IsRowAccepted meaning machine image cert row.1 =
         subst (λ (r : Row D). IsRowAccepted meaning machine image cert r) row.3 (accepted.rows row.0 row.1 row.2) in
-        let at : row.1.location ≡ report.location = sym row.4.location ∙ sym (place_told machine s Step report after step).0 in
+        let at : row.1.location ≡ report.location = sym row.4.location ∙ sym (here_told machine s Step report after step).0 in
         (row_ran row.1 row.4 row_is (row.0, row.1, row.2, row.3, at), row_kept row.1 row.4 row_is)
 
   -- ---- each event
@@ -235,5 +235,5 @@ module _ {D : Type 0} (meaning : Meaning D) (machine : Machine) (image : List (O
     event_good Pulse report after is_event declared step =
         idle_event Pulse report after (phase_after_pulse s.phase) s.inputs is_event pulse_step step step.0 step.1 kept.safe.inputs
     event_good (Put address word) report after is_event declared step =
-        idle_event (Put address word) report after s.phase (set_at s.inputs (place_of machine.ports.inputs address) word) is_event (put_step address word) step step.0 step.1
-        (set_each machine.ports.inputs s.inputs IsInput kept.state.inputs_count kept.safe.inputs address word (place_of machine.ports.inputs address) refl declared)
+        idle_event (Put address word) report after s.phase (set_at s.inputs (position_of machine.ports.inputs address) word) is_event (put_step address word) step step.0 step.1
+        (set_each machine.ports.inputs s.inputs IsInput kept.state.inputs_count kept.safe.inputs address word (position_of machine.ports.inputs address) refl declared)

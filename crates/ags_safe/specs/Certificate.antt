@@ -2,7 +2,7 @@
 use Rattle.std.specs.Prelude.{◌≡◌, ℕ, ◌<◌, ◌≤◌, true, List, length, All, Option, None, IfSome}
 use Rattle.ags_domain.specs.Domain.{Meaning, IsWithin, IsFull}
 use Rattle.ags_ports.specs.declared.machines.Machine.{Machine}
-use Rattle.ags_ports.specs.Port.{place_of}
+use Rattle.ags_ports.specs.Port.{position_of}
 use Rattle.ags_row.specs.Limit.{Limiting, cell_limit, input_limit, output_limit}
 use Rattle.ags_row.specs.declared.rows.Row.{Row}
 
@@ -25,6 +25,6 @@ pub record IsCertificate {D : Type 0} (meaning : Meaning D) (cert : Certificate 
 -- The certificate is one for the machine's registers: an address with a limit other than the full one has a register, and the limit
 -- of a register that holds its word once holds 0, which it is when it was read.
 pub record Suits {D : Type 0} (meaning : Meaning D) (machine : Machine) (cert : Certificate D) : Type 0 where
-  pub inputs : (address : ℕ) → address < 4096 → place_of machine.ports.inputs address ≡ None → IsFull meaning (input_limit cert.limits address)
-  pub outputs : (address : ℕ) → address < 4096 → place_of machine.ports.outputs address ≡ None → IsFull meaning (output_limit cert.limits address)
+  pub inputs : (address : ℕ) → address < 4096 → position_of machine.ports.inputs address ≡ None → IsFull meaning (input_limit cert.limits address)
+  pub outputs : (address : ℕ) → address < 4096 → position_of machine.ports.outputs address ≡ None → IsFull meaning (output_limit cert.limits address)
   pub once : All (λ port. port.once ≡ true → meaning.held (input_limit cert.limits port.address) 0 ≡ true) machine.ports.inputs

@@ -55,13 +55,13 @@ fault_number (NotCovered row word index indicator next) = 10
 
 -- ---- the order of judging
 
--- The place of an item in the order: cells by their addresses, then the start, then rows as they stand, in each its code and then its
+-- The position of an item in the order: cells by their addresses, then the start, then rows as they stand, in each its code and then its
 -- cases by word, index and indicator.
-abbrev pub place_of_item : Item → List ℕ
-place_of_item (CellItem address) = 0 ∷ address ∷ []
-place_of_item StartItem = 1 ∷ []
-place_of_item (CodeItem row) = 2 ∷ row ∷ []
-place_of_item (CaseItem row word index indicator) = 2 ∷ row ∷ word ∷ index ∷ indicator_number indicator ∷ []
+abbrev pub position_of_item : Item → List ℕ
+position_of_item (CellItem address) = 0 ∷ address ∷ []
+position_of_item StartItem = 1 ∷ []
+position_of_item (CodeItem row) = 2 ∷ row ∷ []
+position_of_item (CaseItem row word index indicator) = 2 ∷ row ∷ word ∷ index ∷ indicator_number indicator ∷ []
 
 -- one list of numbers stands before another one, as words do in a dictionary
 abbrev pub Precedes : List ℕ → List ℕ → Type 0
@@ -71,9 +71,9 @@ Precedes (x ∷ xs) (y ∷ ys) = (x < y) ⊎ ((x ≡ y) × Precedes xs ys)
 
 -- ---- failing
 
--- the row stands at a place of the certificate, counted from 0
+-- the row stands at a position of the certificate, counted from 0
 abbrev pub StandsAt : {D : Type 0} → Certificate D → ℕ → Row D → Type 0
-StandsAt cert place row = (place < length cert.rows) × (slice_index_or cert.rows place row ≡ row)
+StandsAt cert position row = (position < length cert.rows) × (slice_index_or cert.rows position row ≡ row)
 
 module _ {D : Type 0} (meaning : Meaning D) (machine : Machine) (image : List (Option ℕ)) (cert : Certificate D) where
   -- the row has a code, and the word is one of it; the index and the indicator are of the row
@@ -86,15 +86,15 @@ module _ {D : Type 0} (meaning : Meaning D) (machine : Machine) (image : List (O
 
   -- a post is there that no row covers, and it is told
   abbrev pub IsUncovered : ℕ → Case D → Option (Post D) → Fault D → Type 0
-  IsUncovered place c None fault = ⊥
-  IsUncovered place c (Some post) fault =
-      (¬ IsCovered meaning cert c.row post) × (fault ≡ NotCovered (place + 1) c.word c.index c.indicator post.next)
+  IsUncovered position c None fault = ⊥
+  IsUncovered position c (Some post) fault =
+      (¬ IsCovered meaning cert c.row post) × (fault ≡ NotCovered (position + 1) c.word c.index c.indicator post.next)
 
   -- a case fails where it has no posts, or else by the first of its posts that no row covers
   abbrev pub CaseFails : ℕ → Case D → Outcome D → Fault D → Type 0
-  CaseFails place c (Err stop) fault = fault ≡ Stopped (place + 1) c.word stop
-  CaseFails place c (Ok pair) fault = IsUncovered place c pair.first fault
-      ⊎ (IfSome pair.first (IsCovered meaning cert c.row) × IsUncovered place c pair.second fault)
+  CaseFails position c (Err stop) fault = fault ≡ Stopped (position + 1) c.word stop
+  CaseFails position c (Ok pair) fault = IsUncovered position c pair.first fault
+      ⊎ (IfSome pair.first (IsCovered meaning cert c.row) × IsUncovered position c pair.second fault)
 
   -- the item fails, and this is told
   abbrev pub Fails : Item → Fault D → Type 0
@@ -102,17 +102,17 @@ module _ {D : Type 0} (meaning : Meaning D) (machine : Machine) (image : List (O
       × (¬ IsFirstHeld meaning (cell_limit cert.limits address) (entry_at image address) (cert.init address))
       × (fault ≡ InitRange address (word_at image address))
   Fails StartItem fault = (¬ Any (HoldsStart meaning image cert) cert.rows) × (fault ≡ StartUncovered)
-  Fails (CodeItem place) fault = (row : Row D) × StandsAt cert place row × IsCode meaning image cert.limits row None
-      × (fault ≡ CodeUnknown (place + 1))
-  Fails (CaseItem place word index indicator) fault = (row : Row D) × StandsAt cert place row × IsJudged row word index indicator
+  Fails (CodeItem position) fault = (row : Row D) × StandsAt cert position row × IsCode meaning image cert.limits row None
+      × (fault ≡ CodeUnknown (position + 1))
+  Fails (CaseItem position word index indicator) fault = (row : Row D) × StandsAt cert position row × IsJudged row word index indicator
       × (outcome : Outcome D) × IsPostsOfCase meaning (case_of machine image cert.limits row word index indicator) outcome
-      × CaseFails place (case_of machine image cert.limits row word index indicator) outcome fault
+      × CaseFails position (case_of machine image cert.limits row word index indicator) outcome fault
 
   -- an item fails with this fault, and none before it fails
   pub record IsFirstFault (fault : Fault D) : Type 0 where
     pub item : Item
     pub fails : Fails item fault
-    pub first : (earlier : Item) (other : Fault D) → Precedes (place_of_item earlier) (place_of_item item) → ¬ Fails earlier other
+    pub first : (earlier : Item) (other : Fault D) → Precedes (position_of_item earlier) (position_of_item item) → ¬ Fails earlier other
 
   -- the words of each row are known or are too many, and each case has posts or a reason why it has none
   pub record AreAnswered : Type 0 where

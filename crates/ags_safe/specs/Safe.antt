@@ -6,7 +6,7 @@ use Rattle.ags_ports.specs.declared.events.Phase.TheVariants.{Running}
 use Rattle.ags_ports.specs.declared.events.Event.{Event}
 use Rattle.ags_ports.specs.declared.events.Event.TheVariants.{Step}
 use Rattle.ags_ports.specs.declared.machines.Machine.{Machine}
-use Rattle.ags_ports.specs.Port.{place_of, register_at}
+use Rattle.ags_ports.specs.Port.{position_of, register_at}
 use Rattle.ags_ports.specs.State.{State}
 use Rattle.ags_ports.specs.Step.{NamesNone}
 use Rattle.ags_ports.specs.Run.{Moment, Run, AreEvents, AtEachStep}
@@ -17,8 +17,8 @@ use Rattle.ags_safe.specs.Start.{IsStart, AreDeclared}
 
 -- each output register holds 0, or a word of its limit
 abbrev pub AreOutputsHeld : {D : Type 0} → Meaning D → Machine → Limiting D → State → Type 0
-AreOutputsHeld meaning machine limits s = (address place : ℕ) → place_of machine.ports.outputs address ≡ Some place
-    → (register_at s.outputs (Some place) ≡ 0) ⊎ (meaning.held (output_limit limits address) (register_at s.outputs (Some place)) ≡ true)
+AreOutputsHeld meaning machine limits s = (address position : ℕ) → position_of machine.ports.outputs address ≡ Some position
+    → (register_at s.outputs (Some position) ≡ 0) ⊎ (meaning.held (output_limit limits address) (register_at s.outputs (Some position)) ≡ true)
 
 -- the certificate has a row at the location
 abbrev pub HasRowAt : {D : Type 0} → Certificate D → ℕ → Type 0
@@ -42,8 +42,8 @@ pub record IsSafeStep {D : Type 0} (meaning : Meaning D) (machine : Machine) (im
   pub ran : moment.report.ran ≡ true → HasRowAt cert moment.report.location
   pub order : event ≡ Step → s.phase ≡ Running → ¬ NamesNone machine s
   pub stored : IfSome moment.report.stored (λ stored. stored.address < 2048)
-  pub took : IfSome moment.report.took (λ address. IsSome (place_of machine.ports.inputs address))
-  pub gave : IfSome moment.report.gave (λ gave. IsSome (place_of machine.ports.outputs gave.address)
+  pub took : IfSome moment.report.took (λ address. IsSome (position_of machine.ports.inputs address))
+  pub gave : IfSome moment.report.gave (λ gave. IsSome (position_of machine.ports.outputs gave.address)
       × (meaning.held (output_limit cert.limits gave.address) gave.word ≡ true))
   pub after : IsSafeState meaning machine image cert moment.after
 

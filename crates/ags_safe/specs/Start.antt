@@ -6,7 +6,7 @@ use Rattle.ags_ports.specs.declared.events.Phase.TheVariants.{Running}
 use Rattle.ags_ports.specs.declared.events.Event.{Event}
 use Rattle.ags_ports.specs.declared.events.Event.TheVariants.{Step, Pulse, Put}
 use Rattle.ags_ports.specs.declared.machines.Machine.{Machine}
-use Rattle.ags_ports.specs.Port.{place_of}
+use Rattle.ags_ports.specs.Port.{position_of}
 use Rattle.ags_ports.specs.State.{State, IsState, cell}
 use Rattle.ags_row.specs.Limit.{input_limit}
 use Rattle.ags_posts.specs.InRow.{HasFixedWords, AreInputsHeld}
@@ -43,7 +43,7 @@ abbrev pub IsDeclared : {D : Type 0} → Meaning D → Machine → Certificate D
 IsDeclared meaning machine cert Step = ⊤
 IsDeclared meaning machine cert Pulse = ⊤
 IsDeclared meaning machine cert (Put address word) =
-    IsSome (place_of machine.ports.inputs address) → meaning.held (input_limit cert.limits address) word ≡ true
+    IsSome (position_of machine.ports.inputs address) → meaning.held (input_limit cert.limits address) word ≡ true
 
 -- each event is one that may come
 abbrev pub AreDeclared : {D : Type 0} → Meaning D → Machine → Certificate D → List Event → Type 0

@@ -48,7 +48,7 @@ module _ {D : Type 0} (meaning : Meaning D) (machine : Machine) (image : List (O
         code = row_is.code;
         is_code = row_is.is_code;
         cases = each_cases row (Keeps number row) row_is.code.list
-            (each_counted (λ place c o. Tagged number row c o) (Keeps number row) (λ place c one kept. kept.0) 0 (cases_in row row_is.code.list) count counted);
+            (each_counted (λ position c o. Tagged number row c o) (Keeps number row) (λ position c one kept. kept.0) 0 (cases_in row row_is.code.list) count counted);
       }
 
   pub of_walk : (count : ℕ) → Accepted meaning machine image cert → IsStartTagged meaning cert scales image
@@ -56,23 +56,24 @@ module _ {D : Type 0} (meaning : Meaning D) (machine : Machine) (image : List (O
   of_walk count accepted start tagged = record {
     accepted = accepted;
     start = start;
-    rows = λ place row stands.
-        let walked = each_at Walks 1 cert.rows count place row stands.0 stands.1 tagged in
+    rows = λ position row stands.
+        let walked = each_at Walks 1 cert.rows count position row stands.0 stands.1 tagged in
         let row_is : IsRowAccepted meaning machine image cert row =
-        subst (λ (r : Row D). IsRowAccepted meaning machine image cert r) stands.1 (accepted.rows place row stands.0) in
-        row_of_walk (place + 1) row walked.0 row_is walked.1;
+        subst (λ (r : Row D). IsRowAccepted meaning machine image cert r) stands.1 (accepted.rows position row stands.0) in
+        row_of_walk (position + 1) row walked.0 row_is walked.1;
   }
 
   -- ---- and where each case keeps its tags, the walk counts
 
   walk_of_row : (number : ℕ) (row : Row D) → IsRowTagged meaning machine image cert scales number row → (count : ℕ) × Walks number row (Ok count)
   walk_of_row number row tagged =
-      let sum = counted_in_order (λ place c o. Tagged number row c o) (Keeps number row) (λ place c kept. (1, (kept, refl))) 0 (cases_in row tagged.code.list)
+      let sum = counted_in_order (λ position c o. Tagged number row c o) (Keeps number row) (λ position c kept. (1, (kept, refl))) 0
+      (cases_in row tagged.code.list)
       (cases_each row (Keeps number row) tagged.code.list tagged.cases) in
       (sum.0, (Some tagged.code, tagged.is_code, sum.1))
 
   pub to_walk : AreScalesAccepted meaning machine image cert scales → (count : ℕ) × AreRowsTagged meaning machine image cert scales (Ok count)
-  to_walk are = counted_at Walks 1 cert.rows (λ place row inside stands. walk_of_row (place + 1) row (are.rows place row (inside, stands)))
+  to_walk are = counted_at Walks 1 cert.rows (λ position row inside stands. walk_of_row (position + 1) row (are.rows position row (inside, stands)))
 
 -- ---- the answer
 

@@ -10,8 +10,6 @@ pub mod ValueLemmas
 pub mod StepLemmas
 -- The tags after an event.
 pub mod NextLemmas
--- The row at the start.
-pub mod StartLemmas
 -- Tagged runs.
 pub mod TaggedLemmas
 -- Scales have an answer, and one alone.

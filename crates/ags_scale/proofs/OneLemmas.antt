@@ -108,16 +108,16 @@ holds_raw row = both (holds_tag row.a Raw) (holds_tag row.q Raw)
 module _ {D : Type 0} where
   -- a row has it at its number, and the rest have it at theirs
   behind : (has : ℕ → Row D → Type 0) (r : Row D) (rows : List (Row D)) → SomeRow (λ number row. has (number + 1) row) rows → SomeRow has (r ∷ rows)
-  behind has r rows (place, row, inside, stands, is) =
-      let number : (place + 1) + 1 ≡ suc place + 1 = omega arith in
-      (suc place, row, omega (arith, inside), stands, subst (λ (n : ℕ). has n row) number is)
+  behind has r rows (position, row, inside, stands, is) =
+      let number : (position + 1) + 1 ≡ suc position + 1 = omega arith in
+      (suc position, row, omega (arith, inside), stands, subst (λ (n : ℕ). has n row) number is)
 
   first_or_behind : (has : ℕ → Row D → Type 0) (r : Row D) (rows : List (Row D)) → SomeRow has (r ∷ rows) → (has 1 r → ⊥)
       → (SomeRow (λ number row. has (number + 1) row) rows → ⊥) → ⊥
   first_or_behind has r rows (zero, row, inside, stands, is) first rest = first (subst (λ (x : Row D). has 1 x) (sym stands) is)
-  first_or_behind has r rows (suc place, row, inside, stands, is) first rest =
-      let number : suc place + 1 ≡ (place + 1) + 1 = omega arith in
-      rest (place, row, omega (arith, inside), stands, subst (λ (n : ℕ). has n row) number is)
+  first_or_behind has r rows (suc position, row, inside, stands, is) first rest =
+      let number : suc position + 1 ≡ (position + 1) + 1 = omega arith in
+      rest (position, row, omega (arith, inside), stands, subst (λ (n : ℕ). has n row) number is)
 
   one_more : (has : ℕ → Row D → Type 0) (r : Row D) (rows : List (Row D)) → Dec (has 1 r) → Dec (SomeRow (λ number row. has (number + 1) row) rows)
       → Dec (SomeRow has (r ∷ rows))
@@ -137,7 +137,7 @@ module _ {D : Type 0} (meaning : Meaning D) (cert : Certificate D) (scales : Sca
 
   covers_alone : (target base : Row D) (post : Post D) → IsCovered meaning (alone target) base post → Covers meaning target base post cert.limits
   covers_alone target base post (zero, row, inside, stands, covers) = subst (λ (r : Row D). Covers meaning r base post cert.limits) (sym stands) covers
-  covers_alone target base post (suc place, row, inside, stands, covers) = absurd (omega (arith, inside))
+  covers_alone target base post (suc position, row, inside, stands, covers) = absurd (omega (arith, inside))
 
   covering : (target base : Row D) (post : Post D) → Dec (IsCovered meaning (alone target) base post) → Dec (Covers meaning target base post cert.limits)
   covering target base post (yes covered) = yes (covers_alone target base post covered)
@@ -173,7 +173,7 @@ module _ {D : Type 0} (meaning : Meaning D) (cert : Certificate D) (scales : Sca
     start_alone : (target : Row D) → AnyOf (HoldsStart meaning image (alone target)) (target ∷ []) → HoldsStart meaning image cert target
     start_alone target (zero, row, inside, stands, holds) =
         held_alone target target (subst (λ (r : Row D). HoldsStart meaning image (alone target) r) (sym stands) holds)
-    start_alone target (suc place, row, inside, stands, holds) = absurd (omega (arith, inside))
+    start_alone target (suc position, row, inside, stands, holds) = absurd (omega (arith, inside))
 
     holding : (target : Row D) → Dec (AnyOf (HoldsStart meaning image (alone target)) (target ∷ [])) → Dec (HoldsStart meaning image cert target)
     holding target (yes held) = yes (start_alone target held)
@@ -380,8 +380,8 @@ module _ {D : Type 0} (meaning : Meaning D) (cert : Certificate D) (scales : Sca
     some_of_row : (number : ℕ) (row : Row D) → IsRowAccepted meaning machine image cert row
         → (outcome : Result ℕ TagFault) × IsWalked meaning image cert.limits (Ok 0) CaseTagged number row outcome
     some_of_row number row is =
-        let sum = some_in_order (λ place c o. CaseTagged number row c o) (CaseAccepted row)
-        (λ place c accepted. some_case number (case_in machine image cert.limits row c) accepted)
+        let sum = some_in_order (λ position c o. CaseTagged number row c o) (CaseAccepted row)
+        (λ position c accepted. some_case number (case_in machine image cert.limits row c) accepted)
         0 (cases_in row is.code.list) (cases_each row (CaseAccepted row) is.code.list is.cases) in
         (sum.0, (Some is.code, is.is_code, sum.1))
 

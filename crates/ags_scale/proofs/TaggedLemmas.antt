@@ -35,7 +35,7 @@ use Rattle.ags_scale.specs.Tagged.{Runs, AreTagsNext, AtEachTagged, KeepsTags, K
 use Rattle.ags_scale.specs.Tagging.{KeepsRowTags, IsTaken, IsStartTagged}
 use Rattle.ags_scale.specs.Accepted.{AreScalesAccepted}
 use Rattle.ags_scale.proofs.ChangeLemmas.{HoldsTags, after_held, met_equal, tags_taken, raw_held}
-use Rattle.ags_scale.proofs.StartLemmas.{start_in_row}
+use Rattle.ags_safe.proofs.StartRowLemmas.{start_in_row}
 use Rattle.ags_scale.proofs.StepLemmas.{runs_one, next_by, still, pulse_step, put_step, waiting_running, halted_running, step_kept}
 
 module _ {D : Type 0} (meaning : Meaning D) (lawful : IsMeaning D meaning) (machine : Machine) (image : List (Option ℕ)) (cert : Certificate D) (scales : Scaling)
@@ -45,13 +45,13 @@ module _ {D : Type 0} (meaning : Meaning D) (lawful : IsMeaning D meaning) (mach
 
   -- the case of each state of a row keeps its tags
   abbrev pub EachKeeps : Type 0
-  EachKeeps = (place : ℕ) (row : Row D) (s : State) → StandsAt cert place row → IsState machine s → IsInRow meaning image cert.limits row s
-      → KeepsRowTags meaning cert scales (place + 1) (case_at row s)
+  EachKeeps = (position : ℕ) (row : Row D) (s : State) → StandsAt cert position row → IsState machine s → IsInRow meaning image cert.limits row s
+      → KeepsRowTags meaning cert scales (position + 1) (case_at row s)
 
   -- some row holds the state, and its tags hold these
   abbrev IsTagged : State → Tags → Type 0
-  IsTagged s tags = (place : ℕ) × (row : Row D) × StandsAt cert place row × IsInRow meaning image cert.limits row s
-      × HoldsTags (tags_of_row scales (place + 1)) tags
+  IsTagged s tags = (position : ℕ) × (row : Row D) × StandsAt cert position row × IsInRow meaning image cert.limits row s
+      × HoldsTags (tags_of_row scales (position + 1)) tags
 
   -- ---- one event
 
@@ -65,13 +65,14 @@ module _ {D : Type 0} (meaning : Meaning D) (lawful : IsMeaning D meaning) (mach
   -- ---- a step where orders run
 
   module _ (keeps : EachKeeps) (s : State) (state : IsState machine s) (safe : IsSafeState meaning machine image cert s) (running : s.phase ≡ Running)
-      (moment : Moment) (step : Steps machine s Step moment.report moment.after) (tags : Tags) (place : ℕ) (row : Row D) (stands : StandsAt cert place row)
-      (in_row : IsInRow meaning image cert.limits row s) (held : HoldsTags (tags_of_row scales (place + 1)) tags) where
+      (moment : Moment) (step : Steps machine s Step moment.report moment.after) (tags : Tags) (position : ℕ) (row : Row D)
+      (stands : StandsAt cert position row)
+      (in_row : IsInRow meaning image cert.limits row s) (held : HoldsTags (tags_of_row scales (position + 1)) tags) where
     abbrev here : Case D
     here = case_at row s
 
-    abbrev kept : KeepsRowTags meaning cert scales (place + 1) here
-    kept = keeps place row s stands state in_row
+    abbrev kept : KeepsRowTags meaning cert scales (position + 1) here
+    kept = keeps position row s stands state in_row
 
     abbrev order : Order
     order = kept.are_tags.0
@@ -99,12 +100,12 @@ module _ {D : Type 0} (meaning : Meaning D) (lawful : IsMeaning D meaning) (mach
 
     after_tags : HoldsTags kept.tags (tags_after scales order e y tags)
     after_tags = subst (λ (t : RowTags). HoldsTags t (tags_after scales order e y tags)) (sym kept.are_tags.4.1)
-        (after_held scales order e y (tags_of_row scales (place + 1)) tags held)
+        (after_held scales order e y (tags_of_row scales (position + 1)) tags held)
 
     equal_here : (other : Order) (f z : ℕ) → Runs machine s Step other f z → (two : Met) → tags_met scales other f z tags ≡ Some two → two.left ≡ two.right
     equal_here other f z also two met =
         let one = runs_one machine machine_is s Step order other e y f z runs also in
-        met_equal scales order e y (tags_of_row scales (place + 1)) tags held kept.are_tags.4.0 two
+        met_equal scales order e y (tags_of_row scales (position + 1)) tags held kept.are_tags.4.0 two
         (ap (λ (o : Order). tags_met scales o e y tags) one.0 ∙ ap (λ (k : ℕ). tags_met scales other k y tags) one.1
         ∙ ap (λ (k : ℕ). tags_met scales other f k tags) one.2 ∙ met)
 
@@ -225,7 +226,7 @@ module _ {D : Type 0} (meaning : Meaning D) (lawful : IsMeaning D meaning) (mach
   -- ---- the rows of accepted scales
 
   pub rows_keep : AreScalesAccepted meaning machine image cert scales → EachKeeps
-  rows_keep are place row s stands state in_row =
-      let tagged = are.rows place row stands in
+  rows_keep are position row s stands state in_row =
+      let tagged = are.rows position row stands in
       tagged.cases (word_here s) s.index s.indicator (code_has_word meaning image cert.limits row tagged.code machine s state in_row tagged.is_code)
       in_row.index in_row.indicator

@@ -27,4 +27,4 @@ module _ {D : Type 0} (meaning : Meaning D) (machine : Machine) (image : List (O
   pub record AreScalesAccepted : Type 0 where
     pub accepted : Accepted meaning machine image cert
     pub start : IsStartTagged meaning cert scales image
-    pub rows : (place : ℕ) (row : Row D) → StandsAt cert place row → IsRowTagged (place + 1) row
+    pub rows : (position : ℕ) (row : Row D) → StandsAt cert position row → IsRowTagged (position + 1) row

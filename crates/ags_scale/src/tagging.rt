@@ -1,10 +1,8 @@
 //! What is asked of a case for its tags.
 
 ghost use Rattle.std.specs.Prelude.{◌≡◌, ◌<◌, ◌≤◌, ◌+◌, ℕ, Result, IfOk, Some, None, Ok};
-ghost use Rattle.ags_domain.specs.Value.{value_meaning};
 ghost use Rattle.ags_isa.specs.Naming.{IsDecoding};
 ghost use Rattle.ags_verdict.specs.RowCase.{case_in};
-ghost use Rattle.ags_certtype.specs.Cert.{certificate_of};
 ghost use Rattle.ags_tags.specs.Tag.{tags_of_row};
 ghost use Rattle.ags_scale.specs.Tagging.{AreTagsOfCase};
 ghost use Rattle.ags_scale.specs.Asking.{IsAsked};

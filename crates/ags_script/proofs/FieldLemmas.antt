@@ -14,7 +14,7 @@ pub list_cases : (text : List ℕ) → (text ≡ []) ⊎ (0 < length text)
 list_cases [] = inl refl
 list_cases (b ∷ text) = inr (omega arith)
 
--- what stands behind a field is shorter than the text
+-- what stands after a field is shorter than the text
 pub behind_shorter : (text : List ℕ) → 0 < length (next_field text) → length (behind_field text) < length text
 unfolding next_field behind_field leading_field behind_leading_field behind_blanks
 behind_shorter text some =

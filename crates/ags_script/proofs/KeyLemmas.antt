@@ -15,7 +15,7 @@ use Rattle.ags_script.specs.Script.{reading_fault, commands_in}
 use Rattle.ags_script.specs.Tally.{IsTally}
 use Rattle.ags_script.proofs.FieldLemmas.{fields_more, none_left, some_left}
 
--- these keys, and those behind them
+-- these keys, and those after them
 abbrev pub behind_keys : List Key → Option (List Key) → Option (List Key)
 behind_keys done None = None
 behind_keys done (Some keys) = Some (done ++ keys)
@@ -29,9 +29,6 @@ pub record Pressing (names rest : List ℕ) (earlier commands : List Command) : 
 nothing_done : (keys : Option (List Key)) → keys ≡ behind_keys [] keys
 nothing_done None = refl
 nothing_done (Some keys) = refl
-
-pub Pressing-none : (names : List ℕ) (earlier : List Command) → Pressing names names earlier earlier
-Pressing-none names earlier = record { done = []; keys = nothing_done (keys_named (fields_of names)); items = sym (append-nil earlier) }
 
 one_done : (done : List Key) (key : Key) (keys : Option (List Key)) → behind_keys done (with_key (Some key) keys) ≡ behind_keys (done ++ key ∷ []) keys
 one_done done key None = refl

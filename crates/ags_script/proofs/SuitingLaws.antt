@@ -61,7 +61,7 @@ no_and : (a b : Bool) → (a && b) ≡ false → a ≡ true → b ≡ false
 no_and true b both first = both
 no_and false b both first = absurd cc
 
--- commands behind the settings show that there are some
+-- commands after the settings show that there are some
 others_none : (settings others : List Command) → All (λ command. is_setting command ≡ false) others → list_any (λ command. not (is_setting command)) (settings ++ others) ≡ false → others ≡ []
 others_none settings [] are none = refl
 others_none settings (command ∷ others) are none =

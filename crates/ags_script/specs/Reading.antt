@@ -71,7 +71,7 @@ abbrev pub show_command : List (List ℕ) → Option Command
 show_command [] = None
 show_command (name ∷ fields) = subject_command (subject_named name) fields
 
--- the command of a verb but KEY with these fields behind it
+-- the command of a verb but KEY with these fields after it
 abbrev pub verb_command : Verb → List (List ℕ) → Option Command
 verb_command verb.Start fields = option_map Start (address_operand fields)
 verb_command verb.Cell fields = erasable_cell (word_operands fields)
@@ -100,7 +100,7 @@ abbrev pub is_key : Verb → Bool
 is_key verb.Key = true
 is_key _ = false
 
--- what is read of a verb and the fields behind it
+-- what is read of a verb and the fields after it
 abbrev pub verb_reading : Option Verb → List (List ℕ) → LineReading
 verb_reading None fields = Malformed
 verb_reading (Some verb) fields = if is_key verb then some_keys (keys_named fields) else one (verb_command verb fields)

@@ -26,7 +26,7 @@ commands_in Malformed = []
 abbrev pub commands_of : List LineAt → List Command
 commands_of lines = flat_map (λ line. commands_in (reading line.bytes)) lines
 
--- A command is out of place behind these earlier ones: START, CELL or PORT behind any other, or START a second time.
+-- A command is out of place after these earlier ones: START, CELL or PORT after any other, or START a second time.
 abbrev pub is_misplaced : (earlier : List Command) → Command → Bool
 is_misplaced earlier command = (is_setting command && list_any (λ other. not (is_setting other)) earlier) || (is_start command && list_any is_start earlier)
 
@@ -34,7 +34,7 @@ is_misplaced earlier command = (is_setting command && list_any (λ other. not (i
 abbrev pub exceeds_steps : (earlier : List Command) → Command → Bool
 exceeds_steps earlier command = nat_lt step_limit (sum_by step_count earlier + step_count command)
 
--- the fault of a command behind these earlier ones: the first of the three that it has
+-- the fault of a command after these earlier ones: the first of the three that it has
 abbrev pub command_fault : Machine → (earlier : List Command) → Command → Option ScriptKind
 command_fault machine earlier command =
     if is_misplaced earlier command then Some BadLine else (

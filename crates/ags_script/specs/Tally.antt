@@ -18,7 +18,7 @@ pub record IsTally (reader : Reader) : Type 0 where
   pub begun : reader.begun ≡ list_any (λ command. not (is_setting command)) reader.commands.items
   pub most : reader.steps ≤ step_limit
 
--- the error tells the fault of a line's reading behind these commands, where it isn't want of memory
+-- the error tells the fault of a line's reading after these commands, where it isn't want of memory
 abbrev pub TellsFault : Machine → (number : ℕ) → List Command → LineReading → ScriptError → Type 0
 TellsFault machine number earlier reading (At line kind) = (line ≡ number) × (reading_fault machine earlier reading ≡ Some kind)
 TellsFault machine number earlier reading NoMemory = Unit {0}

@@ -37,8 +37,5 @@ pub fn line_command(line: &[u8]) -> Option<Command>
         return None;
     }
     let (name, fields) = split_field(line);
-    let Some(verb) = verb_named(name) else {
-        return None;
-    };
-    verb_command(verb, fields)
+    verb_command(verb_named(name)?, fields)
 }

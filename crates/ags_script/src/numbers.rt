@@ -13,9 +13,7 @@ pub(crate) fn read_address(text: &[u8]) -> Option<u16>
     if text.len() != 4 {
         return None;
     }
-    let Some(number) = ags_text::read_octal(text) else {
-        return None;
-    };
+    let number = ags_text::read_octal(text)?;
     Some(number as u16)
 }
 

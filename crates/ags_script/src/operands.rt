@@ -1,4 +1,4 @@
-//! The fields behind a line's verb.
+//! The fields after a line's verb.
 
 ghost use Rattle.std.specs.Prelude.{◌≡◌, IfSome, IfNone, Some, None};
 ghost use Rattle.ags_script.specs.Operand.{fields_of, octal_of};
@@ -49,30 +49,21 @@ fn only_field(text: &[u8]) -> Option<&[u8]>
 pub(crate) fn address_operand(text: &[u8]) -> Option<u16>
     ensures { result ≡ address_operand (fields_of text.now) }
 {
-    match only_field(text) {
-        Some(field) => address_of(field),
-        None => None,
-    }
+    address_of(only_field(text)?)
 }
 
 /// The count that a text's only field writes, in one to nine decimal digits, and nothing for any other text.
 pub fn count_operand(text: &[u8]) -> Option<u32>
     ensures { result ≡ count_operand (fields_of text.now) }
 {
-    match only_field(text) {
-        Some(field) => read_decimal(field),
-        None => None,
-    }
+    read_decimal(only_field(text)?)
 }
 
 /// The word that a text's only field writes.
 fn word_operand(text: &[u8]) -> Option<Word>
     ensures { result ≡ word_operand (fields_of text.now) }
 {
-    match only_field(text) {
-        Some(field) => word_of(field),
-        None => None,
-    }
+    word_of(only_field(text)?)
 }
 
 /// The address and the word that a text's two fields write.
@@ -81,11 +72,6 @@ pub(crate) fn word_operands(text: &[u8]) -> Option<(u16, Word)>
     ensures { result ≡ word_operands (fields_of text.now) }
 {
     let (field, behind) = split_field(text);
-    let Some(address) = address_of(field) else {
-        return None;
-    };
-    match word_operand(behind) {
-        Some(word) => Some((address, word)),
-        None => None,
-    }
+    let address = address_of(field)?;
+    Some((address, word_operand(behind)?))
 }

@@ -41,7 +41,7 @@ impl Script {
         self.commands.len()
     }
 
-    /// The command at a place, counted from 0.
+    /// The command at a position, counted from 0.
     pub fn nth(&self, position: usize) -> Command
         requires { position < length self.now }
         ensures { slice_get self.now position ≡ Some result }

@@ -1,4 +1,4 @@
-//! The command of a verb with the fields behind it.
+//! The command of a verb with the fields after it.
 
 ghost use Rattle.std.specs.Prelude.{◌≡◌, Some};
 ghost use Rattle.ags_script.specs.declared.verbs.Verb.TheVariants as verb;
@@ -20,7 +20,7 @@ pub(crate) fn is_key(verb: Verb) -> bool
     matches!(verb, Verb::Key)
 }
 
-/// A command that has no fields behind it.
+/// A command that has no fields after it.
 fn bare(command: Command, fields: &[u8]) -> Option<Command>
     ensures { result ≡ bare command (fields_of fields.now) }
 {
@@ -35,86 +35,59 @@ fn bare(command: Command, fields: &[u8]) -> Option<Command>
 fn start_command(fields: &[u8]) -> Option<Command>
     ensures { result ≡ verb_command verb.Start (fields_of fields.now) }
 {
-    match address_operand(fields) {
-        Some(address) => Some(Command::Start(address)),
-        None => None,
-    }
+    address_operand(fields).map(Command::Start)
 }
 
 /// The command of a CELL, which names an erasable cell.
 fn cell_command(fields: &[u8]) -> Option<Command>
     ensures { result ≡ verb_command verb.Cell (fields_of fields.now) }
 {
-    match word_operands(fields) {
-        Some((address, word)) => {
-            if address < ERASABLE {
-                Some(Command::Cell { address, word })
-            } else {
-                None
-            }
-        }
-        None => None,
-    }
+    let (address, word) = word_operands(fields)?;
+    (address < ERASABLE).then_some(Command::Cell { address, word })
 }
 
 /// The command of a PORT.
 fn port_command(fields: &[u8]) -> Option<Command>
     ensures { result ≡ verb_command verb.Port (fields_of fields.now) }
 {
-    match word_operands(fields) {
-        Some((address, word)) => Some(Command::Port { address, word }),
-        None => None,
-    }
+    let (address, word) = word_operands(fields)?;
+    Some(Command::Port { address, word })
 }
 
 /// The command of a SET.
 fn set_command(fields: &[u8]) -> Option<Command>
     ensures { result ≡ verb_command verb.Set (fields_of fields.now) }
 {
-    match word_operands(fields) {
-        Some((address, word)) => Some(Command::Set { address, word }),
-        None => None,
-    }
+    let (address, word) = word_operands(fields)?;
+    Some(Command::Set { address, word })
 }
 
 /// The command of a STEP.
 fn step_command(fields: &[u8]) -> Option<Command>
     ensures { result ≡ verb_command verb.Step (fields_of fields.now) }
 {
-    match count_operand(fields) {
-        Some(count) => Some(Command::Step(count)),
-        None => None,
-    }
+    count_operand(fields).map(Command::Step)
 }
 
 /// The command of a CYCLE.
 fn cycle_command(fields: &[u8]) -> Option<Command>
     ensures { result ≡ verb_command verb.Cycle (fields_of fields.now) }
 {
-    match count_operand(fields) {
-        Some(count) => Some(Command::Cycle(count)),
-        None => None,
-    }
+    count_operand(fields).map(Command::Cycle)
 }
 
 /// The command of a SHOW CELL.
 fn show_cell(fields: &[u8]) -> Option<Command>
     ensures { result ≡ option_map ShowCell (address_operand (fields_of fields.now)) }
 {
-    match address_operand(fields) {
-        Some(address) => Some(Command::ShowCell(address)),
-        None => None,
-    }
+    address_operand(fields).map(Command::ShowCell)
 }
 
 /// The command of a SHOW OUT.
 fn show_out(fields: &[u8]) -> Option<Command>
     ensures { result ≡ option_map ShowOut (address_operand (fields_of fields.now)) }
 {
-    match address_operand(fields) {
-        Some(address) => Some(Command::ShowOut(address)),
-        None => None,
-    }
+    address_operand(fields).map(Command::ShowOut)
 }
 
 /// The command of a SHOW with this subject.
@@ -135,10 +108,7 @@ fn show_command(fields: &[u8]) -> Option<Command>
     ensures { result ≡ show_command (fields_of fields.now) }
 {
     let (name, behind) = split_field(fields);
-    match subject_named(name) {
-        Some(subject) => subject_command(subject, behind),
-        None => None,
-    }
+    subject_command(subject_named(name)?, behind)
 }
 
 /// The command of a verb but KEY.

@@ -3,7 +3,7 @@
 
 use crate::common::{expect_same, parts_of};
 use ags_asm::{
-    AssembleError, Assembled, Placed, SourceError, SourceKind, assemble,
+    AssembleError, Assembled, PlaceFault, Placed, SourceError, SourceKind, WordFault, assemble,
     each_card_has_its_definition, each_text_has_a_meaning, source_defines_each_place_once,
     source_defines_words_of_the_memory, source_means_one_thing,
 };
@@ -27,7 +27,7 @@ fn has_first_word(made: &Assembled) -> bool {
     }
 }
 
-/// Expects this word at the place 0, where the first card stands, and no word behind it.
+/// Expects this word at the place 0, where the first card stands, and no word after it.
 fn expect_word(rt: &impl Abort, made: &Assembled, word: u32) {
     assert!(rt; has_first_word(made));
     assert!(rt; made.image.word_at(0).number() == word && made.image.get(1).is_none());
@@ -119,40 +119,51 @@ fn fault_of(rt: &impl Abort, alloc: Global, source: &[u8]) -> Option<SourceError
     }
 }
 
-/// Sources with lists, each with the card and the kind of its fault: a list that goes beyond the memory; one that runs into a word
-/// in its middle, and one into two of them, of which the least place counts; one over a word that waits; a decimal that doesn't
-/// fit, behind one that does; and a symbol of BES or SYN that is used early.
-const LISTS_AT_FAULT: [(&[u8], u32, SourceKind); 9] = [
-    (b" ORG 4095\n OCT 1,2", 2, SourceKind::PlaceRange),
+/// Sources with lists, BES or SYN, each with the card that isn't placed, and why: a list or a BES that goes beyond the memory, and a
+/// symbol that is used early.
+const LISTS_MISPLACED: [(&[u8], u32, PlaceFault); 4] = [
+    (b" ORG 4095\n OCT 1,2", 2, PlaceFault::PlaceRange),
+    (b" BES X\nX EQU 1", 1, PlaceFault::UndefinedEarly),
+    (b"A SYN X\nX EQU 1", 1, PlaceFault::UndefinedEarly),
+    (b" ORG 4095\n BES 2", 2, PlaceFault::PlaceRange),
+];
+
+/// Sources with lists, each with the card and the fault of its words: a list that runs into a word in its middle, and one into two of
+/// them, of which the least place counts; one over a word that waits; a word in a list; and a decimal that doesn't fit, after one
+/// that does.
+const LISTS_MISMADE: [(&[u8], u32, WordFault); 5] = [
     (
         b" ORG 1\n CLA 5\n ORG 0\n OCT 1,2,3",
         4,
-        SourceKind::PlaceTwice { first: 2 },
+        WordFault::PlaceTwice { first: 2 },
     ),
     (
         b" ORG 2\n CLA 5\n ORG 1\n CLA 5\n ORG 0\n DEC 1,2,3",
         6,
-        SourceKind::PlaceTwice { first: 4 },
+        WordFault::PlaceTwice { first: 4 },
     ),
     (
         b" CLA Y\n ORG 0\n OCT 1,2\nY EQU 1",
         3,
-        SourceKind::PlaceTwice { first: 1 },
+        WordFault::PlaceTwice { first: 1 },
     ),
     (
         b" OCT 1,2,3\n ORG 2\n CLA 5",
         3,
-        SourceKind::PlaceTwice { first: 1 },
+        WordFault::PlaceTwice { first: 1 },
     ),
-    (b" DEC 1,1B0", 1, SourceKind::ValueRange),
-    (b" BES X\nX EQU 1", 1, SourceKind::UndefinedEarly),
-    (b"A SYN X\nX EQU 1", 1, SourceKind::UndefinedEarly),
-    (b" ORG 4095\n BES 2", 2, SourceKind::PlaceRange),
+    (b" DEC 1,1B0", 1, WordFault::ValueRange),
 ];
 
 #[test]
 fn faults_of_lists_are_told(rt: HostRuntime) {
-    for &(source, card, kind) in &LISTS_AT_FAULT {
+    for &(source, card, fault) in &LISTS_MISPLACED {
+        let kind = SourceKind::Place(fault);
+        let told = fault_of(&rt, rt.alloc(), source);
+        assert!(&rt; told == Some(SourceError { card, kind }));
+    }
+    for &(source, card, fault) in &LISTS_MISMADE {
+        let kind = SourceKind::Word(fault);
         let told = fault_of(&rt, rt.alloc(), source);
         assert!(&rt; told == Some(SourceError { card, kind }));
     }

@@ -210,7 +210,7 @@ fn kind_of(body: &Body) -> (&'static str, usize) {
     }
 }
 
-/// Lines that are read in the place of one another, one behind the other, each with what it asks for: a kind follows itself and
+/// Lines that are read in the place of one another, one after the other, each with what it asks for: a kind follows itself and
 /// others, with more and with fewer terms, and a line with a fault stands between.
 const IN_PLACE: [(&[u8], &str, usize); 15] = [
     (b" CLA 1+2+3", "order", 3),

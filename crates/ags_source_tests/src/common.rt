@@ -1,8 +1,6 @@
 //! What several tests make, what they look at, and what they assert.
 
-ghost use Rattle.std.specs.Prelude.{None};
-
-use ags_outside::{PutDone, Sink, SteadyShelf};
+use ags_outside::SteadyShelf;
 use ags_places::Placed;
 use ags_word::Word;
 use std::alloc::Global;
@@ -21,43 +19,6 @@ pub(crate) fn shelf_of(rt: &impl Abort, alloc: Global, files: &[(&str, &[u8])]) 
         assert!(rt; shelf.add(file.0, file.1).is_ok());
     }
     shelf
-}
-
-/// A sink that tells nothing, takes at most so many bytes a put, and one at least, counts its puts, and fails at one of them alone.
-#[derive(Drop)]
-pub(crate) struct FailingSink {
-    at: u64,
-    most: usize,
-    faults: u64,
-    /// How many puts there were.
-    pub(crate) puts: u64,
-}
-
-impl FailingSink {
-    /// A sink that fails at the put of this number, the first being 1, and takes at most so many bytes at another.
-    pub(crate) fn at(at: u64, most: usize) -> FailingSink {
-        FailingSink {
-            at,
-            most,
-            faults: 0,
-            puts: 0,
-        }
-    }
-}
-
-impl Sink for FailingSink {
-    ghost told = { λ _. None };
-
-    ghost faults = { λ sink. sink.faults };
-
-    fn put(&mut self, piece: &[u8]) -> PutDone {
-        self.puts = self.puts.saturating_add(1);
-        if self.puts == self.at {
-            self.faults = self.faults.saturating_add(1);
-            return PutDone::Failed;
-        }
-        PutDone::Took(piece.len().min(self.most.max(1)))
-    }
 }
 
 /// The span of a card, the place of its first word, and how many words it has.

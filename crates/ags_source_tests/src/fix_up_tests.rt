@@ -3,7 +3,10 @@
 
 use crate::common::expect_same;
 use crate::two_passes::{Words, assemble_in_two_passes};
-use ags_asm::{AssembleError, Assembled, Placed, SourceError, SourceKind, assemble};
+use ags_asm::{
+    AssembleError, Assembled, PlaceFault, Placed, SourceError, SourceKind, WordFault, assemble,
+};
+use ags_card::CardFault;
 use ags_image::Image;
 use ags_isa::Codes;
 use std::alloc::Global;
@@ -33,48 +36,48 @@ fn expect_fault(rt: &impl Abort, alloc: Global, source: &[u8], card: u32, kind: 
 }
 
 /// The rows of `first_faults_are_told`: a source, the card at fault, and its fault.
-const FIRST_FAULTS: [(&[u8], u32, SourceKind); 10] = [
+const FIRST_FAULTS: [(&[u8], u32, WordFault); 10] = [
     // a card waits, and a later one takes its place
     (
         b" CLA Y\n ORG 0\n OCT 1\n TRA 5000",
         1,
-        SourceKind::Undefined,
+        WordFault::Undefined,
     ),
     (
         b" CLA Y\n ORG 0\n OCT 1\n TRA 5000\nY EQU 1",
         3,
-        SourceKind::PlaceTwice { first: 1 },
+        WordFault::PlaceTwice { first: 1 },
     ),
     // a card waits whose place is taken
-    (b" OCT 1\n ORG 0\n CLA Y", 3, SourceKind::Undefined),
+    (b" OCT 1\n ORG 0\n CLA Y", 3, WordFault::Undefined),
     (
         b" OCT 1\n ORG 0\n CLA Y\nY EQU 5000",
         3,
-        SourceKind::AddressRange { value: 5000 },
+        WordFault::AddressRange { value: 5000 },
     ),
     (
         b" OCT 1\n ORG 0\n CLA Y\nY EQU 5",
         3,
-        SourceKind::PlaceTwice { first: 1 },
+        WordFault::PlaceTwice { first: 1 },
     ),
     // of those that wait the first at fault is told
-    (b" CLA Y\n CLA Z\nY EQU 1", 2, SourceKind::Undefined),
+    (b" CLA Y\n CLA Z\nY EQU 1", 2, WordFault::Undefined),
     (
         b" CLA Y\n CLA Z\nY EQU 4096",
         1,
-        SourceKind::AddressRange { value: 4096 },
+        WordFault::AddressRange { value: 4096 },
     ),
     // an earlier card that waits comes before a fault that is known at once
-    (b" CLA Y\n DEC 9B0", 1, SourceKind::Undefined),
-    (b" CLA Y\n DEC 9B0\nY EQU 1", 2, SourceKind::ValueRange),
-    // a symbol behind END isn't one of the source
-    (b" CLA Y\n END\nY EQU 1", 1, SourceKind::Undefined),
+    (b" CLA Y\n DEC 9B0", 1, WordFault::Undefined),
+    (b" CLA Y\n DEC 9B0\nY EQU 1", 2, WordFault::ValueRange),
+    // a symbol after END isn't one of the source
+    (b" CLA Y\n END\nY EQU 1", 1, WordFault::Undefined),
 ];
 
 #[test]
 fn first_faults_are_told(rt: HostRuntime) {
-    for &(source, card, kind) in &FIRST_FAULTS {
-        expect_fault(&rt, rt.alloc(), source, card, kind);
+    for &(source, card, fault) in &FIRST_FAULTS {
+        expect_fault(&rt, rt.alloc(), source, card, SourceKind::Word(fault));
     }
 }
 
@@ -94,38 +97,38 @@ fn symbols_of_later_cards_are_taken(rt: HostRuntime) {
 
 /// Cards with faults of each phase: of cards, of places and of words. The first card of each is at fault, and what it names is
 /// named by no other. Each is followed by how many lines it has.
-const CARD_FAULTS: [(&[u8], SourceKind); 9] = [
-    (b"\x01", SourceKind::BadByte),
+const CARD_FAULTS: [(&[u8], CardFault); 9] = [
+    (b"\x01", CardFault::BadByte),
     (
         b"*23456789 123456789 123456789 123456789 123456789 123456789 123456789 123456789 123456789 123456789 123456789 123456789 1",
-        SourceKind::LongCard,
+        CardFault::LongCard,
     ),
-    (b"TOOLONG OCT 1", SourceKind::BadSymbol),
-    (b" XYZ", SourceKind::UnknownOperation),
-    (b" CLA", SourceKind::MissingOperand),
-    (b" BSS 1,2", SourceKind::ExtraOperand),
-    (b" CLA 1+", SourceKind::BadExpression),
-    (b" DEC X", SourceKind::BadDecimal),
-    (b" OCT 8", SourceKind::BadOctal),
+    (b"TOOLONG OCT 1", CardFault::BadSymbol),
+    (b" XYZ", CardFault::UnknownOperation),
+    (b" CLA", CardFault::MissingOperand),
+    (b" BSS 1,2", CardFault::ExtraOperand),
+    (b" CLA 1+", CardFault::BadExpression),
+    (b" DEC X", CardFault::BadDecimal),
+    (b" OCT 8", CardFault::BadOctal),
 ];
 
 /// Those of the phase of places.
-const PLACE_FAULTS: [(&[u8], SourceKind); 4] = [
-    (b" BSS E", SourceKind::UndefinedEarly),
-    (b" BSS -1", SourceKind::PlaceRange),
-    (b" ORG 4096", SourceKind::PlaceRange),
-    (b"N EQU 262144", SourceKind::PlaceRange),
+const PLACE_FAULTS: [(&[u8], PlaceFault); 4] = [
+    (b" BSS E", PlaceFault::UndefinedEarly),
+    (b" BSS -1", PlaceFault::PlaceRange),
+    (b" ORG 4096", PlaceFault::PlaceRange),
+    (b"N EQU 262144", PlaceFault::PlaceRange),
 ];
 
 /// Those of the phase of words.
-const WORD_FAULTS: [(&[u8], SourceKind); 4] = [
-    (b" CLA U", SourceKind::Undefined),
-    (b" CLA -5", SourceKind::AddressRange { value: -5 }),
-    (b" CLA 5000", SourceKind::AddressRange { value: 5000 }),
-    (b" DEC 9B0", SourceKind::ValueRange),
+const WORD_FAULTS: [(&[u8], WordFault); 4] = [
+    (b" CLA U", WordFault::Undefined),
+    (b" CLA -5", WordFault::AddressRange { value: -5 }),
+    (b" CLA 5000", WordFault::AddressRange { value: 5000 }),
+    (b" DEC 9B0", WordFault::ValueRange),
 ];
 
-/// The two lines, one behind the other.
+/// The two lines, one after the other.
 fn joined(rt: &impl Abort, alloc: Global, first: &[u8], second: &[u8]) -> Vec<u8> {
     let mut source = Vec::new(alloc);
     for part in [first, b"\n", second] {
@@ -134,36 +137,30 @@ fn joined(rt: &impl Abort, alloc: Global, first: &[u8], second: &[u8]) -> Vec<u8
     source
 }
 
-/// Expects the fault of the earlier phase, whichever of the two cards stands first.
-fn expect_earlier(
-    rt: &impl Abort,
-    alloc: Global,
-    earlier: &(&[u8], SourceKind),
-    later: &(&[u8], SourceKind),
-) {
-    let (card, kind) = *earlier;
-    expect_fault(rt, alloc, &joined(rt, alloc, card, later.0), 1, kind);
-    expect_fault(rt, alloc, &joined(rt, alloc, later.0, card), 2, kind);
+/// Expects the fault of the card of an earlier phase, whichever of the two cards stands first.
+fn expect_earlier(rt: &impl Abort, alloc: Global, card: &[u8], kind: SourceKind, later: &[u8]) {
+    expect_fault(rt, alloc, &joined(rt, alloc, card, later), 1, kind);
+    expect_fault(rt, alloc, &joined(rt, alloc, later, card), 2, kind);
 }
 
 #[test]
 fn earlier_phases_come_first(rt: HostRuntime) {
-    for word in &WORD_FAULTS {
-        for card in &CARD_FAULTS {
-            expect_earlier(&rt, rt.alloc(), card, word);
+    for &(card, fault) in &CARD_FAULTS {
+        for &(place, _) in &PLACE_FAULTS {
+            expect_earlier(&rt, rt.alloc(), card, SourceKind::Card(fault), place);
         }
-        for place in &PLACE_FAULTS {
-            expect_earlier(&rt, rt.alloc(), place, word);
+        for &(word, _) in &WORD_FAULTS {
+            expect_earlier(&rt, rt.alloc(), card, SourceKind::Card(fault), word);
         }
     }
-    for place in &PLACE_FAULTS {
-        for card in &CARD_FAULTS {
-            expect_earlier(&rt, rt.alloc(), card, place);
+    for &(place, fault) in &PLACE_FAULTS {
+        for &(word, _) in &WORD_FAULTS {
+            expect_earlier(&rt, rt.alloc(), place, SourceKind::Place(fault), word);
         }
     }
 }
 
-/// An order for each place of the memory, which all wait for one symbol, and these lines behind them.
+/// An order for each place of the memory, which all wait for one symbol, and these lines after them.
 fn full_memory(rt: &impl Abort, alloc: Global, behind: &[u8]) -> Vec<u8> {
     let mut source = Vec::new(alloc);
     for _ in 0..4096 {
@@ -184,12 +181,13 @@ fn as_many_orders_wait_as_there_are_places_and_one_more(rt: HostRuntime) {
         assert!(rt; made.image.word_at(place).number() == 0o200011);
     }
     let source = full_memory(&rt, alloc, b" ORG 7\n CLA Y\n CLA Y\nY EQU 9");
-    let taken = SourceKind::PlaceTwice { first: 8 };
+    let taken = SourceKind::Word(WordFault::PlaceTwice { first: 8 });
+    let undefined = SourceKind::Word(WordFault::Undefined);
     expect_fault(&rt, alloc, &source, 4098, taken);
     let source = full_memory(&rt, alloc, b" ORG 7\n CLA Z\n CLA Z\nY EQU 9");
-    expect_fault(&rt, alloc, &source, 4098, SourceKind::Undefined);
+    expect_fault(&rt, alloc, &source, 4098, undefined);
     let source = full_memory(&rt, alloc, b" ORG 7\n CLA Y");
-    expect_fault(&rt, alloc, &source, 1, SourceKind::Undefined);
+    expect_fault(&rt, alloc, &source, 1, undefined);
 }
 
 /// The cards that a deck is drawn of.
@@ -233,7 +231,7 @@ fn next_number(number: u32) -> u32 {
     number.wrapping_mul(1_664_525).wrapping_add(1_013_904_223)
 }
 
-/// A deck of one to sixteen cards, drawn by a number, and the number behind it.
+/// A deck of one to sixteen cards, drawn by a number, and the number after it.
 fn drawn(rt: &impl Abort, alloc: Global, seed: u32) -> (Vec<u8>, u32) {
     let mut number = next_number(seed);
     let mut source = Vec::new(alloc);

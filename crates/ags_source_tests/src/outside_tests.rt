@@ -3,7 +3,8 @@
 
 ghost use Rattle.ags_outside.specs.ToldFile.{Untold};
 
-use crate::common::{FailingSink, expect_same, shelf_of};
+use crate::common::{expect_same, shelf_of};
+use ags_decks::FailingSink;
 use ags_outside::{FetchError, Pull, SendError, Shelf, SteadyShelf, SteadySink, fetch, send};
 use std::alloc::Global;
 use std::process::Abort;
@@ -92,7 +93,7 @@ fn absent_and_long_files_are_refused(rt: HostRuntime) {
     }
 }
 
-/// A shelf that tells nothing: a file of zeros, behind whose last byte it ends or fails.
+/// A shelf that tells nothing: a file of zeros, after whose last byte it ends or fails.
 #[derive(Drop)]
 struct ZeroShelf {
     length: usize,
@@ -124,7 +125,7 @@ impl Shelf for ZeroShelf {
     }
 }
 
-/// A file of so many zeros, behind whose last byte it fails or ends.
+/// A file of so many zeros, after whose last byte it fails or ends.
 fn zeros(alloc: Global, length: usize, fails: bool) -> ZeroShelf {
     ZeroShelf {
         length,
@@ -231,7 +232,7 @@ fn a_shelf_that_turns_is_asked_twice(rt: HostRuntime) {
     expect_turned(&rt, alloc, Pull::Got(1), Err(FetchError::TooLong));
 }
 
-/// Sends bytes, behind which the sink holds all these.
+/// Sends bytes, after which the sink holds all these.
 fn expect_sent(rt: &impl Abort, sink: &mut SteadySink, bytes: &[u8], all: &[u8]) {
     assert!(rt; send(sink, bytes).is_ok());
     assert!(rt; sink.bytes() == all);
@@ -254,7 +255,7 @@ fn all_bytes_are_sent(rt: HostRuntime) {
     expect_all_sent(&rt, rt.alloc(), 11);
 }
 
-// No put is made for no bytes, and none behind a put that failed.
+// No put is made for no bytes, and none after a put that failed.
 /// Bytes, the put that fails, the answer, and how many puts are made.
 const PUTS: [(&[u8], u64, Result<(), SendError>, u64); 5] = [
     (b"", 1, Ok(()), 0),
@@ -272,9 +273,13 @@ fn expect_puts(
     wanted: Result<(), SendError>,
     puts: u64,
 ) {
-    let mut sink = FailingSink::at(fails_at, 2);
+    let mut sink = FailingSink::with_room(fails_at, 2);
     let told = send(&mut sink, bytes);
-    expect_same(rt, &(fails_at, told, sink.puts), &(fails_at, wanted, puts));
+    expect_same(
+        rt,
+        &(fails_at, told, sink.puts()),
+        &(fails_at, wanted, puts),
+    );
 }
 
 #[test]

@@ -3,8 +3,9 @@
 use crate::common::{expect_same, parts_of};
 use ags_card::read_card;
 use ags_places::{
-    Placed, SourceError, SourceKind, card_lines_follow, count_of, each_symbol_has_a_pair, is_end,
-    one_list_of_pairs_fits, place_card, place_of_word, places_are_sums, words_stand_in_the_memory,
+    Placed, SourceError, SourceKind, WordFault, card_lines_follow, count_of,
+    each_symbol_has_a_pair, is_end, one_list_of_pairs_fits, place_card, place_of_word,
+    places_are_sums, words_stand_in_the_memory,
 };
 use ags_symbol::Symbols;
 use ags_text::Lines;
@@ -97,36 +98,37 @@ fn cards_are_placed(rt: HostRuntime) {
 }
 
 /// The rows of `faults_of_words_are_printed`.
-const FAULTS_OF_WORDS_ARE_PRINTED: [(SourceKind, &str); 4] = [
+const FAULTS_OF_WORDS_ARE_PRINTED: [(WordFault, &str); 4] = [
     (
-        SourceKind::Undefined,
+        WordFault::Undefined,
         "SOURCE CARD 0000012 ERROR 13 Undefined",
     ),
     (
-        SourceKind::AddressRange { value: -5 },
+        WordFault::AddressRange { value: -5 },
         "SOURCE CARD 0000012 ERROR 14 AddressRange -5",
     ),
     (
-        SourceKind::ValueRange,
+        WordFault::ValueRange,
         "SOURCE CARD 0000012 ERROR 15 ValueRange",
     ),
     (
-        SourceKind::PlaceTwice { first: 2 },
+        WordFault::PlaceTwice { first: 2 },
         "SOURCE CARD 0000012 ERROR 16 PlaceTwice 0000002",
     ),
 ];
 
 /// Expects the line of a fault at the card 12.
-fn expect_line(rt: &impl Abort, alloc: Global, kind: SourceKind, wanted: &str) {
-    let fault = SourceError { card: 12, kind };
-    let line = format!(in alloc; "{fault}").expect(rt, "memory for a line");
+fn expect_line(rt: &impl Abort, alloc: Global, fault: WordFault, wanted: &str) {
+    let kind = SourceKind::Word(fault);
+    let error = SourceError { card: 12, kind };
+    let line = format!(in alloc; "{error}").expect(rt, "memory for a line");
     expect_same(rt, &line.as_str(), &wanted);
 }
 
 #[test]
 fn faults_of_words_are_printed(rt: HostRuntime) {
-    for &(kind, wanted) in &FAULTS_OF_WORDS_ARE_PRINTED {
-        expect_line(&rt, rt.alloc(), kind, wanted);
+    for &(fault, wanted) in &FAULTS_OF_WORDS_ARE_PRINTED {
+        expect_line(&rt, rt.alloc(), fault, wanted);
     }
     card_lines_follow();
     each_symbol_has_a_pair();

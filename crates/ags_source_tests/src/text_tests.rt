@@ -84,7 +84,7 @@ fn digits_are_read(rt: HostRuntime) {
     }
 }
 
-/// A text, the field at its start and what stands behind that, its next field and what stands behind that.
+/// A text, the field at its start and what stands after that, its next field and what stands after that.
 const CUTS: [[&[u8]; 5]; 8] = [
     [b"", b"", b"", b"", b""],
     [b" \t", b"", b" \t", b"", b""],

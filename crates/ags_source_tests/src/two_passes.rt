@@ -1,11 +1,11 @@
 //! The plain answer of an assembly, as docs/SOURCE.md says it: all lines are read, then all cards placed, then all words made over
 //! all symbols. It looks at each card as often as it is asked for, and is slow.
 
-use ags_asm::{SourceError, SourceKind};
+use ags_asm::{SourceError, SourceKind, WordFault};
 use ags_card::{Body, Card, read_card};
 use ags_decimal::Decimal;
 use ags_isa::{Codes, encode};
-use ags_places::{Stop, is_end, kind_of, place_card, place_of_word};
+use ags_places::{Unplaced, is_end, place_card, place_of_word};
 use ags_symbol::Symbols;
 use ags_text::Lines;
 use ags_word::Word;
@@ -27,7 +27,7 @@ fn read_all(rt: &impl Abort, alloc: Global, source: &[u8]) -> Result<Vec<Card>, 
                 }
             }
             Err(fault) => {
-                let kind = kind_of(fault);
+                let kind = SourceKind::Card(fault);
                 return Err(SourceError { card: number, kind });
             }
         }
@@ -51,8 +51,11 @@ fn place_each(
         assert!(rt; at <= 4096);
         match place_card(&mut symbols, at, number, card) {
             Ok(next) => at = next,
-            Err(Stop::Fault(kind)) => return Err(SourceError { card: number, kind }),
-            Err(Stop::NoMemory) => assert!(rt; false),
+            Err(Unplaced::Fault(fault)) => {
+                let kind = SourceKind::Place(fault);
+                return Err(SourceError { card: number, kind });
+            }
+            Err(Unplaced::NoMemory) => assert!(rt; false),
         }
     }
     Ok((places, symbols))
@@ -63,10 +66,10 @@ fn decimal_words(
     rt: &impl Abort,
     alloc: Global,
     numbers: &[Decimal],
-) -> Result<Vec<Word>, SourceKind> {
+) -> Result<Vec<Word>, WordFault> {
     let mut words = Vec::new(alloc);
     for number in numbers {
-        let word = ags_decimal::word(number).ok_or(SourceKind::ValueRange)?;
+        let word = ags_decimal::word(number).ok_or(WordFault::ValueRange)?;
         assert!(rt; words.push(word).is_ok());
     }
     Ok(words)
@@ -79,7 +82,7 @@ fn words_of(
     symbols: &Symbols,
     at: u16,
     body: &Body,
-) -> Result<Vec<Word>, SourceKind> {
+) -> Result<Vec<Word>, WordFault> {
     assert!(rt; at <= 4096);
     let mut words = Vec::new(alloc);
     match body {
@@ -88,9 +91,9 @@ fn words_of(
             terms,
             indexed,
         } => {
-            let value = symbols.value_of(terms, at).ok_or(SourceKind::Undefined)?;
+            let value = symbols.value_of(terms, at).ok_or(WordFault::Undefined)?;
             if value < 0 || value > 4095 {
-                return Err(SourceKind::AddressRange { value });
+                return Err(WordFault::AddressRange { value });
             }
             let word = encode(&Codes::standard(), *order, *indexed, value as u16);
             assert!(rt; words.push(word).is_ok());
@@ -122,16 +125,22 @@ fn take_places(
     number: u32,
     at: u16,
     count: usize,
-) -> Result<(), SourceKind> {
+) -> Result<(), WordFault> {
     let mut place = at;
     for _ in 0..count {
         if let Some(first) = taker_of(taken, place) {
-            return Err(SourceKind::PlaceTwice { first });
+            return Err(WordFault::PlaceTwice { first });
         }
         assert!(rt; taken.push((number, place)).is_ok());
         place = place.saturating_add(1);
     }
     Ok(())
+}
+
+/// A card of this number has no words for this fault.
+fn mismade(card: u32, fault: WordFault) -> SourceError {
+    let kind = SourceKind::Word(fault);
+    SourceError { card, kind }
 }
 
 /// A card's place, where it has words, and its words.
@@ -152,10 +161,10 @@ pub(crate) fn assemble_in_two_passes(
         number = number.saturating_add(1);
         let words = match words_of(rt, alloc, &symbols, *at, &card.body) {
             Ok(words) => words,
-            Err(kind) => return Err(SourceError { card: number, kind }),
+            Err(fault) => return Err(mismade(number, fault)),
         };
-        if let Err(kind) = take_places(rt, &mut taken, number, *at, words.len()) {
-            return Err(SourceError { card: number, kind });
+        if let Err(fault) = take_places(rt, &mut taken, number, *at, words.len()) {
+            return Err(mismade(number, fault));
         }
         assert!(rt; made.push((place_of_word(*at, &card.body), words)).is_ok());
     }

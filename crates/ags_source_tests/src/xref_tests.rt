@@ -1,7 +1,8 @@
 //! Cross references of sources, worked out by hand from docs/SOURCE.md.
 
-use crate::common::{FailingSink, expect_same};
+use crate::common::expect_same;
 use ags_asm::assemble;
+use ags_decks::FailingSink;
 use ags_isa::Codes;
 use ags_outside::{Sink, SteadySink};
 use ags_xref::{XrefError, pairs_by_name_ascend, send_xref};
@@ -71,9 +72,9 @@ fn references_are_sent(rt: HostRuntime) {
 
 /// Sends the cross reference of `NAMED` to a sink that fails at a put, and looks at the answer and at how many puts there were.
 fn expect_puts(rt: &impl Abort, alloc: Global, at: u64, wanted: Result<(), XrefError>, puts: u64) {
-    let mut out = FailingSink::at(at, 100);
+    let mut out = FailingSink::with_room(at, 100);
     let answer = send_source(rt, alloc, NAMED.as_bytes(), &mut out);
-    expect_same(rt, &(answer, out.puts), &(wanted, puts));
+    expect_same(rt, &(answer, out.puts()), &(wanted, puts));
 }
 
 #[test]

@@ -35,11 +35,7 @@ none_looked name (Some d) is = absurd cc
 -- ---- one more
 
 module _ {S : Type 0} (old new : HashMap (List ℕ) Defined S) where
-  -- nothing changed
-  pub AreSymbols-same : AreSymbols old → IsUnique (pointwise nat_eq) new → new.entries ≡ old.entries → AreSymbols new
-  AreSymbols-same so unique same = record { distinct = unique; values = rw same so.values }
-
-  -- a new symbol stands behind the others
+  -- a new symbol stands after the others
   pub entries-more : (name : List ℕ) (d : Defined) → get (pointwise nat_eq) old name ≡ None → new.entries ≡ insert_entry (pointwise nat_eq) old.entries name d → new.entries ≡ old.entries ++ (name, d) ∷ []
   entries-more name d none is = is ∙ insert_entry-new (pointwise nat_eq) old name d none
 

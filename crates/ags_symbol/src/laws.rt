@@ -25,7 +25,7 @@ pub fn sums_are_of_the_terms_values()
         → sum_of symbols here terms ≡ Some (total values) }
 {}
 
-/// Whatever pairs come behind, a sum is what its terms came to that had a value early, with the sum of those that were open; and
+/// Whatever pairs come after, a sum is what its terms came to that had a value early, with the sum of those that were open; and
 /// a sum that was known early stays what it is.
 pub fn sums_are_split()
     ensures sum { (early later : List Entry) (here : ℕ) (terms : List Term)

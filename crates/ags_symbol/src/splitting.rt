@@ -10,7 +10,7 @@ use ags_card::{MOST_TERMS, Term, Terms};
 use arrayvec::ArrayVec;
 
 impl Symbols {
-    /// The sum of those of some terms that have a value; the others are put behind those that are unknown.
+    /// The sum of those of some terms that have a value; the others are put after those that are unknown.
     fn split_terms(
         &self,
         terms: &[Term],

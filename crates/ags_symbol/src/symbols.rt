@@ -88,7 +88,7 @@ impl Symbols {
         self.by_name.get(name).copied()
     }
 
-    /// Puts a symbol behind the others, where it isn't among them.
+    /// Puts a symbol after the others, where it isn't among them.
     fn push(&mut self, name: Name, defined: Defined) -> Result<(), DefineError>
         requires new { found name self.old ≡ None }
         requires value { IsValue defined.value }

@@ -2,9 +2,8 @@
 --     some_scales
 -- and for the programs above that read such texts
 --     each_text_means, one_scales_of, one_fault_of, never_both
-use Rattle.std.proofs.Common.{◌≡◌, ℕ, ◌-◌, ◌^◌, ◌<◌, ◌≤◌, ◌⊎◌, Bool, true, false, refl, sym, ap, ◌∙◌, subst, List, [], ◌∷◌, length, reverse, Option, Some, None, inl, inr, arith, nat_lt}
-use Rattle.std.specs.Prelude.{All, not, ◌==◌, ◌||◌, set, replicate}
-use Rattle.std.proofs.lemmas.Bool.Decides.{nat_tests}
+use Rattle.std.proofs.Common.{◌≡◌, ℕ, ◌-◌, ◌^◌, ◌<◌, ◌⊎◌, Bool, true, false, refl, sym, ap, ◌∙◌, subst, List, [], ◌∷◌, length, Option, Some, None, inl, inr, arith, nat_lt}
+use Rattle.std.specs.Prelude.{not, ◌==◌, ◌||◌, set, replicate}
 use Rattle.std.proofs.lemmas.List.{length-replicate, length-set}
 use Rattle.std.proofs.lemmas.Int.Digits.{digits_value-lt}
 use Rattle.ags_text.specs.Numeral.{Writes}
@@ -24,7 +23,6 @@ use Rattle.ags_tags.specs.declared.scale_errors.ScaleKind.{ScaleKind}
 use Rattle.ags_tags.specs.declared.scale_errors.ScaleKind.TheVariants.{BadLine, Twice, NoRow}
 use Rattle.ags_tags.specs.declared.statements.ScaleLine.{ScaleLine}
 use Rattle.ags_tags.specs.declared.statements.ScaleLine.TheVariants.{Scaled, Tagged, End}
-use Rattle.ags_tags.specs.declared.statements.Table.{Table}
 use Rattle.ags_tags.specs.declared.statements.Table.TheVariants.{Cell, In, Out}
 use Rattle.ags_tags.specs.declared.tags.Tag.{Tag}
 use Rattle.ags_tags.specs.declared.tags.Tag.TheVariants.{Raw}

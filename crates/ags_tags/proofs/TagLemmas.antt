@@ -31,16 +31,16 @@ by_address_lawful : IsLawful by_address
 by_address_lawful = record {
   inside = λ count number names. names;
   back = λ count number names. refl;
-  forth = λ place. refl;
-  names = λ count place within. within;
+  forth = λ position. refl;
+  names = λ count position within. within;
 }
 
 by_row_lawful : IsLawful by_row
 by_row_lawful = record {
   inside = λ count number names. (let first = names.first in let last = names.last in omega (arith, first, last));
   back = λ count number names. (let first = names.first in omega (arith, first));
-  forth = λ place. omega arith;
-  names = λ count place within. record { first = omega arith; last = omega (arith, within) };
+  forth = λ position. omega arith;
+  names = λ count position within. record { first = omega arith; last = omega (arith, within) };
 }
 
 -- ---- registers have addresses of cells
@@ -84,8 +84,8 @@ tags_more its tags entry noted count inside fresh =
     noted_more by_address by_address_lawful (λ (e : Entry). e.address) (λ (e : Entry). Scale e.scale) Raw is_scaled its tags entry noted
     (subst (λ (n : ℕ). entry.address < n) (sym count) inside) fresh refl
 
-sized : (tags : List Tag) (place : ℕ) (tag : Tag) → length tags ≡ 4096 → length (set tags place tag) ≡ 4096
-sized tags place tag count = length-set tags place tag ∙ count
+sized : (tags : List Tag) (position : ℕ) (tag : Tag) → length tags ≡ 4096 → length (set tags position tag) ≡ 4096
+sized tags position tag count = length-set tags position tag ∙ count
 
 pub tagged_is : (g : Gatherer) (before : List ScaleLine) (table : Table) (address : ℕ) → gathered_of g before → address < 4096
     → is_tagged g table address ≡ has_address (entries table before) address

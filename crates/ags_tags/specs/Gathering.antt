@@ -15,15 +15,15 @@ use Rattle.ags_tags.specs.declared.tags.Tag.{Tag}
 use Rattle.ags_tags.specs.declared.tags.Tag.TheVariants.{Raw, Scale}
 use Rattle.ags_tags.specs.declared.tags.RowTags.{RowTags}
 
--- how numbers name the places of a list: which numbers name one of so many, the place of a number, and the number of a place
+-- how numbers name the positions of a list: which numbers name one of so many, the position of a number, and the number of a position
 pub record Naming : Type 1 where
   pub Names : (count number : ℕ) → Type 0
-  pub place : ℕ → ℕ
+  pub position : ℕ → ℕ
   pub number : ℕ → ℕ
 
--- addresses name places by themselves
+-- addresses name positions by themselves
 abbrev pub by_address : Naming
-by_address = record { Names = λ count number. number < count; place = λ number. number; number = λ place. place }
+by_address = record { Names = λ count number. number < count; position = λ number. number; number = λ position. position }
 
 -- a row that is named is one of so many
 pub record IsAmong (rows number : ℕ) : Type 0 where
@@ -32,16 +32,16 @@ pub record IsAmong (rows number : ℕ) : Type 0 where
 
 -- rows are counted from 1
 abbrev pub by_row : Naming
-by_row = record { Names = IsAmong; place = λ number. number - 1; number = λ place. place + 1 }
+by_row = record { Names = IsAmong; position = λ number. number - 1; number = λ position. position + 1 }
 
 -- one of the entries has the number
 abbrev pub has_number : {E : Type 0} → (E → ℕ) → List E → ℕ → Bool
 has_number number_of its number = list_any (λ entry. number_of entry == number) its
 
--- The list has the values that entries state, at the places that their numbers name, and it shows at which places one was stated.
+-- The list has the values that entries state, at the positions that their numbers name, and it shows at which positions one was stated.
 pub record Noted {A E : Type 0} (naming : Naming) (number_of : E → ℕ) (value : E → A) (default : A) (is_set : A → Bool) (its : List E) (list : List A) : Type 0 where
-  pub stated : All (λ (entry : E). get_or list (naming.place (number_of entry)) default ≡ value entry) its
-  pub noted : (place : ℕ) → place < length list → is_set (get_or list place default) ≡ has_number number_of its (naming.number place)
+  pub stated : All (λ (entry : E). get_or list (naming.position (number_of entry)) default ≡ value entry) its
+  pub noted : (position : ℕ) → position < length list → is_set (get_or list position default) ≡ has_number number_of its (naming.number position)
   pub among : All (λ (entry : E). naming.Names (length list) (number_of entry)) its
 
 -- a tag is a scale

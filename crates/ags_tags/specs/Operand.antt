@@ -1,4 +1,4 @@
--- What serves inside: what stands behind the keyword of a line, as it is read.
+-- What serves inside: what stands after the keyword of a line, as it is read.
 use Rattle.std.specs.Prelude.{◌≡◌, ℕ, List, codes}
 use Rattle.ags_text.specs.Field.{AreBlanks, next_field, behind_field}
 use Rattle.ags_text.specs.Numeral.{IsDecimal, Writes}
@@ -10,13 +10,13 @@ use Rattle.ags_tags.specs.declared.statements.ScaleLine.{ScaleLine}
 use Rattle.ags_tags.specs.declared.statements.ScaleLine.TheVariants.{Scaled, Tagged, End}
 use Rattle.ags_tags.specs.Spelling.{IsScale, IsRowTag, table_name}
 
--- an address and a scale, and nothing behind them
+-- an address and a scale, and nothing after them
 pub record IsEntry (text : List ℕ) (its : Entry) : Type 0 where
   pub address_is : Writes 8 4 (next_field text) its.address
   pub scale_is : IsScale (next_field (behind_field text)) its.scale
   pub ends : AreBlanks (behind_field (behind_field text))
 
--- a row's number and two tags, and nothing behind them
+-- a row's number and two tags, and nothing after them
 pub record IsRowEntry (text : List ℕ) (its : RowEntry) : Type 0 where
   pub row_is : IsDecimal 5 (next_field text) its.row
   pub a_is : IsRowTag (next_field (behind_field text)) its.tags.a
@@ -29,7 +29,7 @@ keyword_name (keyword.Entry table) = table_name table
 keyword_name keyword.Row = codes "ROW"
 keyword_name keyword.End = codes "END"
 
--- what stands behind a keyword states this
+-- what stands after a keyword states this
 abbrev pub AreOperands : Keyword → (text : List ℕ) → ScaleLine → Type 0
 AreOperands (keyword.Entry table) text its = (entry : Entry) × IsEntry text entry × (its ≡ Scaled table entry)
 AreOperands keyword.Row text its = (entry : RowEntry) × IsRowEntry text entry × (its ≡ Tagged entry)

@@ -3,7 +3,7 @@
 ghost use Rattle.std.specs.Prelude.{◌≡◌, None, IfOk, replicate};
 
 use crate::lines::read_scale_line;
-use crate::registers::{copy_of, may_stand};
+use crate::registers::may_stand;
 use crate::scale_errors::ScaleKind;
 use crate::statements::{Entry, RowEntry, ScaleLine, Table};
 use crate::tables::TagTable;
@@ -41,7 +41,6 @@ impl Gatherer {
     ghost use Rattle.std.specs.Prelude.{◌≡◌, ◌==◌, ◌||◌, ◌<◌, ℕ, nat_lt, [], IfOk, IfErr, length, true, false};
     ghost use Rattle.ags_statements.specs.Taking.{TakesStatement, TellsUntaken};
     ghost use Rattle.ags_tags.specs.Gathering.{gathered_of, is_noted, is_tagged, with_entry};
-    ghost use Rattle.ags_tags.specs.Tag.{tag_at};
     ghost use Rattle.ags_tags.specs.Text.{faults};
     ghost use Rattle.ags_tags.specs.declared.statements.ScaleLine.TheVariants.{Scaled, Tagged};
 
@@ -52,7 +51,7 @@ impl Gatherer {
         ensures rows { IfOk result (λ g. length g.rows.items ≡ rows) }
     {
         Ok(Gatherer {
-            ports: copy_of(ports),
+            ports: ports.copy(),
             cells: TagTable::new(alloc)?,
             inputs: TagTable::new(alloc)?,
             outputs: TagTable::new(alloc)?,

@@ -22,12 +22,8 @@ fn read_entry(text: &[u8]) -> Option<Entry>
 {
     let (place, behind) = split_field(text);
     let (number, rest) = split_field(behind);
-    let Some(address) = read_address(place) else {
-        return None;
-    };
-    let Some(scale) = read_scale(number) else {
-        return None;
-    };
+    let address = read_address(place)?;
+    let scale = read_scale(number)?;
     are_blanks(rest).then_some(Entry { address, scale })
 }
 
@@ -39,22 +35,16 @@ fn read_row(text: &[u8]) -> Option<RowEntry>
     let (number, behind) = split_field(text);
     let (first, others) = split_field(behind);
     let (second, rest) = split_field(others);
-    let Some(row) = read_count(number) else {
-        return None;
-    };
-    let Some(a) = read_row_tag(first) else {
-        return None;
-    };
-    let Some(q) = read_row_tag(second) else {
-        return None;
-    };
+    let row = read_count(number)?;
+    let a = read_row_tag(first)?;
+    let q = read_row_tag(second)?;
     are_blanks(rest).then_some(RowEntry {
         row,
         tags: RowTags { a, q },
     })
 }
 
-/// What a keyword and the text behind it state.
+/// What a keyword and the text after it state.
 fn read_operands(keyword: Keyword, text: &[u8]) -> Option<ScaleLine>
     ensures found { IfSome result (AreOperands keyword text.now) }
     ensures only { (its : ScaleLine) → AreOperands keyword text.now its → result ≡ Some its }
@@ -72,8 +62,6 @@ pub(crate) fn read_scale_line(line: &[u8]) -> Option<ScaleLine>
     ensures only { (its : ScaleLine) → States line.now its → result ≡ Some its }
 {
     let (name, behind) = split_field(line);
-    match keyword_named(name) {
-        Some(keyword) => read_operands(keyword, behind),
-        None => None,
-    }
+    let keyword = keyword_named(name)?;
+    read_operands(keyword, behind)
 }

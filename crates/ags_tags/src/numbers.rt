@@ -25,15 +25,11 @@ pub(crate) fn read_scale(text: &[u8]) -> Option<i8>
     ensures found { IfSome result (λ scale. IsScale text.now scale) }
     ensures only { (scale : ℤ) → IsScale text.now scale → result ≡ Some scale }
 {
-    match read_signed(text) {
-        Some(number) => {
-            if is_scale(number) {
-                Some(number as i8)
-            } else {
-                None
-            }
-        }
-        None => None,
+    let number = read_signed(text)?;
+    if is_scale(number) {
+        Some(number as i8)
+    } else {
+        None
     }
 }
 
@@ -48,8 +44,5 @@ pub(crate) fn read_row_tag(text: &[u8]) -> Option<RowTag>
     if text == b"RAW".as_slice() {
         return Some(RowTag::Known(Tag::Raw));
     }
-    match read_scale(text) {
-        Some(scale) => Some(RowTag::Known(Tag::Scale(scale))),
-        None => None,
-    }
+    Some(RowTag::Known(Tag::Scale(read_scale(text)?)))
 }

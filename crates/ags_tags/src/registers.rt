@@ -7,16 +7,6 @@ use crate::statements::Table;
 use ags_ports::{Port, Ports};
 use ags_word::LOCATIONS;
 
-/// A copy of some registers.
-pub(crate) fn copy_of(ports: &Ports) -> Ports
-    ensures { result ≡ ports.now }
-{
-    match Ports::of(ports.inputs(), ports.outputs()) {
-        Some(copy) => copy,
-        None => unreachable!(),
-    }
-}
-
 /// Whether one of the registers stands at an address.
 fn has_register(ports: &[Port], address: u16) -> bool
     ensures { result ≡ has_register ports.now address }

@@ -21,7 +21,7 @@ const SUMS: &str = " ORG /20\nS BSS 1\n ORG /4000\nL CLA S\n ADD ONE\n STO S\n T
 const SUMS_LISTING: &str =
     "0000001              ORG /20\n0000002             S BSS 1\n0000003              ORG /4000\n0000004 4000 200020 L CLA S\n0000005 4001 224004  ADD ONE\n0000006 4002 100020  STO S\n0000007 4003 404000  TRA L\n0000008 4004 000001 ONE OCT 1\n";
 
-/// Runs `certify S C` and compares the status, and the listing with the verdict behind it.
+/// Runs `certify S C` and compares the status, and the listing with the verdict after it.
 fn compare_verdict(
     rt: &(impl AllocGlobal + Abort),
     source: &str,
@@ -147,7 +147,7 @@ fn certifies_a_limiter_by_its_links(rt: HostRuntime) {
     }
 }
 
-/// A source of one order, the certificate behind its first line, its listing and the verdict that refuses it.
+/// A source of one order, the certificate after its first line, its listing and the verdict that refuses it.
 type Refused = (&'static str, &'static str, &'static str, &'static str);
 
 /// The rows of `refuses_what_fails_first`.
@@ -193,7 +193,7 @@ fn refuses_what_fails_first(rt: HostRuntime) {
     }
 }
 
-/// A jump behind an order that stores or gives A: the source, the certificate behind its first line, the listing and the verdict.
+/// A jump after an order that stores or gives A: the source, the certificate after its first line, the listing and the verdict.
 const OUT_OF_RANGE: [Refused; 4] = [
     (
         " ORG /4000\n STO /20\n TRA /4000\n",

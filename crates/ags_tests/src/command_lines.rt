@@ -19,7 +19,7 @@ pub(crate) fn add(rt: &impl Abort, text: &mut String, piece: &str) {
     assert!(rt; text.push_str(piece).is_ok());
 }
 
-/// These two texts, one behind the other.
+/// These two texts, one after the other.
 pub(crate) fn joined(rt: &impl Abort, alloc: Global, first: &str, second: &str) -> String {
     let mut text = String::new(alloc);
     add(rt, &mut text, first);

@@ -1,10 +1,10 @@
 //! The program over outsides that fail. The expected answers are typed by hand from the README's table of statuses.
 
-ghost use Rattle.std.specs.Prelude.{None};
 ghost use Rattle.ags_outside.specs.ToldFile.{Untold};
 
 use crate::command_lines::{arguments_of, expect_same};
-use ags_outside::{Pull, PutDone, Shelf, Sink, SteadyShelf, SteadySink};
+use ags_decks::FailingSink;
+use ags_outside::{Pull, Shelf, SteadyShelf, SteadySink};
 use ags_top::{Status, ags_main};
 use std::alloc::Global;
 use std::process::Abort;
@@ -69,29 +69,6 @@ impl FailingShelf {
     }
 }
 
-/// A sink that tells nothing, counts its puts, and fails at one of them alone.
-#[derive(Drop)]
-struct FailingSink {
-    at: u64,
-    puts: u64,
-    faults: u64,
-}
-
-impl Sink for FailingSink {
-    ghost told = { λ _. None };
-
-    ghost faults = { λ sink. sink.faults };
-
-    fn put(&mut self, piece: &[u8]) -> PutDone {
-        self.puts = self.puts.saturating_add(1);
-        if self.puts == self.at {
-            self.faults = self.faults.saturating_add(1);
-            return PutDone::Failed;
-        }
-        PutDone::Took(piece.len())
-    }
-}
-
 /// Runs a command line where the file of one name can't be read, and compares what comes.
 fn compare(
     rt: &(impl AllocGlobal + Abort),
@@ -124,7 +101,7 @@ const READ_FAULTS: [(&str, &str, Status, &str); 6] = [
     ("S", "run S", Status::BadWords, "WORDS\n"),
 ];
 
-// A file counts only where those before it are read: the script that can't be read isn't looked for behind a source that
+// A file counts only where those before it are read: the script that can't be read isn't looked for after a source that
 // is absent or has a fault.
 #[test]
 fn read_faults_write_nothing(rt: HostRuntime) {
@@ -133,7 +110,7 @@ fn read_faults_write_nothing(rt: HostRuntime) {
     }
 }
 
-/// The files, but that the certificate C is one line that goes on without an end, or can't be read behind its second piece.
+/// The files, but that the certificate C is one line that goes on without an end, or can't be read after its second piece.
 #[derive(Drop)]
 struct LateShelf {
     held: SteadyShelf,
@@ -161,7 +138,7 @@ impl Shelf for LateShelf {
     }
 }
 
-/// Whether the certificate's file can't be read behind its front, the status of its certification, and what is printed.
+/// Whether the certificate's file can't be read after its front, the status of its certification, and what is printed.
 const LATE: [(bool, Status, &str); 2] = [
     (true, Status::ReadFault, ""),
     (false, Status::LongFile, "LONG C 67108864\n"),
@@ -191,14 +168,14 @@ fn late_faults_of_a_file_come_before_early_bad_lines(rt: HostRuntime) {
 fn count_puts(rt: &(impl AllocGlobal + Abort), line: &str, at: u64, status: Status, puts: u64) {
     let alloc = rt.alloc();
     let mut shelf = FailingShelf::new(rt, alloc, "none");
-    let mut out = FailingSink {
-        at,
-        puts: 0,
-        faults: 0,
-    };
+    let mut out = FailingSink::at(at);
     let arguments = arguments_of(rt, alloc, line);
     let ended = ags_main(alloc, &arguments, &mut shelf, &mut out);
-    expect_same(rt, &(line, at, ended, out.puts), &(line, at, status, puts));
+    expect_same(
+        rt,
+        &(line, at, ended, out.puts()),
+        &(line, at, status, puts),
+    );
 }
 
 /// A command line, the put that fails, the status, and how many puts were made.
@@ -234,7 +211,7 @@ const WRITE_FAULTS: [(&str, u64, Status, u64); 27] = [
     ("run S S", 1, Status::WriteFault, 1),
 ];
 
-// Each line is put as one piece, and none is put behind one that failed.
+// Each line is put as one piece, and none is put after one that failed.
 #[test]
 fn write_faults_end_the_run(rt: HostRuntime) {
     for &(line, at, status, puts) in &WRITE_FAULTS {

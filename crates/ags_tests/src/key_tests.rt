@@ -46,22 +46,23 @@ const READOUT: [Key; 8] = [
     Key::ReadOut,
 ];
 
-/// Whether a key may stand at a place of an entry.
-fn entry_has(place: usize, key: Key) -> bool {
+/// Whether a key may stand at a position of an entry.
+fn entry_has(position: usize, key: Key) -> bool {
     match key {
-        Key::Digit(digit) => place < 3 && digit < 8 || 3 < place && place < 9 && digit < 10,
-        Key::Plus | Key::Minus => place == 3,
-        Key::Entr => place == 9,
+        Key::Digit(digit) => position < 3 && digit < 8
+            || 3 < position && position < 9 && digit < 10,
+        Key::Plus | Key::Minus => position == 3,
+        Key::Entr => position == 9,
         Key::Clr | Key::ReadOut | Key::Hold => false,
     }
 }
 
-/// Whether a key may stand at a place of a readout.
-fn readout_has(place: usize, key: Key) -> bool {
+/// Whether a key may stand at a position of a readout.
+fn readout_has(position: usize, key: Key) -> bool {
     match key {
-        Key::Digit(digit) => place < 3 && digit < 8,
-        Key::ReadOut => 3 <= place && place % 2 == 1,
-        Key::Hold => 3 <= place && place % 2 == 0,
+        Key::Digit(digit) => position < 3 && digit < 8,
+        Key::ReadOut => 3 <= position && position % 2 == 1,
+        Key::Hold => 3 <= position && position % 2 == 0,
         Key::Plus | Key::Minus | Key::Clr | Key::Entr => false,
     }
 }
@@ -70,10 +71,10 @@ fn readout_has(place: usize, key: Key) -> bool {
 fn are_lawful(keys: &[Key], count: usize) -> bool {
     let mut entry = true;
     let mut readout = true;
-    for (place, key) in keys.iter().enumerate() {
-        if place < count {
-            entry = entry && entry_has(place, *key);
-            readout = readout && readout_has(place, *key);
+    for (position, key) in keys.iter().enumerate() {
+        if position < count {
+            entry = entry && entry_has(position, *key);
+            readout = readout && readout_has(position, *key);
         }
     }
     entry || readout
@@ -89,27 +90,27 @@ fn character(key: Key) -> u8 {
     }
 }
 
-/// The display behind these keys, of which none is CLR.
+/// The display after these keys, of which none is CLR.
 fn display(keys: &[Key]) -> [u8; 10] {
     let mut text = *b"          ";
-    for (place, key) in keys.iter().enumerate() {
-        if !are_lawful(keys, place + 1) {
+    for (position, key) in keys.iter().enumerate() {
+        if !are_lawful(keys, position + 1) {
             text[9] = b'E';
             return text;
         }
-        if place < 9 {
-            text[place] = character(*key);
+        if position < 9 {
+            text[position] = character(*key);
         }
     }
     text
 }
 
-/// The keys behind the last CLR.
+/// The keys after the last CLR.
 fn since_clear(keys: &[Key]) -> &[Key] {
     let mut since = 0;
-    for (place, key) in keys.iter().enumerate() {
+    for (position, key) in keys.iter().enumerate() {
         if matches!(key, Key::Clr) {
-            since = place + 1;
+            since = position + 1;
         }
     }
     keys.get(since..).unwrap_or(keys)
@@ -128,7 +129,7 @@ fn compare_display(rt: &impl Abort, keys: &[Key]) {
     );
 }
 
-/// The keys whose places among `KEYS` a number has as its four digits of base 11.
+/// The keys whose positions among `KEYS` a number has as its four digits of base 11.
 fn keys_of(number: usize) -> [Key; 4] {
     [
         KEYS[number / 1331 % 11],
@@ -145,7 +146,7 @@ fn compare_displays(rt: &impl Abort, keys: &[Key; 4]) {
     }
 }
 
-// Every list of up to four keys: a display behind each key of every list of four.
+// Every list of up to four keys: a display after each key of every list of four.
 #[test]
 fn shows_each_list_of_four_keys(rt: HostRuntime) {
     for number in 0..14641 {
@@ -153,14 +154,14 @@ fn shows_each_list_of_four_keys(rt: HostRuntime) {
     }
 }
 
-/// These keys, and one behind them.
+/// These keys, and one after them.
 fn with_last(rt: &impl Abort, alloc: Global, form: &[Key], last: Key) -> Vec<Key> {
     let mut keys = Vec::from_slice(alloc, form).expect(rt, "memory for keys");
     assert!(rt; keys.push(last).is_ok());
     keys
 }
 
-/// Presses each key behind the first so many of a form.
+/// Presses each key after the first so many of a form.
 fn compare_behind(rt: &(impl AllocGlobal + Abort), form: &[Key]) {
     for count in 0..form.len() + 1 {
         for key in &KEYS {
@@ -170,7 +171,7 @@ fn compare_behind(rt: &(impl AllocGlobal + Abort), form: &[Key]) {
 }
 
 #[test]
-fn shows_each_key_at_each_place(rt: HostRuntime) {
+fn shows_each_key_at_each_position(rt: HostRuntime) {
     compare_behind(&rt, &ENTRY);
     compare_behind(&rt, &READOUT);
 }

@@ -146,7 +146,7 @@ const RUNS: [Run; 3] = [
         "START 0000\nPULSE\nSHOW REG\nSTEP 1\nSHOW REG\nSTEP 1\nSHOW REG\nSET 2001 000011\nSHOW REG\nPULSE\nSHOW REG\n",
         "A 000000 Q 000000 X 0 V 0 P 0000 R\nA 000000 Q 000000 X 0 V 0 P 0000 W\nA 000000 Q 000000 X 0 V 0 P 0000 W\nA 000000 Q 000000 X 0 V 0 P 0000 W\nA 000000 Q 000000 X 0 V 0 P 0000 R\n",
     ),
-    // DLY 0001 and INP 2001: the word that was put in the wait is there behind it
+    // DLY 0001 and INP 2001: the word that was put in the wait is there after it
     (
         " OCT 700001\n OCT 642001\n",
         "START 0000\nSTEP 1\nSET 2001 000011\nPULSE\nSTEP 1\nSHOW REG\n",

@@ -88,7 +88,7 @@ fn begins_with_a_word_held_once(rt: HostRuntime) {
 }
 
 // The last order of a cycle may pass its end, and the next cycle is shorter by that. Here a cycle passes its end by 3, 6, 9 and
-// then 2 microseconds, and the fourth ends behind another order. A STEP changes nothing of it.
+// then 2 microseconds, and the fourth ends after another order. A STEP changes nothing of it.
 #[test]
 fn carries_what_a_cycle_runs_over(rt: HostRuntime) {
     let source = " ORG /4000\n DVP /20\n TRA /4000\n";
@@ -164,14 +164,14 @@ fn plays_and_guards_the_deck(rt: HostRuntime) {
     );
 }
 
-/// Guards the deck with a script, and compares what stands behind the verdict.
+/// Guards the deck with a script, and compares what stands after the verdict.
 fn compare_outside(rt: &(impl AllocGlobal + Abort), script: &str, shown: &str) {
     let text = joined(rt, rt.alloc(), "CERTIFIED ROWS 31 CASES 32\n", shown);
     let files = (DECK, script, DECK_CERTIFICATE);
     compare_guarded(rt, files, Status::No, text.as_str());
 }
 
-// A word that isn't declared isn't put, and nothing is played behind it.
+// A word that isn't declared isn't put, and nothing is played after it.
 /// The rows of `stops_before_a_word_outside`.
 const STOPS_BEFORE_A_WORD_OUTSIDE: [(&str, &str); 2] = [
     (
@@ -241,10 +241,10 @@ const NARROW: &str = "AGSCERT 1\nIN 2001 RANGE 5 9\nROW 4000 A ANY Q ANY X 0 V 0
 const RESTATED: &str =
     "AGSCERT 1\nSTART 4010\nINIT 0020 RANGE 0 9\nROW 4010 A ANY Q ANY X 0 V 0\nEND\n";
 
-/// A script, with the status and what stands behind the verdict.
+/// A script, with the status and what stands after the verdict.
 type Begun = (&'static str, Status, &'static str);
 
-/// Guards three files with a certificate of one row, and compares what stands behind the verdict.
+/// Guards three files with a certificate of one row, and compares what stands after the verdict.
 fn compare_start(
     rt: &(impl AllocGlobal + Abort),
     files: (&str, &str, &str),

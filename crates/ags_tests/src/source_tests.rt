@@ -202,7 +202,7 @@ fn says_the_fault_of_the_first_phase(rt: HostRuntime) {
 /// A source, and its listing.
 type Listed = (&'static [u8], &'static str);
 
-// Words of orders, decimals and octal numbers; symbols before and behind their cards; places that cards set.
+// Words of orders, decimals and octal numbers; symbols before and after their cards; places that cards set.
 /// The rows of `lists_words`.
 const LISTS_WORDS: [Listed; 10] = [
     (
@@ -223,12 +223,12 @@ const LISTS_WORDS: [Listed; 10] = [
         b"A ORG /20\nB BSS *-16\n CLA A\n CLA B\n TRA *+1\n",
         "0000001             A ORG /20\n0000002             B BSS *-16\n0000003 0020 200020  CLA A\n0000004 0021 200020  CLA B\n0000005 0022 400023  TRA *+1\n",
     ),
-    // what stands behind the first END isn't read
+    // what stands after the first END isn't read
     (
         b" OCT -1\r\n END\r\n\0 NO CARD\n",
         "0000001 0000 777777  OCT -1\n0000002              END\n",
     ),
-    // the symbol of an END behind the last place
+    // the symbol of an END after the last place
     (
         b" ORG 4095\n OCT 7\nTOP END",
         "0000001              ORG 4095\n0000002 7777 000007  OCT 7\n0000003             TOP END\n",

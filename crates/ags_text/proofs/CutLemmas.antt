@@ -28,7 +28,7 @@ return_last front = grind (arith, common_steps)
 none_ends : EndsInReturn [] → ⊥
 none_ends ends = let lengths = ap length ends.1 in omega (arith, lengths, length-append ends.0 (13 ∷ []))
 
--- a part is its line and the return behind that
+-- a part is its line and the return after that
 part_return : (part : List ℕ) → (return : List ℕ) × (part ≡ strip_carriage_return part ++ return) × IsReturn (strip_carriage_return part) return
 part_return [] = ([], refl, inr (refl, none_ends))
 part_return (b ∷ rest) =

@@ -20,7 +20,7 @@ faultless-cons fault before x xs one others (z ∷ front) y rest whole =
     let behind : xs ≡ front ++ y ∷ rest = cc in
     rw (turned z front before, ← same) (others front y rest behind)
 
--- a first element without a fault, and no first fault behind it
+-- a first element without a fault, and no first fault after it
 head_none : {X F : Type 0} (fault : List X → X → Option F) (before : List X) (x : X) (xs : List X) (head : Option F) → fault before x ≡ head
     → or_later (length before + 1) head (first_fault fault (x ∷ before) xs) ≡ None
     → (first_fault fault (x ∷ before) xs ≡ None → IsFaultless fault (x ∷ before) xs) → IsFaultless fault before (x ∷ xs)
@@ -32,7 +32,7 @@ unfolding first_fault
 faultless fault before [] none = faultless-nil fault before
 faultless fault before (x ∷ xs) none = head_none fault before x xs (fault before x) refl none (faultless fault (x ∷ before) xs)
 
--- the first fault is behind a first element that has none
+-- the first fault is after a first element that has none
 found_later : {X F : Type 0} (fault : List X → X → Option F) (before : List X) (x : X) (xs : List X) (f : ℕ × F)
     → fault before x ≡ None → IsFirstFault fault (x ∷ before) xs f → IsFirstFault fault before (x ∷ xs) f
 found_later fault before x xs f one later = record {

@@ -1,6 +1,6 @@
 -- What stands in a line is what is cut from it, and back.
 --
--- The lemmas that the crates above may cite, each of them behind a clause of `field_laws.rt`: standing_cut and
+-- The lemmas that the crates above may cite: field_cut and field_parts, and behind clauses of `field_laws.rt` standing_cut and
 -- standing_behind, cut_standing and cut_behind, blanks_none, blanks_end and none_blank, first_byte and no_blank_text,
 -- number_field and writes_field.
 use Rattle.std.proofs.Common.{◌≡◌, ℕ, ◌<◌, ◌≤◌, Bool, true, false, eqb, not, List, [], ◌∷◌, ◌++◌, length, take, get_or, refl, sym, ap, inl, inr, ◌∙◌, one-add, arith}
@@ -31,12 +31,12 @@ blanks_cut blanks rest all stops =
     let cut : prefix_len is_blank (blanks ++ rest) ≡ length blanks = prefix_len_cut is_blank blanks rest all stops in
     rw (cut) (drop_at blanks rest (length blanks) refl)
 
--- a text is the field at its start and what stands behind it, which does not begin with a byte that is not blank
+-- a text is the field at its start and what stands after it, which does not begin with a byte that is not blank
 leading_parts : (text : List ℕ) → (text ≡ leading_field text ++ behind_leading_field text) × HasNoBlank (leading_field text) × (first_passes (λ b. not (is_blank b)) (behind_leading_field text) ≡ false)
 unfolding leading_field behind_leading_field
 leading_parts text = (sym (take-append-drop (position_or_len is_blank text) text), front_passes (λ b. not (is_blank b)) text, rest_stops (λ b. not (is_blank b)) text)
 
--- and blanks and what stands behind them, which does not begin with a blank
+-- and blanks and what stands after them, which does not begin with a blank
 blanks_parts : (text : List ℕ) → (blanks : List ℕ) × (text ≡ blanks ++ behind_blanks text) × (list_all is_blank blanks ≡ true) × (first_passes is_blank (behind_blanks text) ≡ false)
 unfolding behind_blanks
 blanks_parts text = (take (prefix_len is_blank text) text, sym (take-append-drop (prefix_len is_blank text) text), front_passes is_blank text, rest_stops is_blank text)
@@ -66,7 +66,7 @@ field_stops (b ∷ field) rest some no_blank =
 -- The next field.
 
 -- blanks, a field, and a rest that is empty or begins with a blank
-field_cut : (blanks field rest : List ℕ) → AreBlanks blanks → 0 < length field → HasNoBlank field → first_passes (λ b. not (is_blank b)) rest ≡ false
+pub field_cut : (blanks field rest : List ℕ) → AreBlanks blanks → 0 < length field → HasNoBlank field → first_passes (λ b. not (is_blank b)) rest ≡ false
     → (next_field (blanks ++ (field ++ rest)) ≡ field) × (behind_field (blanks ++ (field ++ rest)) ≡ rest)
 unfolding next_field behind_field
 field_cut blanks field rest are some no_blank stops =
@@ -74,8 +74,8 @@ field_cut blanks field rest are some no_blank stops =
     let cut = leading_cut field rest no_blank stops in
     (rw (skip) cut.0, rw (skip) cut.1)
 
--- a text is blanks, its next field and what stands behind it
-field_parts : (text : List ℕ) → (blanks : List ℕ) × AreBlanks blanks × (text ≡ blanks ++ (next_field text ++ behind_field text)) × HasNoBlank (next_field text)
+-- a text is blanks, its next field and what stands after it
+pub field_parts : (text : List ℕ) → (blanks : List ℕ) × AreBlanks blanks × (text ≡ blanks ++ (next_field text ++ behind_field text)) × HasNoBlank (next_field text)
     × (first_passes (λ b. not (is_blank b)) (behind_field text) ≡ false)
 unfolding next_field behind_field
 field_parts text =
@@ -83,14 +83,14 @@ field_parts text =
     let field = leading_parts (behind_blanks text) in
     (parts.0, parts.2, parts.1 ∙ ap (λ (rest : List ℕ). parts.0 ++ rest) field.0, field.1, field.2)
 
--- blanks have no field, and nothing behind it
+-- blanks have no field, and nothing after it
 pub blanks_end : (text : List ℕ) → AreBlanks text → (next_field text ≡ []) × (behind_field text ≡ [])
 unfolding next_field behind_field leading_field behind_leading_field
 blanks_end text are =
     let skip : behind_blanks text ≡ [] = sym (ap behind_blanks (append-nil text)) ∙ blanks_cut text [] are refl in
     (rw (skip) refl, rw (skip) refl)
 
--- so that what stands behind it are blanks
+-- so that what stands after it are blanks
 pub blanks_none : (text : List ℕ) → AreBlanks text → (next_field text ≡ []) × AreBlanks (behind_field text)
 blanks_none text are = let end = blanks_end text are in (end.0, rw (end.1) refl)
 
@@ -114,7 +114,7 @@ none_blank text none =
 
 -- The fields of a line.
 
--- what stands behind a field does not go on with it
+-- what stands after a field does not go on with it
 behind_stops : (fields : List (List ℕ)) (text : List ℕ) → Behind fields text → first_passes (λ b. not (is_blank b)) text ≡ false
 behind_stops [] text behind = blanks_stop text behind
 behind_stops (field ∷ fields) text behind = rw (behind.3) (gap_stops behind.0 (field ++ behind.1) behind.2)
@@ -132,7 +132,7 @@ standing_cut line (field ∷ fields) are has =
     let cut = field_cut has.0 field has.1 has.2 are.0.some are.0.marks (behind_stops fields has.1 has.4) in
     (rw (has.3) cut.0, rw (has.3, cut.1) (behind_cut fields has.1 are.1 has.4))
 
--- and so behind a field
+-- and so after a field
 pub standing_behind : (line field behind : List ℕ) (fields : List (List ℕ)) → HasNoBlank field → AreFields fields → line ≡ field ++ behind → Behind fields behind
     → (leading_field line ≡ field) × AreCut fields (behind_leading_field line)
 standing_behind line field behind fields marks are whole stand =
@@ -180,7 +180,7 @@ cut_fields line (field ∷ fields) some are = (record { some = some.0; marks = r
 pub cut_standing : (line : List ℕ) (fields : List (List ℕ)) → AreSome fields → AreCut fields line → AreFields fields × HasFields line fields
 cut_standing line fields some are = (cut_fields line fields some are, cut_has line fields some are)
 
--- and so behind a field
+-- and so after a field
 pub cut_behind : (line : List ℕ) (fields : List (List ℕ)) → AreSome fields → AreCut fields (behind_leading_field line)
     → HasNoBlank (leading_field line) × (line ≡ leading_field line ++ behind_leading_field line) × Behind fields (behind_leading_field line)
 cut_behind line fields some are =

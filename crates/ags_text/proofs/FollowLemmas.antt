@@ -1,4 +1,4 @@
--- The lines of a text stand in it, one behind the other.
+-- The lines of a text stand in it, one after the other.
 use Rattle.std.proofs.Common.{◌≡◌, ℕ, ◌+◌, ◌-◌, ◌≤◌, Bool, true, false, cond, eqb, List, [], ◌∷◌, ◌++◌, length, take, slice_index, refl, sym, ap, ◌∙◌, append_assoc, arith}
 use Rattle.std.specs.List.{join_with_byte}
 use Rattle.std.specs.Str.Lines.{strip_carriage_return}
@@ -40,7 +40,7 @@ last_follows text front part true whole = tt
 last_follows text front part false whole =
     (omega arith, lies text front part [] (strip_carriage_return part) (whole ∙ ap (λ (rest : List ℕ). front ++ rest) (sym (append-nil part))) (strip-front part), tt)
 
--- the lines in parts that stand behind some front of a text
+-- the lines in parts that stand after some front of a text
 parts_follow : (ps : List (List ℕ)) (text front : List ℕ) → text ≡ front ++ join_with_byte 10 ps → Follow text (length front) (lines_in (length front) ps)
 unfolding lines_in
 parts_follow [] text front whole = tt

@@ -1,4 +1,4 @@
--- The fronts of a text that pass a test, and what stands behind them.
+-- The fronts of a text that pass a test, and what stands after them.
 use Rattle.std.proofs.Common.{◌≡◌, ℕ, ◌+◌, ◌≤◌, Bool, true, false, cond, not, List, [], ◌∷◌, ◌++◌, length, take, drop, get_or, refl, ap, unwrap_or, position, inl, inr, one-add, arith}
 use Rattle.std.specs.List.{position_or_len, prefix_len, list_all}
 use Rattle.std.proofs.lemmas.Bool.{cases_lt, le-ltb, lt-ltb, cases_Bool, and_parts}
@@ -36,7 +36,7 @@ front_passes p (b ∷ text) =
       | inr not ↦ rw (not) refl
     ]
 
--- and what stands behind it does not begin with a byte that passes
+-- and what stands after it does not begin with a byte that passes
 pub rest_stops : (p : ℕ → Bool) (text : List ℕ) → first_passes p (drop (prefix_len p text) text) ≡ false
 rest_stops p [] = refl
 rest_stops p (b ∷ text) =

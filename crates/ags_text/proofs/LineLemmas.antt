@@ -21,7 +21,7 @@ first_of_parts (b ∷ text) =
       | false ↦ (b ∷ r.0, r.1, rw r.2 refl)
     ]
 
--- a line before a line feed, and the lines behind it
+-- a line before a line feed, and the lines after it
 pub lines_in-feed : (start : ℕ) (text : List ℕ) (feed : ℕ) → feed ≡ position_or_len is_feed text → feed < length text
     → lines_in start (parts text) ≡ record { start = start; bytes = strip_carriage_return (take feed text) } ∷ lines_in (start + feed + 1) (parts (drop (feed + 1) text))
 unfolding lines_in
@@ -32,7 +32,7 @@ lines_in-feed start text feed is within =
     let whole : parts text ≡ take feed text ∷ parts (drop (feed + 1) text) = rw is (slice_split_first is_feed text 0 inside) in
     rw (whole, behind.2, long) refl
 
--- the last line, behind which no line feed stands
+-- the last line, after which no line feed stands
 pub lines_in-last : (start : ℕ) (text : List ℕ) → position_or_len is_feed text ≡ length text
     → lines_in start (parts text) ≡ lines_in start (text ∷ [])
 lines_in-last start text is =

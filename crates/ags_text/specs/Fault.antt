@@ -9,13 +9,13 @@ abbrev pub or_later : {F : Type 0} → ℕ → Option F → Option (ℕ × F) �
 or_later number (Some fault) later = Some (number, fault)
 or_later number None later = later
 
--- The first faulty element of a list that goes on behind the elements `before`, nearest first: its number
+-- The first faulty element of a list that goes on after the elements `before`, nearest first: its number
 -- in the whole list, counted from 1, and its fault. Whether an element is faulty may depend on those before it.
 unfoldable pub first_fault : {X F : Type 0} → (List X → X → Option F) → List X → List X → Option (ℕ × F)
 first_fault fault before [] = None
 first_fault fault before (x ∷ rest) = or_later (length before + 1) (fault before x) (first_fault fault (x ∷ before) rest)
 
--- no element is faulty behind those before it
+-- no element is faulty after those before it
 abbrev pub IsFaultless : {X F : Type 0} → (List X → X → Option F) → List X → List X → Type 0
 IsFaultless {X} fault before xs = (front : List X) (x : X) (rest : List X) → xs ≡ front ++ x ∷ rest → fault (reverse front ++ before) x ≡ None
 

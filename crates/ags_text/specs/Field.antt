@@ -34,7 +34,7 @@ abbrev pub AreSome : List (List ℕ) → Type 0
 AreSome [] = Unit {0}
 AreSome (field ∷ fields) = (0 < length field) × AreSome fields
 
--- what stands behind a field: the further fields, a gap before each, and nothing but blanks behind the last
+-- what stands after a field: the further fields, a gap before each, and nothing but blanks after the last
 abbrev pub Behind : List (List ℕ) → List ℕ → Type 0
 Behind [] text = AreBlanks text
 Behind (field ∷ fields) text = (gap rest : List ℕ) × IsGap gap × (text ≡ gap ++ (field ++ rest)) × Behind fields rest
@@ -48,7 +48,7 @@ HasFields line (field ∷ fields) = (blanks rest : List ℕ) × AreBlanks blanks
 unfoldable pub leading_field : List ℕ → List ℕ
 leading_field text = take (position_or_len is_blank text) text
 
--- what stands behind that prefix
+-- what stands after that prefix
 unfoldable pub behind_leading_field : List ℕ → List ℕ
 behind_leading_field text = drop (position_or_len is_blank text) text
 
@@ -60,11 +60,11 @@ behind_blanks text = drop (prefix_len is_blank text) text
 unfoldable pub next_field : List ℕ → List ℕ
 next_field text = leading_field (behind_blanks text)
 
--- what stands behind it
+-- what stands after it
 unfoldable pub behind_field : List ℕ → List ℕ
 behind_field text = behind_leading_field (behind_blanks text)
 
--- the fields that are cut from a text one after another are these, and nothing but blanks stands behind them
+-- the fields that are cut from a text one after another are these, and nothing but blanks stands after them
 abbrev pub AreCut : List (List ℕ) → List ℕ → Type 0
 AreCut [] text = AreBlanks text
 AreCut (field ∷ fields) text = (next_field text ≡ field) × AreCut fields (behind_field text)

@@ -21,21 +21,21 @@ EndsInReturn bytes = (front : List ℕ) × (bytes ≡ front ++ 13 ∷ [])
 abbrev pub IsReturn : (bytes return : List ℕ) → Type 0
 IsReturn bytes return = (return ≡ 13 ∷ []) ⊎ ((return ≡ []) × (EndsInReturn bytes → ⊥))
 
--- the text is a line that ends at a line feed, and what stands behind that
+-- the text is a line that ends at a line feed, and what stands after that
 pub record BeginsWithLine (text bytes return behind : List ℕ) : Type 0 where
   pub whole : text ≡ bytes ++ (return ++ 10 ∷ behind)
   pub unbroken : HasNoFeed bytes
   pub ending : IsReturn bytes return
 
--- the text is a last line, which is not empty, without a line feed behind it
+-- the text is a last line, which is not empty, without a line feed after it
 pub record IsLastLine (text bytes return : List ℕ) : Type 0 where
   pub whole : text ≡ bytes ++ return
   pub some : 0 < length bytes
   pub unbroken : HasNoFeed bytes
   pub ending : IsReturn bytes return
 
--- The rest of a text, from that byte of it on, is these lines with their ends, one behind the other, and nothing else,
--- but that a lone carriage return may stand behind the last line feed.
+-- The rest of a text, from that byte of it on, is these lines with their ends, one after the other, and nothing else,
+-- but that a lone carriage return may stand after the last line feed.
 abbrev pub IsCutFrom : (start : ℕ) → List ℕ → List LineAt → Type 0
 IsCutFrom start text [] = (text ≡ []) ⊎ (text ≡ 13 ∷ [])
 IsCutFrom start text (line ∷ lines) = (line.start ≡ start) × (
@@ -51,7 +51,7 @@ abbrev pub parts : List ℕ → List (List ℕ)
 parts text = slice_split (λ b. b == 10) text
 
 -- The lines in such parts, of which the first begins at that byte of the text. One carriage return at
--- the end of a part belongs to the line's end. The last part, behind which no line feed stands, is a
+-- the end of a part belongs to the line's end. The last part, after which no line feed stands, is a
 -- line where something else is in it.
 unfoldable pub lines_in : ℕ → List (List ℕ) → List LineAt
 lines_in start [] = []
@@ -69,7 +69,7 @@ pub record LiesIn (text : List ℕ) (line : LineAt) : Type 0 where
   pub within : line.start + length line.bytes ≤ length text
   pub bytes_are : take (length line.bytes) (drop line.start text) ≡ line.bytes
 
--- The lines stand in the text, from that byte on, one behind the other.
+-- The lines stand in the text, from that byte on, one after the other.
 abbrev pub Follow : List ℕ → ℕ → List LineAt → Type 0
 Follow text from [] = Unit {0}
 Follow text from (line ∷ lines) = (from ≤ line.start) × LiesIn text line × Follow text (line.start + length line.bytes + 1) lines

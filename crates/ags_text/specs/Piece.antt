@@ -3,7 +3,7 @@ use Rattle.std.specs.Prelude.{◌≡◌, ℕ, ◌+◌, List, [], ◌∷◌, ◌+
 use Rattle.std.specs.Str.Lines.{strip_carriage_return}
 use Rattle.ags_text.specs.Line.{LineAt, HasNoFeed, lines_in, lines_of, parts}
 
--- However the text goes on, its lines are these, which have ended, and behind them those that begin with the rest. The rest
+-- However the text goes on, its lines are these, which have ended, and after them those that begin with the rest. The rest
 -- ends the text, and no line feed stands in it; a return at its end may be of the line's end, or of the line.
 pub record HasEnded (text : List ℕ) (ended : List LineAt) (rest : List ℕ) : Type 0 where
   pub start : ℕ

@@ -49,7 +49,7 @@ fn skip_blanks(text: &[u8]) -> &[u8]
     &text[blanks_len(text)..]
 }
 
-/// The prefix of a text before its first blank or tab, which may be empty, and what stands behind it, from that
+/// The prefix of a text before its first blank or tab, which may be empty, and what stands after it, from that
 /// blank on.
 #[tactic(auto, unfolding(crate::specs::Field::leading_field, crate::specs::Field::behind_leading_field))]
 pub fn split_leading_field(text: &[u8]) -> (&[u8], &[u8])
@@ -59,7 +59,7 @@ pub fn split_leading_field(text: &[u8]) -> (&[u8], &[u8])
     text.split_at(leading_field_len(text))
 }
 
-/// The next field of a text, without the blanks before it, and what stands behind it. Where no field is left, both
+/// The next field of a text, without the blanks before it, and what stands after it. Where no field is left, both
 /// are empty.
 #[tactic(auto, unfolding(crate::specs::Field::next_field, crate::specs::Field::behind_field))]
 pub fn split_field(text: &[u8]) -> (&[u8], &[u8])

@@ -13,7 +13,7 @@ pub fn text_is_cut_in_one_way()
     ensures { (text : List ℕ) (one other : List LineAt) → IsCut text one → IsCut text other → one ≡ other }
 {}
 
-/// The lines of a text stand in it where they say, one behind the other.
+/// The lines of a text stand in it where they say, one after the other.
 pub fn lines_follow()
     ensures { (text : List ℕ) → Follow text 0 (lines_of text) }
 {}

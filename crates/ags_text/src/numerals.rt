@@ -93,9 +93,7 @@ fn read_digits(base: u32, most: usize, text: &[u8]) -> Option<u32>
     }
     let mut number = 0u32;
     for byte in text {
-        let Some(digit) = char::from(*byte).to_digit(base) else {
-            return None;
-        };
+        let digit = char::from(*byte).to_digit(base)?;
         number = number * base + digit;
     }
     Some(number)

@@ -15,15 +15,13 @@ fn feed_place(text: &[u8]) -> Option<usize>
     line_feed(text)
 }
 
-/// The bytes before the first line feed, and those behind it; and nothing where there is no line feed.
+/// The bytes before the first line feed, and those after it; and nothing where there is no line feed.
 pub fn split_at_feed(text: &[u8]) -> Option<(&[u8], &[u8])>
     ensures front { IfSome result (λ parts. HasNoFeed parts.0.now) }
     ensures cut { IfSome result (λ parts. text.now ≡ parts.0.now ++ 10 ∷ parts.1.now) }
     ensures shorter { IfSome result (λ parts. length parts.1.now < length text.now) }
     ensures none { result ≡ None → HasNoFeed text.now }
 {
-    match feed_place(text) {
-        Some(feed) => Some((&text[..feed], &text[feed + 1..])),
-        None => None,
-    }
+    let feed = feed_place(text)?;
+    Some((&text[..feed], &text[feed + 1..]))
 }

@@ -31,7 +31,7 @@ use Rattle.ags_ports.specs.Run.{Moment, Run, last_state}
 use Rattle.ags_ports.proofs.StepLemmas.{some_step}
 use Rattle.ags_ports.proofs.OrderTimeLemmas.{time-least, time-most}
 use Rattle.ags_ports.proofs.RunLemmas.{run-append, last-append, one_run}
-use Rattle.ags_timed.specs.Timed.{time_of_moments, GoesOn, IsTimedRun, LooksAt, RunsFor, RunsSteps}
+use Rattle.ags_timed.specs.Timed.{time_of_moments, GoesOn, IsTimedRun, LooksAt, RunsSteps}
 
 -- ---- a run grows at its end
 
@@ -83,9 +83,6 @@ looks_more : {W : Type 0} (looks : W → Done → W → Type 0) (moments : List 
 looks_more looks [] moment watcher between after seen look = (after, rw (← seen) look, refl)
 looks_more looks (m ∷ moments) moment watcher between after seen look = (seen.0, seen.1, looks_more looks moments moment seen.0 between after seen.2 look)
 
-pub seen_none : {W : Type 0} (looks : W → Done → W → Type 0) (machine : Machine) (limit : ℕ) (s : State) (watcher : W) → IsSeenSoFar looks machine limit s watcher s watcher 0
-seen_none looks machine limit s watcher = record { moments = []; so_far = so_far_none machine limit s; seen = refl }
-
 pub seen_more : {W : Type 0} (looks : W → Done → W → Type 0) (machine : Machine) (limit : ℕ) (s : State) (watcher : W) (here : State) (watcher_here : W) (spent : ℕ) (report : Done)
     (after : State) (watcher_after : W) → IsSeenSoFar looks machine limit s watcher here watcher_here spent → spent < limit → here.phase ≡ Running → Steps machine here Step report after
     → looks watcher_here report watcher_after → IsSeenSoFar looks machine limit s watcher after watcher_after (spent + order_time machine report)
@@ -97,24 +94,7 @@ seen_more looks machine limit s watcher here watcher_here spent report after wat
       seen = looks_more looks so_far.moments moment watcher watcher_here watcher_after so_far.seen look;
     }
 
-pub seen_over : {W : Type 0} (looks : W → Done → W → Type 0) (machine : Machine) (limit : ℕ) (s : State) (watcher : W) (here : State) (watcher_here : W) (spent : ℕ)
-    → IsSeenSoFar looks machine limit s watcher here watcher_here spent → (limit ≤ spent) ⊎ (here.phase ≢ Running) → RunsFor looks machine limit s watcher here watcher_here spent
-seen_over looks machine limit s watcher here watcher_here spent so_far over = record {
-  moments = so_far.moments;
-  timed = record {
-    run = so_far.so_far.run;
-    time = so_far.so_far.time;
-    over = rw so_far.so_far.here_is at over;
-    least = so_far.so_far.least;
-  };
-  ends = so_far.so_far.here_is;
-  seen = so_far.seen;
-}
-
 -- ---- so many steps
-
-pub steps_none : {W : Type 0} (looks : W → Done → W → Type 0) (machine : Machine) (s : State) (watcher : W) → RunsSteps looks machine 0 s watcher s watcher
-steps_none looks machine s watcher = record { moments = []; run = tt; ends = refl; seen = refl }
 
 pub steps_further : {W : Type 0} (looks : W → Done → W → Type 0) (machine : Machine) (count : ℕ) (s : State) (watcher : W) (here : State) (watcher_here : W) (report : Done)
     (after : State) (watcher_after : W) → RunsSteps looks machine count s watcher here watcher_here → Steps machine here Step report after

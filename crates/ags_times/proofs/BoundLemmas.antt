@@ -88,9 +88,9 @@ all_stated bounds ended lines g =
       count = length-map bounds (λ (bound : Option ℕ). unwrap_or bound 20000);
       stated = all_at bounds (filter_map row_bound lines) among stated;
       others = λ number first last none.
-          let place : number - 1 < length bounds = omega (arith, first, last) in
+          let position : number - 1 < length bounds = omega (arith, first, last) in
           let next : number - 1 + 1 ≡ number = omega (arith, first) in
-          let noted : is_some (get_or bounds (number - 1) None) ≡ has_row (reverse lines) number = subst (λ (n : ℕ). is_some (get_or bounds (number - 1) None) ≡ has_row (reverse lines) n) next (g.noted (number - 1) place) in
+          let noted : is_some (get_or bounds (number - 1) None) ≡ has_row (reverse lines) number = subst (λ (n : ℕ). is_some (get_or bounds (number - 1) None) ≡ has_row (reverse lines) n) next (g.noted (number - 1) position) in
           let same : has_row (reverse lines) number ≡ has_row lines number =
           ap (λ (l : List RowBound). list_any (λ (bound : RowBound). bound.row == number) l) turned ∙ any_reversed (λ (bound : RowBound). bound.row == number) (filter_map row_bound lines) in
           the_cycle bounds number first last (noted ∙ same ∙ none);
@@ -106,9 +106,9 @@ with_end bounds ended before g = record { stated = g.stated; noted = g.noted; am
 -- the bounds are one where each row has one bound
 same_bounds : (rows : ℕ) (one other : List ℕ) → length one ≡ rows → length other ≡ rows → ((number : ℕ) → 1 ≤ number → number ≤ rows → bound_of one number ≡ bound_of other number) → one ≡ other
 same_bounds rows one other first second same =
-    ext_get_or 0 one other (first ∙ sym second) (λ place inside.
-    let next : place + 1 - 1 ≡ place = omega arith in
-    subst (λ (n : ℕ). get_or one n 0 ≡ get_or other n 0) next (same (place + 1) (omega arith) (omega (arith, inside, first))))
+    ext_get_or 0 one other (first ∙ sym second) (λ position inside.
+    let next : position + 1 - 1 ≡ position = omega arith in
+    subst (λ (n : ℕ). get_or one n 0 ≡ get_or other n 0) next (same (position + 1) (omega arith) (omega (arith, inside, first))))
 
 module _ (rows : ℕ) (lines : List TimesLine) (one other : List ℕ) (first : AreBounds rows lines one) (second : AreBounds rows lines other) where
   in_lines : (its : List RowBound) → All (λ (bound : RowBound). bound_of one bound.row ≡ bound.bound) its → All (λ (bound : RowBound). bound_of other bound.row ≡ bound.bound) its

@@ -4,19 +4,17 @@
 --     one_fault_of      it has one first fault
 --     never_both        and never both
 --     cycle_kept        and each bound is at most the cycle
-use Rattle.std.proofs.Common.{◌≡◌, ◌≢◌, ℕ, zero, suc, ◌+◌, ◌-◌, ◌<◌, ◌≤◌, ◌⊎◌, Bool, true, false, refl, sym, ap, ◌∙◌, subst, List, [], ◌∷◌, ◌++◌, length, reverse, get_or, set, Option, Some, None, inl, inr, append_assoc, arith, nat_lt}
+use Rattle.std.proofs.Common.{◌≡◌, ◌≢◌, ℕ, zero, suc, ◌+◌, ◌-◌, ◌<◌, ◌≤◌, ◌⊎◌, Bool, true, false, refl, sym, ◌∙◌, subst, List, [], ◌∷◌, length, reverse, get_or, set, Option, Some, None, inl, inr, arith, nat_lt}
 use Rattle.std.specs.Prelude.{All, IfSome, ◌==◌, ◌||◌}
 use Rattle.std.specs.List.{list_any, filter_map}
 use Rattle.std.specs.Option.{is_some}
 use Rattle.std.proofs.lemmas.Bool.Decides.{nat_tests}
 use Rattle.std.proofs.lemmas.Grind.{get_or-set_at}
-use Rattle.std.proofs.lemmas.List.{append-nil, get_or-set_other, length-set}
+use Rattle.std.proofs.lemmas.List.{get_or-set_other, length-set}
 use Rattle.std.proofs.lemmas.List.Elements.{All-nil, All-cons, All-head, All-tail, All-set}
-use Rattle.ags_text.specs.Fault.{first_fault, first_fault-faulty, first_fault-faultless}
-use Rattle.ags_frame.specs.Fault.{has_ended, reading_fault, version_of}
-use Rattle.ags_frame.specs.Reading.{Reading, Opening, OtherOpening, Stated, Skipped, Malformed, Ended, IsFirstReading, IsReading, statement_of}
+use Rattle.ags_frame.specs.Fault.{has_ended}
+use Rattle.ags_frame.specs.Reading.{Reading, IsFirstReading, IsReading}
 use Rattle.ags_frame.proofs.ReadingLaws.{some_first_reading, one_first_reading, some_reading, one_reading}
-use Rattle.ags_statements.specs.Fault.{fault_if}
 use Rattle.ags_statements.specs.Text.{IsTextOf}
 use Rattle.ags_statements.proofs.MeaningLemmas as statements
 use Rattle.ags_statements.proofs.KeptLemmas.{no_fault, text_kept}
@@ -43,10 +41,10 @@ unstated_count : (rows : ℕ) → length (unstated rows) ≡ rows
 unstated_count zero = refl
 unstated_count (suc rows) = let later = unstated_count rows in omega (arith, later)
 
-unstated_there : (rows place : ℕ) → is_some (get_or (unstated rows) place None) ≡ false
-unstated_there zero place = refl
+unstated_there : (rows position : ℕ) → is_some (get_or (unstated rows) position None) ≡ false
+unstated_there zero position = refl
 unstated_there (suc rows) zero = refl
-unstated_there (suc rows) (suc place) = unstated_there rows place
+unstated_there (suc rows) (suc position) = unstated_there rows position
 
 unstated_times : (rows : ℕ) → All (λ (bound : Option ℕ). IfSome bound IsTime) (unstated rows)
 unstated_times zero = All-nil (λ (bound : Option ℕ). IfSome bound IsTime)
@@ -55,7 +53,7 @@ unstated_times (suc rows) = All-cons (λ (bound : Option ℕ). IfSome bound IsTi
 nothing_gathered : (rows : ℕ) → Gathered (unstated rows) false []
 nothing_gathered rows = record {
   stated = All-nil (λ (its : RowBound). get_or (unstated rows) (its.row - 1) None ≡ Some its.bound);
-  noted = λ place inside. unstated_there rows place;
+  noted = λ position inside. unstated_there rows position;
   among = All-nil (λ (its : RowBound). IsAmong (length (unstated rows)) its.row);
   times = unstated_times rows;
   ended_is = refl;
@@ -93,22 +91,22 @@ module _ (bounds : List (Option ℕ)) (ended : Bool) (before : List TimesLine) (
   inside : its.row - 1 < length bounds
   inside = let first = row.first in let last = row.last in omega (arith, first, last)
 
-  noted_more : (place : ℕ) → place < length bounds → (same : Bool) → (its.row == place + 1) ≡ same → is_some (get_or more place None) ≡ has_row (Bound its ∷ before) (place + 1)
-  noted_more place within true is =
-      let here : place ≡ its.row - 1 = grind (arith, nat_tests, is) in
-      let there : get_or more place None ≡ Some its.bound = get_or-set_at bounds (its.row - 1) place (Some its.bound) None here inside in
+  noted_more : (position : ℕ) → position < length bounds → (same : Bool) → (its.row == position + 1) ≡ same → is_some (get_or more position None) ≡ has_row (Bound its ∷ before) (position + 1)
+  noted_more position within true is =
+      let here : position ≡ its.row - 1 = grind (arith, nat_tests, is) in
+      let there : get_or more position None ≡ Some its.bound = get_or-set_at bounds (its.row - 1) position (Some its.bound) None here inside in
       rw (is, there) refl
-  noted_more place within false is =
+  noted_more position within false is =
       let first = row.first in
-      let apart : place ≢ its.row - 1 = λ same. absurd (grind (arith, nat_tests, is, first, same)) in
-      rw (is, get_or-set_other bounds (its.row - 1) place (Some its.bound) None apart) (g.noted place within)
+      let apart : position ≢ its.row - 1 = λ same. absurd (grind (arith, nat_tests, is, first, same)) in
+      rw (is, get_or-set_other bounds (its.row - 1) position (Some its.bound) None apart) (g.noted position within)
 
   with_bound : Gathered more false (Bound its ∷ before)
   with_bound = record {
     stated = All-cons (λ (b : RowBound). get_or more (b.row - 1) None ≡ Some b.bound) its (filter_map row_bound before)
         (get_or-set_at bounds (its.row - 1) (its.row - 1) (Some its.bound) None refl inside)
         (others_stay bounds (Some its.bound) its.row (filter_map row_bound before) row.first g.among once g.stated);
-    noted = λ place within. noted_more place (subst (λ (n : ℕ). place < n) count within) (its.row == place + 1) refl;
+    noted = λ position within. noted_more position (subst (λ (n : ℕ). position < n) count within) (its.row == position + 1) refl;
     among = subst (λ (n : ℕ). All (λ (b : RowBound). IsAmong n b.row) (its ∷ filter_map row_bound before)) (sym count)
         (All-cons (λ (b : RowBound). IsAmong (length bounds) b.row) its (filter_map row_bound before) row g.among);
     times = All-set (λ (bound : Option ℕ). IfSome bound IsTime) bounds (its.row - 1) (Some its.bound) time g.times;

@@ -31,7 +31,7 @@ pub record IsAmong (rows number : ℕ) : Type 0 where
 -- The bounds are those that the lines so far state, nearest first, where they state one; and it is noted whether the last line is END.
 pub record Gathered (bounds : List (Option ℕ)) (ended : Bool) (before : List TimesLine) : Type 0 where
   pub stated : All (λ (its : RowBound). get_or bounds (its.row - 1) None ≡ Some its.bound) (filter_map row_bound before)
-  pub noted : (place : ℕ) → place < length bounds → is_some (get_or bounds place None) ≡ has_row before (place + 1)
+  pub noted : (position : ℕ) → position < length bounds → is_some (get_or bounds position None) ≡ has_row before (position + 1)
   pub among : All (λ (its : RowBound). IsAmong (length bounds) its.row) (filter_map row_bound before)
   pub times : All (λ bound. IfSome bound IsTime) bounds
   pub ended_is : ended ≡ has_ended is_end before

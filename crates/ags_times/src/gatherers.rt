@@ -1,7 +1,6 @@
 //! What is gathered of the lines of a text of times.
 
 ghost use Rattle.std.specs.Prelude.{◌≡◌, [], None, IfOk, length};
-ghost use Rattle.ags_times.specs.Gathering.{Gathered};
 
 use crate::budget_errors::BudgetKind;
 use crate::budgets::CYCLE;
@@ -22,7 +21,7 @@ pub(crate) struct Gatherer {
 impl Gatherer {
     ghost use Rattle.std.specs.Prelude.{◌≡◌, ◌==◌, ◌||◌, ℕ, nat_lt, [], IfOk, IfErr, length, true, false};
     ghost use Rattle.ags_statements.specs.Taking.{TakesStatement, TellsUntaken};
-    ghost use Rattle.ags_times.specs.Gathering.{Gathered, gathered_of, is_noted};
+    ghost use Rattle.ags_times.specs.Gathering.{gathered_of, is_noted};
     ghost use Rattle.ags_times.specs.Text.{faults};
     ghost use Rattle.ags_times.specs.declared.lines.TimesLine.TheVariants.{Bound};
 

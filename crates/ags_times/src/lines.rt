@@ -34,12 +34,8 @@ fn read_bound(text: &[u8]) -> Option<RowBound>
 {
     let (row, behind) = split_field(text);
     let (bound, rest) = split_field(behind);
-    let Some(row) = read_count(row) else {
-        return None;
-    };
-    let Some(bound) = read_count(bound) else {
-        return None;
-    };
+    let row = read_count(row)?;
+    let bound = read_count(bound)?;
     are_blanks(rest).then_some(RowBound { row, bound })
 }
 

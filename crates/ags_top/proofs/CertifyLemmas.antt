@@ -1,4 +1,4 @@
--- What is said of a certificate that was judged behind the listing of its source.
+-- What is said of a certificate that was judged after the listing of its source.
 use Rattle.std.proofs.Common.{◌≡◌, ℕ, List, ◌++◌, Option, refl, ap, ◌∙◌}
 use Rattle.ags_cert.specs.Cert.{certificate_of}
 use Rattle.ags_domain.specs.Value.{value_meaning}

@@ -41,7 +41,7 @@ use Rattle.ags_top.specs.ThirdFile.{text_of_edits, IsJudgedWith}
 use Rattle.ags_top.specs.Telling.{Tells, TellsInPart, TellsWhole, status_from, status_in_the_end, status_with}
 use Rattle.ags_top.proofs.JudgeLemmas.{judged_in_part, judged_whole}
 
--- ---- one edit behind the other
+-- ---- one edit after the other
 
 -- what is told of all edits, where this is told of those that are left
 pub record GoesOn (start : Judging) (edits : List Edit) (before : Status) (lines : List ℕ) (after : Judging) (status : Status) : Type 0 where

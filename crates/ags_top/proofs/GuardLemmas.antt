@@ -28,7 +28,7 @@ use Rattle.ags_program.specs.Views.{IsReadSource, pair_of}
 use Rattle.ags_program.specs.Work.{JudgePair, PlayBehind, IsPlayedBy, met_status}
 use Rattle.ags_top.proofs.JudgeLemmas.{judged_in_part, judged_whole}
 
--- ---- the play behind the verdict
+-- ---- the play after the verdict
 
 module _ (machine : Machine) (image : List (Option ℕ)) (cert : Stated) (commands : List Command) (old mid new : Option (List ℕ)) where
   -- a prefix of what the play shows was sent

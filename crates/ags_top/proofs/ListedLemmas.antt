@@ -21,7 +21,7 @@ use Rattle.ags_ports.specs.declared.machines.Machine.{Machine}
 use Rattle.ags_ports.specs.Run.{AreEvents, AtEach, AtEachStep, Moment, Run}
 use Rattle.ags_ports.specs.State.{State, cell, word_here}
 use Rattle.ags_ports.specs.Step.{Steps}
-use Rattle.ags_ports.proofs.ChangeLemmas.{place_told}
+use Rattle.ags_ports.proofs.ChangeLemmas.{here_told}
 use Rattle.ags_posts.specs.Case.{is_erasable, case_of}
 use Rattle.ags_posts.specs.Posts.{IsPostsOfWord}
 use Rattle.ags_posts.specs.declared.answers.PostPair.{PostPair}
@@ -52,7 +52,7 @@ module _ (machine : Machine) (source certificate text : List ℕ) (is : IsCertif
   stands_here : (s : State) (event : Event) (moment : Moment) → IsSafeState value_meaning machine is.image (certificate_of is.cert) s
       → Steps machine s event moment.report moment.after → RunsWhatStands is.image moment
   stands_here s event moment safe step ran fixed =
-      let (location, word) = place_told machine s event moment.report moment.after step in
+      let (location, word) = here_told machine s event moment.report moment.after step in
       let row = safe.row in
       let below : moment.report.location < 4096 = subst (λ (p : ℕ). p < 4096) (sym (location ∙ row.4.location)) row.1.below in
       let held = safe.fixed moment.report.location fixed below in

@@ -1,4 +1,4 @@
--- What a third file behind a source and a certificate is worth.
+-- What a third file after a source and a certificate is worth.
 use Rattle.std.proofs.Common.{◌≡◌, ℕ, List, ◌++◌, length, Option, ap, subst, sym, ◌∙◌}
 use Rattle.ags_asm.specs.Source.{Defines}
 use Rattle.ags_cert.specs.Cert.{Stated, certificate_of}

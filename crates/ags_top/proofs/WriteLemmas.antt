@@ -1,14 +1,13 @@
 -- What is said of a text of a source.
 use Rattle.std.proofs.Common.{◌≡◌, ℕ, List, Option, refl}
 use Rattle.ags_command.specs.declared.source_texts.SourceText.{SourceText}
-use Rattle.ags_command.specs.declared.source_texts.SourceText.TheVariants.{Tape, CrossReference}
+use Rattle.ags_command.specs.declared.source_texts.SourceText.TheVariants.{Tape}
 use Rattle.ags_outside.specs.Sink.{appended, WroteFront}
 use Rattle.ags_plan.specs.Plan.{WorkAt}
 use Rattle.ags_plan.specs.Saying.{SaidWhole, SaidInPart}
 use Rattle.ags_asm.specs.Source.{card_words}
 use Rattle.ags_listing.specs.Listing.{listing}
 use Rattle.ags_image.specs.Tape.{tape_text}
-use Rattle.ags_xref.specs.Xref.{xref_text}
 use Rattle.ags_files.specs.declared.sources.SourceFile.{SourceFile}
 use Rattle.ags_program.specs.declared.status.Status.TheVariants.{Done}
 use Rattle.ags_program.specs.Program.{program}
@@ -30,7 +29,3 @@ listing_of source = listing source.bytes.items (card_words source.made)
 
 pub is_tape : (source : SourceFile) → IsReadSource source → IsTextOf Tape (assembly_of source) (tape_text source.made.image)
 is_tape source (order_codes, is) = (source.made.image, is.image, refl)
-
-pub is_cross_reference : (source : SourceFile) → IsReadSource source
-    → IsTextOf CrossReference (assembly_of source) (xref_text source.bytes.items source.made.symbols)
-is_cross_reference source (order_codes, is) = (source.made.symbols, is.assembled.fits, refl)

@@ -1,4 +1,4 @@
--- What is written behind the verdict of a certificate that is certified: the play under it, and what it met.
+-- What is written after the verdict of a certificate that is certified: the play under it, and what it met.
 use Rattle.std.specs.Prelude.{◌≡◌, ℕ, List, ◌++◌, Option, Some, Result, Ok, Err}
 use Rattle.ags_cert.specs.Cert.{Stated, certificate_of}
 use Rattle.ags_outside.specs.declared.sending.SendError.{SendError}

@@ -385,7 +385,7 @@ IsTaggedOn = IsKeptWith text_of_scales (λ machine image cert declared. KeepsSca
 abbrev pub KeepsDeclaredScales : Call → Type 0
 KeepsDeclaredScales = HoldsWhereDone text_of_scales IsTaggedOn
 
--- What the sink took of a run of `edits`: the verdict, and behind it a line for each edit, made one behind the other: the verdict of the
+-- What the sink took of a run of `edits`: the verdict, and after it a line for each edit, made one after the other: the verdict of the
 -- edited certificate for the edited words, which is what a check of them from nothing tells; or why it isn't made, and then nothing
 -- changed.
 abbrev pub JudgesEdits : Call → Type 0
@@ -397,7 +397,7 @@ IsMade (Made verdict) = Unit {0}
 IsMade (NotMade error) = ⊥
 
 -- The machine's tables are valid. The source defines words, the certificate is one for the machine's registers, and the text of edits
--- states these edits. Each of them was made, one behind the other, of the image of exactly these words and of the certificate; and what
+-- states these edits. Each of them was made, one after the other, of the image of exactly these words and of the certificate; and what
 -- they leave of the certificate is accepted for what they leave of the image, so that every run of that is safe, over every list of
 -- events that it declares. The text is the verdict of the certificate, and a line for each edit.
 pub record IsEditedOn (machine : Machine) (source certificate edits text : List ℕ) : Type 0 where

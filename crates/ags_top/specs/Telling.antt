@@ -1,4 +1,4 @@
--- What is written of edits behind the verdict of the certificate that they are made of: a line for each.
+-- What is written of edits after the verdict of the certificate that they are made of: a line for each.
 use Rattle.std.specs.Prelude.{◌≡◌, ℕ, List, Option, Some, None, Result, Ok, Err}
 use Rattle.ags_outside.specs.declared.sending.SendError.{SendError}
 use Rattle.ags_outside.specs.Sink.{appended, WroteFront}

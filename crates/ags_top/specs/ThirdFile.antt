@@ -1,4 +1,4 @@
--- The commands that read a third file behind a source and a certificate: the verdict of the certificate, and what stands with it.
+-- The commands that read a third file after a source and a certificate: the verdict of the certificate, and what stands with it.
 use Rattle.std.specs.Prelude.{◌≡◌, ℕ, List, ◌++◌, length, Option}
 use Rattle.ags_asm.specs.Source.{CardWords, Defines, placed_words}
 use Rattle.ags_cert.specs.Cert.{Stated, certificate_of}
@@ -68,7 +68,7 @@ pub record IsJudgedWith (file : ThirdFile) (machine : Machine) (source certifica
 -- The machine's tables are valid. The source defines words, the certificate is one for the machine's registers, and the third file holds
 -- this value for the machine and the certificate's rows. The certificate is accepted for the image of exactly these words, so that every
 -- run is safe, over every list of events that it declares; and in each such run the value is kept. The text says that the certificate is
--- certified, with the numbers of its rows and of its cases, which is its verdict, and behind it that line of the value.
+-- certified, with the numbers of its rows and of its cases, which is its verdict, and after it that line of the value.
 pub record IsKeptWith (file : ThirdFile)
     (Keeps : (machine : Machine) (image : List (Option ℕ)) (cert : Stated) → Value (file.kind machine (length cert.rows)) → Type 0)
     (IsLine : (machine : Machine) (cert : Stated) → Value (file.kind machine (length cert.rows)) → (cases : ℕ) (line : List ℕ) → Type 0)

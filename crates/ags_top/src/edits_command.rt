@@ -1,4 +1,4 @@
-//! The command `edits`: the verdict of a certificate for a source's words, and what comes of each edit, made one behind the other of these
+//! The command `edits`: the verdict of a certificate for a source's words, and what comes of each edit, made one after the other of these
 //! words and of the certificate. Cases are judged with a counter of their own, of which no command tells.
 
 ghost use Rattle.std.specs.Prelude.{◌≡◌, ◌<◌, ◌++◌, All, IfOk, OnOk, OnErr, codes};
@@ -85,7 +85,7 @@ fn status_in_the_end(status: Option<Status>) -> Status
     status.unwrap_or(Status::No)
 }
 
-/// Makes edits one behind the other, and says a line for each. The status is that of the last verdict, where each is made, and that before
+/// Makes edits one after the other, and says a line for each. The status is that of the last verdict, where each is made, and that before
 /// them where there is none.
 fn tell_each<L: Ledger, K: Sink>(
     alloc: Global,
@@ -150,7 +150,7 @@ fn tell_from<L: Ledger, K: Sink>(
     )
 }
 
-/// Says the verdict of a certificate for a source's words, and behind it, whatever it is, what comes of each edit.
+/// Says the verdict of a certificate for a source's words, and after it, whatever it is, what comes of each edit.
 pub(crate) fn tell_edits<K: Sink>(
     alloc: Global,
     pair: ReadPair,

@@ -9,7 +9,7 @@ use ags_outside::{Shelf, Sink};
 use ags_program::Status;
 use std::alloc::Global;
 
-/// Runs the program over the arguments behind its name: the files that they name are read from the shelf, and the answer is sent
+/// Runs the program over the arguments after its name: the files that they name are read from the shelf, and the answer is sent
 /// to the sink. The statuses, and what each comes with, are in the README; what is promised of a call stands clause by clause in
 /// `specs/Promises`.
 pub fn ags_main<S: Shelf, K: Sink>(

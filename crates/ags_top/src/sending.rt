@@ -27,7 +27,7 @@ pub(crate) fn send_line<K: Sink>(
     send(out, line.as_bytes())
 }
 
-/// Sends the line of a verdict, and behind it one that was to be made, where there was memory for it.
+/// Sends the line of a verdict, and after it one that was to be made, where there was memory for it.
 pub(crate) fn send_verdict_and<K: Sink>(
     alloc: Global,
     verdict: &Verdict,

@@ -1,7 +1,7 @@
 -- A row is judged by the rows at the locations to which its posts go. Behind the law is
 --     judged_alike    what comes of a row stays where the rows differ elsewhere
-use Rattle.std.proofs.Common.{◌≡◌, ℕ, zero, suc, ◌+◌, ◌<◌, refl, sym, subst, arith, List, [], ◌∷◌, length, inl, inr}
-use Rattle.std.specs.Prelude.{Option, Some, None, IfSome, Result, Ok, Err, Any}
+use Rattle.std.proofs.Common.{◌≡◌, ℕ, zero, suc, ◌+◌, refl, subst, arith, List, [], ◌∷◌, inl, inr}
+use Rattle.std.specs.Prelude.{Option, Some, None, IfSome, Result, Ok, Err}
 use Rattle.std.specs.List.{Contains}
 use Rattle.ags_domain.specs.Domain.{Meaning}
 use Rattle.ags_domain.specs.declared.word_sets.WordSet.{WordSet}
@@ -16,28 +16,28 @@ use Rattle.ags_safe.specs.Accepted.{IsCovered}
 use Rattle.ags_verdict.specs.InOrder.{InOrder}
 use Rattle.ags_verdict.specs.RowCase.{RowCase, cases_in, case_in}
 use Rattle.ags_verdict.specs.Fault.{IsUncovered, IsFirstUncovered, IsFaultOfAnswer, IsCaseJudged, IsJudgedWith, IsRowJudged}
-use Rattle.ags_verdict.specs.Locality.{GoesTo, OneGoesTo, CaseGoesTo, HasPostAt, IsAmong, DifferAtAlone}
+use Rattle.ags_verdict.specs.Locality.{GoesTo, OneGoesTo, HasPostAt, DifferAtAlone}
 use Rattle.ags_verdict.specs.declared.verdicts.RowFault.{RowFault}
 
 -- what comes of each of some things by one judgement comes of it by another
-each_moved : {X F : Type 0} (one other : ℕ → X → Result ℕ F → Type 0) (place : ℕ) (xs : List X)
+each_moved : {X F : Type 0} (one other : ℕ → X → Result ℕ F → Type 0) (position : ℕ) (xs : List X)
     → ((p : ℕ) (x : X) (outcome : Result ℕ F) → Contains xs x → one p x outcome → other p x outcome)
-    → (outcome : Result ℕ F) → InOrder one place xs outcome → InOrder other place xs outcome
-each_moved one other place [] moved (Ok count) is = is
-each_moved one other place [] moved (Err fault) is = is
-each_moved one other place (x ∷ xs) moved (Ok count) is = (
+    → (outcome : Result ℕ F) → InOrder one position xs outcome → InOrder other position xs outcome
+each_moved one other position [] moved (Ok count) is = is
+each_moved one other position [] moved (Err fault) is = is
+each_moved one other position (x ∷ xs) moved (Ok count) is = (
   is.0,
   is.1,
-  moved place x (Ok is.0) (0, omega arith, refl) is.2,
-  each_moved one other (place + 1) xs (λ p y o c. moved p y o (suc c.0, omega (arith, c.1), c.2)) (Ok is.1) is.3,
+  moved position x (Ok is.0) (0, omega arith, refl) is.2,
+  each_moved one other (position + 1) xs (λ p y o c. moved p y o (suc c.0, omega (arith, c.1), c.2)) (Ok is.1) is.3,
   is.4,
 )
-each_moved one other place (x ∷ xs) moved (Err fault) (inl fails) = inl (moved place x (Err fault) (0, omega arith, refl) fails)
-each_moved one other place (x ∷ xs) moved (Err fault) (inr later) =
+each_moved one other position (x ∷ xs) moved (Err fault) (inl fails) = inl (moved position x (Err fault) (0, omega arith, refl) fails)
+each_moved one other position (x ∷ xs) moved (Err fault) (inr later) =
     inr (
       later.0,
-      moved place x (Ok later.0) (0, omega arith, refl) later.1,
-      each_moved one other (place + 1) xs (λ p y o c. moved p y o (suc c.0, omega (arith, c.1), c.2)) (Err fault) later.2,
+      moved position x (Ok later.0) (0, omega arith, refl) later.1,
+      each_moved one other (position + 1) xs (λ p y o c. moved p y o (suc c.0, omega (arith, c.1), c.2)) (Err fault) later.2,
     )
 
 module _ {D : Type 0} (meaning : Meaning D) (machine : Machine) (image : List (Option ℕ)) (cert : Certificate D) (at : ℕ → Type 0)
@@ -116,9 +116,9 @@ module _ {D : Type 0} (meaning : Meaning D) (machine : Machine) (image : List (O
         → IsJudgedWith meaning Before machine image row code outcome → IsJudgedWith meaning After machine image row code outcome
     with_forth None outcome is_code is = is
     with_forth (Some code) outcome is_code is = each_moved
-        (λ place c o. IsCaseJudged meaning Before (case_in machine image cert.limits row c) o)
-        (λ place c o. IsCaseJudged meaning After (case_in machine image cert.limits row c) o) 0 (cases_in row code.list)
-        (λ place c o stands judged. case_forth (case_in machine image cert.limits row c) o (case_avoids code is_code c stands) judged) outcome is
+        (λ position c o. IsCaseJudged meaning Before (case_in machine image cert.limits row c) o)
+        (λ position c o. IsCaseJudged meaning After (case_in machine image cert.limits row c) o) 0 (cases_in row code.list)
+        (λ position c o stands judged. case_forth (case_in machine image cert.limits row c) o (case_avoids code is_code c stands) judged) outcome is
 
     pub judged_alike : (outcome : Result ℕ (RowFault D)) → IsRowJudged meaning Before machine image row outcome → IsRowJudged meaning After machine image row outcome
     judged_alike outcome is = (is.0, is.1, with_forth is.0 outcome is.1 is.2)

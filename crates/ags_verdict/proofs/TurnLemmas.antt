@@ -1,6 +1,6 @@
 -- The cases of a row stand in the order in which they are judged. Behind the law on them are `in_turn`, `each_once`; the crates above
 -- cite:
---     cases_in_turn    each case precedes each that stands behind it
+--     cases_in_turn    each case precedes each that stands after it
 --     earlier_hold     what holds of the cases before one holds of each case that precedes it
 use Rattle.std.proofs.Common.{◌≡◌, ℕ, ◌+◌, ◌<◌, ◌≤◌, Bool, true, false, refl, sym, subst, ◌∙◌, inl, inr, arith, List, [], ◌∷◌, ◌++◌, map, get_or}
 use Rattle.std.specs.Prelude.{◌≢◌, if◌then◌else◌}

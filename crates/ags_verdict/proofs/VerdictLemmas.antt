@@ -38,9 +38,6 @@ ok_one left right same = cc
 err_one : {F : Type 0} (left right : F) → ◌≡◌ {A = Result ℕ F} (Err left) (Err right) → left ≡ right
 err_one left right same = cc
 
-differ_verdicts : {D : Type 0} (rows cases : ℕ) (told : Refusal D) → ◌≡◌ {A = Verdict D} (Certified rows cases) (Refused told) → ⊥
-differ_verdicts rows cases told same = cc
-
 least_one : (left right : ℕ) → ¬ (left < right) → ¬ (right < left) → left ≡ right
 least_one left right p r = omega (arith, p, r)
 
@@ -48,7 +45,7 @@ module _ {D : Type 0} (meaning : Meaning D) (machine : Machine) (image : List (O
   -- ---- what is certified is accepted
 
   abbrev CaseJudged : Row D → ℕ → RowCase → Result ℕ (RowFault D) → Type 0
-  CaseJudged row place c = IsCaseJudged meaning cert (case_in machine image cert.limits row c)
+  CaseJudged row position c = IsCaseJudged meaning cert (case_in machine image cert.limits row c)
 
   abbrev CaseAccepted : Row D → RowCase → Type 0
   CaseAccepted row c = IsCaseAccepted meaning cert (case_in machine image cert.limits row c)
@@ -63,7 +60,7 @@ module _ {D : Type 0} (meaning : Meaning D) (machine : Machine) (image : List (O
     code = code;
     is_code = is_code;
     cases = each_cases row (CaseAccepted row) code.list
-        (each_in_order (CaseJudged row) (CaseAccepted row) (λ place c count is. is.0) 0 (cases_in row code.list) count judged);
+        (each_in_order (CaseJudged row) (CaseAccepted row) (λ position c count is. is.0) 0 (cases_in row code.list) count judged);
   }
 
   pub accepted_of : (rows cases : ℕ) → IsVerdict meaning machine image cert (Certified rows cases) → Accepted meaning machine image cert
@@ -72,20 +69,20 @@ module _ {D : Type 0} (meaning : Meaning D) (machine : Machine) (image : List (O
     start = is.0.start;
     rows = All-from_recursion (IsRowAccepted meaning machine image cert) cert.rows
         (each_in_order RowJudgedAt (IsRowAccepted meaning machine image cert)
-        (λ place row count judged. accepted_with row count judged.0 judged.1 judged.2) 1 cert.rows cases is.0.rows);
+        (λ position row count judged. accepted_with row count judged.0 judged.1 judged.2) 1 cert.rows cases is.0.rows);
   }
 
   -- ---- what is accepted is certified
 
   judged_of : (row : Row D) → IsRowAccepted meaning machine image cert row → (count : ℕ) × IsRowJudged meaning cert machine image row (Ok count)
   judged_of row accepted =
-      let cases = in_order_each (CaseJudged row) (CaseAccepted row) (λ place c is. (1, (is, refl))) 0 (cases_in row accepted.code.list)
+      let cases = in_order_each (CaseJudged row) (CaseAccepted row) (λ position c is. (1, (is, refl))) 0 (cases_in row accepted.code.list)
       (cases_each row (CaseAccepted row) accepted.code.list accepted.cases) in
       (cases.0, (Some accepted.code, accepted.is_code, cases.1))
 
   pub certified_of : Accepted meaning machine image cert → (cases : ℕ) × IsVerdict meaning machine image cert (Certified (length cert.rows) cases)
   certified_of accepted =
-      let rows = in_order_each RowJudgedAt (IsRowAccepted meaning machine image cert) (λ place row is. judged_of row is) 1 cert.rows
+      let rows = in_order_each RowJudgedAt (IsRowAccepted meaning machine image cert) (λ position row is. judged_of row is) 1 cert.rows
       (recursion_from_All (IsRowAccepted meaning machine image cert) cert.rows accepted.rows) in
       (rows.0, (record { first_words = accepted.first_words; start = accepted.start; rows = rows.1 }, refl))
 
@@ -96,16 +93,16 @@ module _ {D : Type 0} (meaning : Meaning D) (machine : Machine) (image : List (O
       → (found : WordSet) × IsCode meaning image cert.limits row (Some found) × (count ≡ length (cases_in row found.list))
   counted_with row count None is_code judged = absurd cc
   counted_with row count (Some code) is_code judged =
-      (code, is_code, counts_each (CaseJudged row) (λ place c count is. is.1) 0 (cases_in row code.list) count judged)
+      (code, is_code, counts_each (CaseJudged row) (λ position c count is. is.1) 0 (cases_in row code.list) count judged)
 
-  rows_counted : (place : ℕ) (rows : List (Row D)) (count : ℕ) → InOrder RowJudgedAt place rows (Ok count)
+  rows_counted : (position : ℕ) (rows : List (Row D)) (count : ℕ) → InOrder RowJudgedAt position rows (Ok count)
       → IsNumberOfCases meaning image cert.limits rows count
-  rows_counted place [] count is = is
-  rows_counted place (row ∷ rows) count is =
+  rows_counted position [] count is = is
+  rows_counted position (row ∷ rows) count is =
       let judged = is.2 in
       let row_is = counted_with row is.0 judged.0 judged.1 judged.2 in
       let first : is.0 ≡ length (cases_in row row_is.0.list) = row_is.2 in
-      (row_is.0, is.1, row_is.1, rows_counted (place + 1) rows is.1 is.3, omega (arith, first, is.4))
+      (row_is.0, is.1, row_is.1, rows_counted (position + 1) rows is.1 is.3, omega (arith, first, is.4))
 
   pub counted_of : (rows cases : ℕ) → IsVerdict meaning machine image cert (Certified rows cases)
       → (rows ≡ length cert.rows) × IsNumberOfCases meaning image cert.limits cert.rows cases
@@ -117,7 +114,7 @@ module _ {D : Type 0} (meaning : Meaning D) (machine : Machine) (image : List (O
       → IsFirstInRow meaning machine image cert row code told
   first_in_row row None told is = err_one told CodeUnknown is
   first_in_row row (Some code) told is =
-      let first = first_fault_of (CaseJudged row) (CaseAccepted row) (λ place c count judged. judged.0) 0 (cases_in row code.list) told is in
+      let first = first_fault_of (CaseJudged row) (CaseAccepted row) (λ position c count judged. judged.0) 0 (cases_in row code.list) told is in
       record {
         before = first.before;
         fails = first.thing;
@@ -130,7 +127,7 @@ module _ {D : Type 0} (meaning : Meaning D) (machine : Machine) (image : List (O
   first_row_of : (told : Refusal D) → IsJudgedByRows meaning machine image cert (Err told) → IsFirstRow meaning machine image cert told
   first_row_of told is =
       let first = first_fault_of RowJudgedAt (IsRowAccepted meaning machine image cert)
-      (λ place row count judged. accepted_with row count judged.0 judged.1 judged.2) 1 cert.rows told is.rows in
+      (λ position row count judged. accepted_with row count judged.0 judged.1 judged.2) 1 cert.rows told is.rows in
       let found = first.is in
       let judged = found.1 in
       record {
@@ -199,14 +196,14 @@ module _ {D : Type 0} (meaning : Meaning D) (machine : Machine) (image : List (O
       cc
 
   module _ (lawful : IsMeaning D meaning) (machine_is : IsMachine machine) where
-    case_one : (row : Row D) (place : ℕ) (c : RowCase) (left right : Result ℕ (RowFault D)) → CaseJudged row place c left
-        → CaseJudged row place c right → left ≡ right
-    case_one row place c (Ok left) (Ok right) p r = ap (λ (n : ℕ). Ok n) (p.1 ∙ sym r.1)
-    case_one row place c (Ok left) (Err right) p r = absurd (no_fault_of_answer (case_in machine image cert.limits row c) p.0.0 r.0 right
+    case_one : (row : Row D) (position : ℕ) (c : RowCase) (left right : Result ℕ (RowFault D)) → CaseJudged row position c left
+        → CaseJudged row position c right → left ≡ right
+    case_one row position c (Ok left) (Ok right) p r = ap (λ (n : ℕ). Ok n) (p.1 ∙ sym r.1)
+    case_one row position c (Ok left) (Err right) p r = absurd (no_fault_of_answer (case_in machine image cert.limits row c) p.0.0 r.0 right
         (one_answer meaning lawful (case_in machine image cert.limits row c) (Ok p.0.0) r.0 machine_is p.0.1 r.1) p.0.2 p.0.3 r.2)
-    case_one row place c (Err left) (Ok right) p r = absurd (no_fault_of_answer (case_in machine image cert.limits row c) r.0.0 p.0 left
+    case_one row position c (Err left) (Ok right) p r = absurd (no_fault_of_answer (case_in machine image cert.limits row c) r.0.0 p.0 left
         (one_answer meaning lawful (case_in machine image cert.limits row c) (Ok r.0.0) p.0 machine_is r.0.1 p.1) r.0.2 r.0.3 p.2)
-    case_one row place c (Err left) (Err right) p r = ap (λ (f : RowFault D). Err f)
+    case_one row position c (Err left) (Err right) p r = ap (λ (f : RowFault D). Err f)
         (faults_of_answer_one (case_in machine image cert.limits row c) p.0 r.0 left right
         (one_answer meaning lawful (case_in machine image cert.limits row c) p.0 r.0 machine_is p.1 r.1) p.2 r.2)
 
@@ -223,14 +220,14 @@ module _ {D : Type 0} (meaning : Meaning D) (machine : Machine) (image : List (O
         let same : p.0 ≡ r.0 = code_one meaning image cert.limits row p.0 r.0 p.1 r.1 in
         with_one row p.0 left right p.2 (subst (λ (o : Option WordSet). IsJudgedWith meaning cert machine image row o right) (sym same) r.2)
 
-    row_at_one : (place : ℕ) (row : Row D) (left right : Result ℕ (Refusal D)) → RowJudgedAt place row left → RowJudgedAt place row right
+    row_at_one : (position : ℕ) (row : Row D) (left right : Result ℕ (Refusal D)) → RowJudgedAt position row left → RowJudgedAt position row right
         → left ≡ right
-    row_at_one place row (Ok left) (Ok right) p r = ap (λ (n : ℕ). Ok n) (ok_one left right (row_one row (Ok left) (Ok right) p r))
-    row_at_one place row (Ok left) (Err right) p r = absurd (ok_err left r.0 (row_one row (Ok left) (Err r.0) p r.1))
-    row_at_one place row (Err left) (Ok right) p r = absurd (ok_err right p.0 (row_one row (Ok right) (Err p.0) r p.1))
-    row_at_one place row (Err left) (Err right) p r =
+    row_at_one position row (Ok left) (Ok right) p r = ap (λ (n : ℕ). Ok n) (ok_one left right (row_one row (Ok left) (Ok right) p r))
+    row_at_one position row (Ok left) (Err right) p r = absurd (ok_err left r.0 (row_one row (Ok left) (Err r.0) p r.1))
+    row_at_one position row (Err left) (Ok right) p r = absurd (ok_err right p.0 (row_one row (Ok right) (Err p.0) r p.1))
+    row_at_one position row (Err left) (Err right) p r =
         let same : p.0 ≡ r.0 = err_one p.0 r.0 (row_one row (Err p.0) (Err r.0) p.1 r.1) in
-        ap (λ (f : Refusal D). Err f) (p.2 ∙ (ap (λ (f : RowFault D). refusal_of place f) same ∙ sym r.2))
+        ap (λ (f : Refusal D). Err f) (p.2 ∙ (ap (λ (f : RowFault D). refusal_of position f) same ∙ sym r.2))
 
     rows_one : (left right : Result ℕ (Refusal D)) → InOrder RowJudgedAt 1 cert.rows left → InOrder RowJudgedAt 1 cert.rows right → left ≡ right
     rows_one left right p r = in_order_one RowJudgedAt row_at_one 1 cert.rows left right p r

@@ -66,7 +66,7 @@ module _ {D : Type 0} (meaning : Meaning D) (cert : Certificate D) where
     abbrev pub IsJudgedWith : Row D → Option WordSet → Result ℕ (RowFault D) → Type 0
     IsJudgedWith row None outcome = outcome ≡ Err fault.CodeUnknown
     IsJudgedWith row (Some code) outcome =
-        InOrder (λ place c. IsCaseJudged (case_in machine image cert.limits row c)) 0 (cases_in row code.list) outcome
+        InOrder (λ position c. IsCaseJudged (case_in machine image cert.limits row c)) 0 (cases_in row code.list) outcome
 
     -- How many cases a row has, or what fails first in it.
     abbrev pub IsRowJudged : Row D → Result ℕ (RowFault D) → Type 0

@@ -32,7 +32,7 @@ module _ {D : Type 0} (meaning : Meaning D) (machine : Machine) (image : List (O
 
 -- the row is one of the rows
 abbrev pub IsAmong : {D : Type 0} → List (Row D) → Row D → Type 0
-IsAmong rows row = (place : ℕ) × (place < length rows) × (slice_index_or rows place row ≡ row)
+IsAmong rows row = (position : ℕ) × (position < length rows) × (slice_index_or rows position row ≡ row)
 
 -- Rows differ at some locations alone: one that stands at no such location is one of both, or of neither.
 abbrev pub DifferAtAlone : {D : Type 0} → (at : ℕ → Type 0) → (one other : List (Row D)) → Type 0

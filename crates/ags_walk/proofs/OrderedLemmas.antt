@@ -25,25 +25,25 @@ module _ {X F : Type 0} (judged : ℕ → X → Result ℕ F → Type 0) where
   -- ---- some
 
   abbrev HasSum : ℕ → List X → Type 0
-  HasSum place xs = (outcome : Result ℕ F) × InOrder judged place xs outcome
+  HasSum position xs = (outcome : Result ℕ F) × InOrder judged position xs outcome
 
-  summed : (place : ℕ) (x : X) (xs : List X) → (outcome : Result ℕ F) × judged place x outcome → HasSum (place + 1) xs → HasSum place (x ∷ xs)
-  summed place x xs (Err told, fails) later = (Err told, inl fails)
-  summed place x xs (Ok one, is) (Err told, fails) = (Err told, inr (one, is, fails))
-  summed place x xs (Ok one, is) (Ok rest, are) = (Ok (one + rest), (one, rest, is, are, refl))
+  summed : (position : ℕ) (x : X) (xs : List X) → (outcome : Result ℕ F) × judged position x outcome → HasSum (position + 1) xs → HasSum position (x ∷ xs)
+  summed position x xs (Err told, fails) later = (Err told, inl fails)
+  summed position x xs (Ok one, is) (Err told, fails) = (Err told, inr (one, is, fails))
+  summed position x xs (Ok one, is) (Ok rest, are) = (Ok (one + rest), (one, rest, is, are, refl))
 
-  pub some_in_order : (P : X → Type 0) → ((place : ℕ) (x : X) → P x → (outcome : Result ℕ F) × judged place x outcome)
-      → (place : ℕ) (xs : List X) → AllByRecursion P xs → HasSum place xs
-  some_in_order P some place [] each = (Ok 0, refl)
-  some_in_order P some place (x ∷ xs) each = summed place x xs (some place x each.0) (some_in_order P some (place + 1) xs each.1)
+  pub some_in_order : (P : X → Type 0) → ((position : ℕ) (x : X) → P x → (outcome : Result ℕ F) × judged position x outcome)
+      → (position : ℕ) (xs : List X) → AllByRecursion P xs → HasSum position xs
+  some_in_order P some position [] each = (Ok 0, refl)
+  some_in_order P some position (x ∷ xs) each = summed position x xs (some position x each.0) (some_in_order P some (position + 1) xs each.1)
 
   -- where each counts, they are counted
-  pub counted_in_order : (P : X → Type 0) → ((place : ℕ) (x : X) → P x → (count : ℕ) × judged place x (Ok count))
-      → (place : ℕ) (xs : List X) → AllByRecursion P xs → (count : ℕ) × InOrder judged place xs (Ok count)
-  counted_in_order P some place [] each = (0, refl)
-  counted_in_order P some place (x ∷ xs) each =
-      let head = some place x each.0 in
-      let tail = counted_in_order P some (place + 1) xs each.1 in
+  pub counted_in_order : (P : X → Type 0) → ((position : ℕ) (x : X) → P x → (count : ℕ) × judged position x (Ok count))
+      → (position : ℕ) (xs : List X) → AllByRecursion P xs → (count : ℕ) × InOrder judged position xs (Ok count)
+  counted_in_order P some position [] each = (0, refl)
+  counted_in_order P some position (x ∷ xs) each =
+      let head = some position x each.0 in
+      let tail = counted_in_order P some (position + 1) xs each.1 in
       (head.0 + tail.0, (head.0, tail.0, head.1, tail.1, refl))
 
   -- ---- each
@@ -53,58 +53,59 @@ module _ {X F : Type 0} (judged : ℕ → X → Result ℕ F → Type 0) where
       → (one : ℕ) × judged (i + first) x (Ok one)
   each_at first [] count i x inside is are = absurd (omega (arith, inside))
   each_at first (y ∷ ys) count zero x inside is are =
-      let place : first ≡ 0 + first = omega arith in
-      (are.0, subst (λ (n : ℕ). judged n x (Ok are.0)) place (subst (λ (z : X). judged first z (Ok are.0)) is are.2))
+      let position : first ≡ 0 + first = omega arith in
+      (are.0, subst (λ (n : ℕ). judged n x (Ok are.0)) position (subst (λ (z : X). judged first z (Ok are.0)) is are.2))
   each_at first (y ∷ ys) count (suc i) x inside is are =
-      let place : i + (first + 1) ≡ suc i + first = omega arith in
+      let position : i + (first + 1) ≡ suc i + first = omega arith in
       let rest = each_at (first + 1) ys are.1 i x (omega (arith, inside)) is are.3 in
-      (rest.0, subst (λ (n : ℕ). judged n x (Ok rest.0)) place rest.1)
+      (rest.0, subst (λ (n : ℕ). judged n x (Ok rest.0)) position rest.1)
 
-  pub each_counted : (P : X → Type 0) → ((place : ℕ) (x : X) (count : ℕ) → judged place x (Ok count) → P x)
+  pub each_counted : (P : X → Type 0) → ((position : ℕ) (x : X) (count : ℕ) → judged position x (Ok count) → P x)
       → (first : ℕ) (xs : List X) (count : ℕ) → InOrder judged first xs (Ok count) → AllByRecursion P xs
   each_counted P counts first [] count are = tt
   each_counted P counts first (x ∷ xs) count are = (counts first x are.0 are.2, each_counted P counts (first + 1) xs are.1 are.3)
 
-  -- where each counts at its place, they are counted
+  -- where each counts at its position, they are counted
   pub counted_at : (first : ℕ) (xs : List X) → ((i : ℕ) (x : X) → i < length xs → get_or xs i x ≡ x → (count : ℕ) × judged (i + first) x (Ok count))
       → (count : ℕ) × InOrder judged first xs (Ok count)
   counted_at first [] each = (0, refl)
   counted_at first (x ∷ xs) each =
-      let place : 0 + first ≡ first = omega arith in
+      let position : 0 + first ≡ first = omega arith in
       let head = each zero x (omega arith) refl in
       let tail = counted_at (first + 1) xs (λ i y inside is.
       let later : suc i + first ≡ i + (first + 1) = omega arith in
       let one = each (suc i) y (omega (arith, inside)) is in
       (one.0, subst (λ (n : ℕ). judged n y (Ok one.0)) later one.1)) in
-      (head.0 + tail.0, (head.0, tail.0, subst (λ (n : ℕ). judged n x (Ok head.0)) place head.1, tail.1, refl))
+      (head.0 + tail.0, (head.0, tail.0, subst (λ (n : ℕ). judged n x (Ok head.0)) position head.1, tail.1, refl))
 
   -- ---- one
 
-  module _ (one : (place : ℕ) (x : X) (left right : Result ℕ F) → judged place x left → judged place x right → left ≡ right) where
-    not_both : (place : ℕ) (xs : List X) (count : ℕ) (fault : F) → InOrder judged place xs (Ok count) → InOrder judged place xs (Err fault) → ⊥
-    not_both place [] count fault p r = r
-    not_both place (x ∷ xs) count fault p (inl fails) = ok_err p.0 fault (one place x (Ok p.0) (Err fault) p.2 fails)
-    not_both place (x ∷ xs) count fault p (inr later) = not_both (place + 1) xs p.1 fault p.3 later.2
+  module _ (one : (position : ℕ) (x : X) (left right : Result ℕ F) → judged position x left → judged position x right → left ≡ right) where
+    not_both : (position : ℕ) (xs : List X) (count : ℕ) (fault : F) → InOrder judged position xs (Ok count) → InOrder judged position xs (Err fault) → ⊥
+    not_both position [] count fault p r = r
+    not_both position (x ∷ xs) count fault p (inl fails) = ok_err p.0 fault (one position x (Ok p.0) (Err fault) p.2 fails)
+    not_both position (x ∷ xs) count fault p (inr later) = not_both (position + 1) xs p.1 fault p.3 later.2
 
-    counts_one : (place : ℕ) (xs : List X) (left right : ℕ) → InOrder judged place xs (Ok left) → InOrder judged place xs (Ok right) → left ≡ right
-    counts_one place [] left right p r = p ∙ sym r
-    counts_one place (x ∷ xs) left right p r =
-        let head : p.0 ≡ r.0 = ok_one p.0 r.0 (one place x (Ok p.0) (Ok r.0) p.2 r.2) in
-        let tail : p.1 ≡ r.1 = counts_one (place + 1) xs p.1 r.1 p.3 r.3 in
+    counts_one : (position : ℕ) (xs : List X) (left right : ℕ) → InOrder judged position xs (Ok left) → InOrder judged position xs (Ok right) → left ≡ right
+    counts_one position [] left right p r = p ∙ sym r
+    counts_one position (x ∷ xs) left right p r =
+        let head : p.0 ≡ r.0 = ok_one p.0 r.0 (one position x (Ok p.0) (Ok r.0) p.2 r.2) in
+        let tail : p.1 ≡ r.1 = counts_one (position + 1) xs p.1 r.1 p.3 r.3 in
         omega (arith, head, tail, p.4, r.4)
 
-    faults_one : (place : ℕ) (xs : List X) (left right : F) → InOrder judged place xs (Err left) → InOrder judged place xs (Err right) → left ≡ right
-    faults_one place [] left right p r = absurd p
-    faults_one place (x ∷ xs) left right (inl p) (inl r) = err_one left right (one place x (Err left) (Err right) p r)
-    faults_one place (x ∷ xs) left right (inl p) (inr r) = absurd (ok_err r.0 left (one place x (Ok r.0) (Err left) r.1 p))
-    faults_one place (x ∷ xs) left right (inr p) (inl r) = absurd (ok_err p.0 right (one place x (Ok p.0) (Err right) p.1 r))
-    faults_one place (x ∷ xs) left right (inr p) (inr r) = faults_one (place + 1) xs left right p.2 r.2
+    faults_one : (position : ℕ) (xs : List X) (left right : F) → InOrder judged position xs (Err left) → InOrder judged position xs (Err right) → left ≡ right
+    faults_one position [] left right p r = absurd p
+    faults_one position (x ∷ xs) left right (inl p) (inl r) = err_one left right (one position x (Err left) (Err right) p r)
+    faults_one position (x ∷ xs) left right (inl p) (inr r) = absurd (ok_err r.0 left (one position x (Ok r.0) (Err left) r.1 p))
+    faults_one position (x ∷ xs) left right (inr p) (inl r) = absurd (ok_err p.0 right (one position x (Ok p.0) (Err right) p.1 r))
+    faults_one position (x ∷ xs) left right (inr p) (inr r) = faults_one (position + 1) xs left right p.2 r.2
 
-    pub one_in_order : (place : ℕ) (xs : List X) (left right : Result ℕ F) → InOrder judged place xs left → InOrder judged place xs right → left ≡ right
-    one_in_order place xs (Ok left) (Ok right) p r = ap (λ (n : ℕ). Ok n) (counts_one place xs left right p r)
-    one_in_order place xs (Ok left) (Err right) p r = absurd (not_both place xs left right p r)
-    one_in_order place xs (Err left) (Ok right) p r = absurd (not_both place xs right left r p)
-    one_in_order place xs (Err left) (Err right) p r = ap (λ (f : F). Err f) (faults_one place xs left right p r)
+    pub one_in_order : (position : ℕ) (xs : List X) (left right : Result ℕ F) → InOrder judged position xs left → InOrder judged position xs right
+        → left ≡ right
+    one_in_order position xs (Ok left) (Ok right) p r = ap (λ (n : ℕ). Ok n) (counts_one position xs left right p r)
+    one_in_order position xs (Ok left) (Err right) p r = absurd (not_both position xs left right p r)
+    one_in_order position xs (Err left) (Ok right) p r = absurd (not_both position xs right left r p)
+    one_in_order position xs (Err left) (Err right) p r = ap (λ (f : F). Err f) (faults_one position xs left right p r)
 
 -- a row and its fault are what is told
 at_row_one : {F : Type 0} (left right : AtRow F) → left.row ≡ right.row → left.fault ≡ right.fault → left ≡ right
@@ -128,7 +129,7 @@ module _ {D F : Type 0} (meaning : Meaning D) (image : List (Option ℕ)) (limit
         → IsWalkedWith meaning image limits unknown judges number row code right → left ≡ right
     with_one number row None left right p r = p ∙ sym r
     with_one number row (Some code) left right p r =
-        one_in_order (λ place c. judges number row c) (λ place c. one number row c) 0 (cases_in row code.list) left right p r
+        one_in_order (λ position c. judges number row c) (λ position c. one number row c) 0 (cases_in row code.list) left right p r
 
     row_one : (number : ℕ) (row : Row D) (left right : Result ℕ F)
         → IsWalked meaning image limits unknown judges number row left → IsWalked meaning image limits unknown judges number row right → left ≡ right

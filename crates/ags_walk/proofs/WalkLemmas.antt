@@ -14,10 +14,10 @@ module _ {D F : Type 0} (meaning : Meaning D) (image : List (Option ℕ)) (limit
     (so_far : AreWalked meaning image limits unknown judges (take i rows) (Ok count)) where
   pub row_further : (number more : ℕ) → number ≡ i + 1 → IsWalkedAt meaning image limits unknown judges number row (Ok more)
       → AreWalked meaning image limits unknown judges (take (i + 1) rows) (Ok (count + more))
-  row_further number more place walked = further (λ n r o. IsWalkedAt meaning image limits unknown judges n r o) 1 rows i count more row d inside is so_far
-      (subst (λ (n : ℕ). IsWalkedAt meaning image limits unknown judges n row (Ok more)) place walked)
+  row_further number more position walked = further (λ n r o. IsWalkedAt meaning image limits unknown judges n r o) 1 rows i count more row d inside is so_far
+      (subst (λ (n : ℕ). IsWalkedAt meaning image limits unknown judges n row (Ok more)) position walked)
 
   pub row_fails : (number : ℕ) (told : AtRow F) → number ≡ i + 1 → IsWalkedAt meaning image limits unknown judges number row (Err told)
       → AreWalked meaning image limits unknown judges rows (Err told)
-  row_fails number told place walked = fails_at (λ n r o. IsWalkedAt meaning image limits unknown judges n r o) 1 rows i count told row d inside is so_far
-      (subst (λ (n : ℕ). IsWalkedAt meaning image limits unknown judges n row (Err told)) place walked)
+  row_fails number told position walked = fails_at (λ n r o. IsWalkedAt meaning image limits unknown judges n r o) 1 rows i count told row d inside is so_far
+      (subst (λ (n : ℕ). IsWalkedAt meaning image limits unknown judges n row (Err told)) position walked)

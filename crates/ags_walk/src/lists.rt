@@ -100,7 +100,7 @@ impl Cases {
         &self.items[..self.count]
     }
 
-    /// Puts a case behind the others.
+    /// Puts a case after the others.
     pub(crate) fn push(&mut self, case: OneCase)
         requires { length self.old < 256 }
         ensures { self.new ≡ self.old ++ case ∷ [] }

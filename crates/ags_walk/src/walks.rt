@@ -32,7 +32,7 @@ fn walk_cases<D: Domain, L: Ledger, J: Judge<D, L>>(
     cases: &[OneCase],
     steps: &mut Steps<L>,
 ) -> Result<u64, J::Fault>
-    ensures judged { InOrder (λ place c. J.judges judge.now number row.now c) 0 cases.now result }
+    ensures judged { InOrder (λ position c. J.judges judge.now number row.now c) 0 cases.now result }
     ensures counted { IfOk result (λ count. count ≡ length cases.now) }
     ensures steps { steps.new ≤ steps.old + length cases.now }
 {

@@ -18,9 +18,6 @@ impl Word {
         ensures found { IfSome result (λ w. IsOctal 6 text.now w) }
         ensures only { (number : ℕ) → IsOctal 6 text.now number → result ≡ Some number }
     {
-        match ags_text::read_octal(text) {
-            Some(number) => Word::of(number),
-            None => None,
-        }
+        Word::of(ags_text::read_octal(text)?)
     }
 }

@@ -115,7 +115,7 @@ naming_nil : (name : List ℕ) (number : ℕ) → naming_from name number [] ≡
 unfolding naming_from
 naming_nil name number = refl
 
--- what a list of cards has behind its end
+-- what a list of cards has after its end
 abbrev pub nothing_placed : Placed
 nothing_placed = record { start = 0; end = 0; place = None; count = 0 }
 
@@ -156,14 +156,6 @@ module _ {A : Type 0} where
       default_free [] i e f within = absurd (omega (arith, within))
       default_free (x ∷ xs) zero e f within = refl
       default_free (x ∷ xs) (suc i) e f within = default_free xs i e f (omega (arith, within))
-
-  -- a term names no row's symbol
-  pub changes_none : (rows : List Row) (number : ℕ) (name : List ℕ) (term : Term) (old : List (Vec ℕ A)) → length old ≡ length rows → All (λ row. row.name ≡ name → ⊥) rows → term.atom ≡ Symbol name
-      → Changes rows (λ name numbers. noted name number term numbers) old old
-  changes_none rows number name term old long none is = record {
-    long = refl;
-    each = λ i d e within. sym (noted_other (get_or rows i d).name name number term (get_or old i e).items is (none i d (omega (arith, within, long))));
-  }
 
   -- ---- along the cards
 

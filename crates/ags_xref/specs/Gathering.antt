@@ -23,7 +23,7 @@ pub record AreRows (rows : List Row) : Type 0 where
   pub ascend : IsSortedBy (λ one other. comes_before one.name other.name) rows
   pub once : AllPairs (λ one other. one.name ≡ other.name → ⊥) rows
 
--- a card's number behind the earlier ones, unless it is the last of them
+-- a card's number after the earlier ones, unless it is the last of them
 abbrev pub once_behind : List ℕ → ℕ → List ℕ
 once_behind numbers number = if option_eq nat_eq (slice_get numbers (length numbers - 1)) (Some number) then numbers else numbers ++ number ∷ []
 

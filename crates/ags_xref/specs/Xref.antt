@@ -23,7 +23,7 @@ left_in width text = text ++ blanks (width - length text)
 abbrev pub right_in : (width : ℕ) → List ℕ → List ℕ
 right_in width text = blanks (width - length text) ++ text
 
--- a card's number behind a blank
+-- a card's number after a blank
 abbrev pub number_text : ℕ → List ℕ
 number_text number = codes " " ++ decimal7_text number
 

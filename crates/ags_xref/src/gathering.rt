@@ -27,7 +27,7 @@ fn operand_terms(body: &Body) -> &[Term]
     }
 }
 
-/// Puts a card's number behind earlier ones, unless it is the last of them.
+/// Puts a card's number after earlier ones, unless it is the last of them.
 fn push_once(numbers: &mut Vec<u32>, number: u32) -> Result<(), AllocError>
     ensures { OnOk result (numbers.new.items ≡ once_behind numbers.old.items number) }
 {

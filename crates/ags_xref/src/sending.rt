@@ -108,8 +108,5 @@ pub fn send_xref<K: Sink>(
     ensures front { OnErr result (WroteFront (K.told out.old) (K.told out.new) (xref_text bytes.now made.now.symbols)) }
     ensures faults { HasCause (K.faults out.old) (K.faults out.new) (is_write_fault result) }
 {
-    match send_reference(alloc, bytes, made, out) {
-        Ok(()) => Ok(()),
-        Err(error) => Err(xref_error(error)),
-    }
+    send_reference(alloc, bytes, made, out).map_err(xref_error)
 }

@@ -16,7 +16,7 @@ const NAME_WIDTH: usize = 6;
 /// The width of the column of values.
 const VALUE_WIDTH: usize = 7;
 
-/// Adds the blanks that fill a column of that width behind or before a text of that length.
+/// Adds the blanks that fill a column of that width after or before a text of that length.
 fn push_blanks(line: &mut Vec<u8>, width: usize, length: usize) -> Result<(), AllocError>
     ensures { OnOk result (line.new.items ≡ line.old.items ++ blanks (width - length)) }
 {

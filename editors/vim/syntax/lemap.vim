@@ -11,7 +11,7 @@ syntax match lemapNoSymbol /^[ \t]\+/ nextgroup=@lemapOperation
 
 syntax cluster lemapOperation contains=lemapOrder,lemapOrderAlone,lemapPlace,lemapDecimals,lemapOctals,lemapEnd
 
-" The 27 orders; two of them and END have no operand, and all behind them is remark.
+" The 27 orders; two of them and END have no operand, and all after them is remark.
 syntax keyword lemapOrder contained nextgroup=lemapExpression skipwhite ADD ADZ ALS AXT CLA CLZ DLY DVP INP LDQ LLS LRS MPR
 syntax keyword lemapOrder contained nextgroup=lemapExpression skipwhite MPY MPZ OUT STO STQ SUB SUZ TIX TMI TOV TRA TSQ
 syntax keyword lemapOrderAlone contained nextgroup=lemapRemark ABS COM

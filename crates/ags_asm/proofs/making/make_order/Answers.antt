@@ -21,5 +21,5 @@ returns-in-Ok-clause-made c = λ later.
 pub returns-in-Err-clause-made : goal.returns-in-Err-clause-made
 returns-in-Err-clause-made c = λ later.
     let back = to_z-of_z w32 c.in-Some.value (value_fits c.in-Some.value c.items.result.now c.items.ensures.terms c.in-Some.ensures.small) in
-    made_fault c.args.codes.now c.args.symbols.now later c.args.number c.args.place c.args.order c.args.terms.now c.args.indexed c.in-Some.value c.in-Err.kind
+    made_fault c.args.codes.now c.args.symbols.now later c.args.number c.args.place c.args.order c.args.terms.now c.args.indexed c.in-Some.value c.in-Err.fault
     (ap (sum_of c.args.symbols.now c.args.place) (sym c.items.ensures.same) ∙ sym c.in-Some.ensures.value) (rw back at c.in-Err.ensures.fault)

@@ -1,4 +1,4 @@
-use Rattle.std.proofs.Common.{◌≡◌, ◌<◌, ◌∙◌, Some, None, [], length, refl, sym, ap, length-drop, arith}
+use Rattle.std.proofs.Common.{◌≡◌, Some, [], length, refl, ap, length-drop, arith}
 use Rattle.ags_decimal.specs.Reading.{reading}
 use Rattle.ags_card.specs.Reading.{list_reading}
 use Rattle.ags_card.proofs.ListLaws.{list_none, list_last, list_more}

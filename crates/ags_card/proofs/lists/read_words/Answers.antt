@@ -1,4 +1,4 @@
-use Rattle.std.proofs.Common.{◌≡◌, ◌<◌, ◌∙◌, Some, None, [], length, take, refl, sym, ap, length-drop, arith}
+use Rattle.std.proofs.Common.{◌≡◌, ◌<◌, Some, [], length, take, refl, ap, length-drop, arith}
 use Rattle.std.proofs.lemmas.List.{take_more_set}
 use Rattle.ags_card.specs.Reading.{list_reading, octal_reading}
 use Rattle.ags_card.proofs.ListLaws.{list_none, list_last, list_more}

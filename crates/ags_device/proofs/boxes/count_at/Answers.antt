@@ -4,7 +4,7 @@ use Rattle.ags_device.proofs.ListLemmas.{get_mapped, some_there}
 use Rattle.ags_device.proofs.boxes.count_at.Goals as goal
 
 pub returns-clause-count : goal.returns-clause-count
-returns-clause-count g c = c.count.ensures ∙ ap (λ o. length (kept_of o)) (sym (get_mapped _ c.args.devices.now.items c.args.place _ c.requires c.index.ensures))
+returns-clause-count g c = c.count.ensures ∙ ap (λ o. length (kept_of o)) (sym (get_mapped _ c.args.devices.now.items c.args.position _ c.requires c.index.ensures))
 
 pub returns-clause-some : goal.returns-clause-some
-returns-clause-some g c = some_there _ _ (get_mapped _ c.args.devices.now.items c.args.place _ c.requires c.index.ensures)
+returns-clause-some g c = some_there _ _ (get_mapped _ c.args.devices.now.items c.args.position _ c.requires c.index.ensures)

@@ -8,6 +8,6 @@ use Rattle.ags_drive.proofs.cycling.run_cycles.Given as goal
 abbrev pub invariant-loop : goal.invariant-loop
 invariant-loop g l = record {
   fitted : IsBenchOf l.machine l.bench;
-  made : SilentMade l.machine (certificate_of l.cert) (cycles l.places l.counter) l.fn.bench l.bench
+  made : SilentMade l.machine (certificate_of l.cert) (cycles l.positions l.counter) l.fn.bench l.bench
       (map (λ b. (goal.Device-dyn g (b.vtable, b.value)).record_of b.value) l.fn.devices.items) (map (λ b. (goal.Device-dyn g (b.vtable, b.value)).record_of b.value) l.devices.items);
 }

@@ -10,9 +10,9 @@ returns-in_default-clause-unmade g c = λ told. no_device c.args.machine.now (ce
 
 pub returns-then-is_none-clause-unmade : goal.returns-then-is_none-clause-unmade
 returns-then-is_none-clause-unmade g c = λ told.
-    no_feed c.args.machine.now (certificate_of c.args.cert.now) (bench_of c.args.bench.now _) c.args.line c.args.number c.in-Some.place told c.in-Some.ensures.place c.in-Some.ensures.some (search rules)
+    no_feed c.args.machine.now (certificate_of c.args.cert.now) (bench_of c.args.bench.now _) c.args.line c.args.number c.in-Some.position told c.in-Some.ensures.position c.in-Some.ensures.some (search rules)
 
 pub returns-clause-unmade : goal.returns-clause-unmade
 returns-clause-unmade g c =
     MatchResult-weaker c.give.result c.give.ensures.ungiven (λ x h. h)
-    (λ met h told. feed_unmade c.args.machine.now (certificate_of c.args.cert.now) c.args.bench.now _ _ c.args.line c.args.number c.in-Some.place met told c.in-Some.ensures.place c.in-Some.ensures.some (search rules) h)
+    (λ met h told. feed_unmade c.args.machine.now (certificate_of c.args.cert.now) c.args.bench.now _ _ c.args.line c.args.number c.in-Some.position met told c.in-Some.ensures.position c.in-Some.ensures.some (search rules) h)

@@ -15,12 +15,12 @@ returns-in_default-detached_line-clause-unmade g c = λ machine cert.
 
 pub returns-in-Err-clause-unmade : goal.returns-in-Err-clause-unmade
 returns-in-Err-clause-unmade g c = λ machine cert.
-    detached_unsent machine cert c.args.bench.now c.steps_fit.ensures _ c.args.line c.args.number c.in-Some.place c.counts_at.result.left c.counts_at.result.heard c.counts_at.result.last c.as_bytes.result.now
-    (g.K.Sink.told c.args.out.now) (g.K.Sink.told c.send_line.new.out) c.in-Err.error c.in-Some.ensures.place c.in-Some.ensures.some c.counts_at.ensures.left c.counts_at.ensures.heard c.counts_at.ensures.last
+    detached_unsent machine cert c.args.bench.now c.steps_fit.ensures _ c.args.line c.args.number c.in-Some.position c.counts_at.result.left c.counts_at.result.heard c.counts_at.result.last c.as_bytes.result.now
+    (g.K.Sink.told c.args.out.now) (g.K.Sink.told c.send_line.new.out) c.in-Err.error c.in-Some.ensures.position c.in-Some.ensures.some c.counts_at.ensures.left c.counts_at.ensures.heard c.counts_at.ensures.last
     (c.as_bytes.ensures.value ∙ c.in-Ok.ensures) c.in-Err.ensures.front
 
 pub returns-clause-made : goal.returns-clause-made
 returns-clause-made g c = λ machine cert.
-    detached_made machine cert c.args.bench.now c.steps_fit.ensures _ _ c.args.line c.args.number c.in-Some.place c.counts_at.result.left c.counts_at.result.heard c.counts_at.result.last c.as_bytes.result.now
-    (g.K.Sink.told c.args.out.now) (g.K.Sink.told c.send_line.new.out) c.in-Some.ensures.place c.in-Some.ensures.some c.counts_at.ensures.left c.counts_at.ensures.heard c.counts_at.ensures.last
+    detached_made machine cert c.args.bench.now c.steps_fit.ensures _ _ c.args.line c.args.number c.in-Some.position c.counts_at.result.left c.counts_at.result.heard c.counts_at.result.last c.as_bytes.result.now
+    (g.K.Sink.told c.args.out.now) (g.K.Sink.told c.send_line.new.out) c.in-Some.ensures.position c.in-Some.ensures.some c.counts_at.ensures.left c.counts_at.ensures.heard c.counts_at.ensures.last
     (c.as_bytes.ensures.value ∙ c.in-Ok.ensures) c.in_default-send_line.ensures.sent c.remove_at.ensures

@@ -19,18 +19,18 @@ run_command-requires-clause-located g c =
 
 pub returns-in-Err-clause-unmade : goal.returns-in-Err-clause-unmade
 returns-in-Err-clause-unmade g c =
-    lines_unmade c.args.machine.now (certificate_of c.args.cert.now) c.args.places c.args.script.now c.loop-position.position c.nth-asked.result (g.K.Sink.told c.args.out.now) (g.K.Sink.told c.loop-position.out)
+    lines_unmade c.args.machine.now (certificate_of c.args.cert.now) c.args.positions c.args.script.now c.loop-position.position c.nth-asked.result (g.K.Sink.told c.args.out.now) (g.K.Sink.told c.loop-position.out)
     (g.K.Sink.told c.run_command.new.out) c.args.bench.now c.loop-position.bench _ _ _ c.in-Err.error c.nth-asked.ensures c.loop-position.invariant.made c.in-Err.ensures.unmade
 
 pub loop-position-preserved : goal.loop-position-preserved
 loop-position-preserved g c = record {
   fitted = c.run_command.ensures.fitted;
-  made = lines_more c.args.machine.now (certificate_of c.args.cert.now) c.args.places c.args.script.now c.loop-position.position c.nth-asked.result (g.K.Sink.told c.args.out.now) (g.K.Sink.told c.loop-position.out)
+  made = lines_more c.args.machine.now (certificate_of c.args.cert.now) c.args.positions c.args.script.now c.loop-position.position c.nth-asked.result (g.K.Sink.told c.args.out.now) (g.K.Sink.told c.loop-position.out)
       (g.K.Sink.told c.run_command.new.out) c.args.bench.now c.loop-position.bench c.run_command.new.bench _ _ _ c.nth-asked.ensures c.loop-position.invariant.made c.in_default.ensures.made;
   faults = c.in_default.ensures.faults.clean refl ∙ c.loop-position.invariant.faults;
 }
 
 pub returns-clause-made : goal.returns-clause-made
 returns-clause-made g c =
-    lines_all c.args.machine.now (certificate_of c.args.cert.now) c.args.places c.args.script.now c.loop-position.position (g.K.Sink.told c.args.out.now) (g.K.Sink.told c.loop-position.out) c.args.bench.now c.loop-position.bench _ _
+    lines_all c.args.machine.now (certificate_of c.args.cert.now) c.args.positions c.args.script.now c.loop-position.position (g.K.Sink.told c.args.out.now) (g.K.Sink.told c.loop-position.out) c.args.bench.now c.loop-position.bench _ _
     (omega (arith, c.loop-position-test.false, c.len-position-end.ensures)) c.loop-position.invariant.made

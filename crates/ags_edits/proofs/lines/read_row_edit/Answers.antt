@@ -2,11 +2,11 @@ use Rattle.std.proofs.Common.{◌≡◌}
 use Rattle.ags_edits.proofs.LineLemmas.{row_edit_some}
 use Rattle.ags_edits.proofs.lines.read_row_edit.Goals as goal
 
-pub returns-in_default-read_row-clause-only : goal.returns-in_default-read_row-clause-only
-returns-in_default-read_row-clause-only c = λ its is.
-    let none = c.in_default-read_row.ensures.only its.new (rw c.split_field.ensures.behind is.row_is) in absurd cc
+pub returns-in_err-new-clause-only : goal.returns-in_err-new-clause-only
+returns-in_err-new-clause-only c = λ its is.
+    let none = c.in_err-new.ensures.only its.new (rw c.split_field.ensures.behind is.row_is) in absurd cc
 
 pub returns-clause-only : goal.returns-clause-only
 returns-clause-only c = λ its is.
-    row_edit_some c.in-Some.row c.in-Some-read_row.new its (c.in-Some.ensures.only its.row (rw c.split_field.ensures.field is.number_is))
-    (c.in-Some-read_row.ensures.only its.new (rw c.split_field.ensures.behind is.row_is))
+    row_edit_some c.in_ok-row.row c.in_ok-new.new its (c.in_ok-row.ensures.only its.row (rw c.split_field.ensures.field is.number_is))
+    (c.in_ok-new.ensures.only its.new (rw c.split_field.ensures.behind is.row_is))

@@ -3,4 +3,4 @@ use Rattle.ags_frame.proofs.NumberLemmas.{small_decimal, fewer}
 use Rattle.ags_frame.proofs.numbers.read_size.Goals as goal
 
 pub returns-clause-below : goal.returns-clause-below
-returns-clause-below c = small_decimal c.args.text.now c.in-Some.size (fewer c.args.text.now c.in-Some.size (omega arith) c.in-Some.ensures.found)
+returns-clause-below c = small_decimal c.args.text.now c.in_ok-size.size (fewer c.args.text.now c.in_ok-size.size (omega arith) c.in_ok-size.ensures.found)

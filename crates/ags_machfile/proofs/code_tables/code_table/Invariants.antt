@@ -4,5 +4,5 @@ use Rattle.ags_machfile.specs.OrderTable.{code_entry}
 use Rattle.ags_machfile.proofs.TableLemmas.{IsFilled}
 use Rattle.ags_machfile.proofs.code_tables.code_table.Given as goal
 
-abbrev pub invariant-loop-place : goal.invariant-loop-place
-invariant-loop-place l = IsFilled (code_entry (table_view l.table)) l.codes l.place × All (λ code. code < 32) l.codes
+abbrev pub invariant-loop-position : goal.invariant-loop-position
+invariant-loop-position l = IsFilled (code_entry (table_view l.table)) l.codes l.position × All (λ code. code < 32) l.codes

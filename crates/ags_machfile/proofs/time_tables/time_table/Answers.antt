@@ -4,20 +4,20 @@ use Rattle.std.proofs.lemmas.List.Elements.{All-set, All-replicate}
 use Rattle.ags_machfile.proofs.TableLemmas.{filled_none, filled_more, filled_fault, filled_whole}
 use Rattle.ags_machfile.proofs.time_tables.time_table.Goals as goal
 
-pub loop-place-init : goal.loop-place-init
-loop-place-init c = (filled_none _ _ refl, All-replicate (λ time. 1 ≤ time) 27 1 (search rules), All-replicate (λ time. time ≤ 1000) 27 1 (search rules))
+pub loop-position-init : goal.loop-position-init
+loop-position-init c = (filled_none _ _ refl, All-replicate (λ time. 1 ≤ time) 27 1 (search rules), All-replicate (λ time. time ≤ 1000) 27 1 (search rules))
 
 pub returns-in_err-times-clause-times : goal.returns-in_err-times-clause-times
 returns-in_err-times-clause-times c =
     let p = err_from_is_err_and c.from_residual.result c.from_residual.ensures.1 in
-    rw (p.1, p.2) (sym (filled_fault _ c.loop-place.times c.loop-place.place _ _ c.loop-place-test.true c.at.ensures (sym c.time_entry.ensures.time ∙ c.in_err-times.was) c.loop-place.invariant.0))
+    rw (p.1, p.2) (sym (filled_fault _ c.loop-position.times c.loop-position.position _ _ c.loop-position-test.true c.at.ensures (sym c.time_entry.ensures.time ∙ c.in_err-times.was) c.loop-position.invariant.0))
 
-pub loop-place-preserved : goal.loop-place-preserved
-loop-place-preserved c = (
-  filled_more _ c.loop-place.times c.loop-place.place _ _ c.loop-place-test.true c.at.ensures (sym c.time_entry.ensures.time ∙ c.in_ok-times.was) c.loop-place.invariant.0,
-  All-set (λ time. 1 ≤ time) _ _ _ c.in_ok-times.ensures.least c.loop-place.invariant.1,
-  All-set (λ time. time ≤ 1000) _ _ _ c.in_ok-times.ensures.most c.loop-place.invariant.2,
+pub loop-position-preserved : goal.loop-position-preserved
+loop-position-preserved c = (
+  filled_more _ c.loop-position.times c.loop-position.position _ _ c.loop-position-test.true c.at.ensures (sym c.time_entry.ensures.time ∙ c.in_ok-times.was) c.loop-position.invariant.0,
+  All-set (λ time. 1 ≤ time) _ _ _ c.in_ok-times.ensures.least c.loop-position.invariant.1,
+  All-set (λ time. time ≤ 1000) _ _ _ c.in_ok-times.ensures.most c.loop-position.invariant.2,
 )
 
 pub returns-clause-times : goal.returns-clause-times
-returns-clause-times c = sym (filled_whole _ c.loop-place.times c.loop-place.place c.loop-place-test.false c.loop-place.invariant.0)
+returns-clause-times c = sym (filled_whole _ c.loop-position.times c.loop-position.position c.loop-position-test.false c.loop-position.invariant.0)

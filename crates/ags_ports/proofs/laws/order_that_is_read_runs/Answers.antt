@@ -1,4 +1,4 @@
-use Rattle.ags_ports.proofs.ChangeLemmas.{ran_reads, reads_ran, idle_told, place_told}
+use Rattle.ags_ports.proofs.ChangeLemmas.{ran_reads, reads_ran, idle_told, here_told}
 use Rattle.ags_ports.proofs.laws.order_that_is_read_runs.Goals as goal
 
 pub returns-clause-only : goal.returns-clause-only
@@ -11,4 +11,4 @@ pub returns-clause-idle_report : goal.returns-clause-idle_report
 returns-clause-idle_report c = idle_told
 
 pub returns-clause-here : goal.returns-clause-here
-returns-clause-here c = place_told
+returns-clause-here c = here_told

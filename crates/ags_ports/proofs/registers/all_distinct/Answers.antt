@@ -8,9 +8,9 @@ differ h = cc
 pub returns-then-is_among : goal.returns-then-is_among
 returns-then-is_among c =
     let taken = (rw c.if-is_among.true at c.is_among.ensures).0 refl in
-    (λ none. absurd (differ none), λ distinct. absurd (taken_twice _ _ _ c.loop-place-test.true taken distinct))
+    (λ none. absurd (differ none), λ distinct. absurd (taken_twice _ _ _ c.loop-position-test.true taken distinct))
 
-pub loop-place-preserved : goal.loop-place-preserved
-loop-place-preserved c =
+pub loop-position-preserved : goal.loop-position-preserved
+loop-position-preserved c =
     let free = (rw c.if-is_among.false at c.is_among.ensures).1 in
-    one_more _ _ _ c.loop-place-test.true (λ taken. differ (free taken)) c.loop-place.invariant
+    one_more _ _ _ c.loop-position-test.true (λ taken. differ (free taken)) c.loop-position.invariant

@@ -8,7 +8,7 @@ use Rattle.ags_verdict.specs.Locality.{CaseGoesTo}
 use Rattle.ags_verdict.specs.RowCase.{RowCase, case_in}
 use Rattle.ags_verdict.specs.declared.verdicts.RowFault.{RowFault}
 use Rattle.ags_certtype.specs.Cert.{certificate_of}
-use Rattle.ags_recheck.specs.Places.{has_place}
+use Rattle.ags_recheck.specs.Locations.{has_location}
 use Rattle.ags_recheck.proofs.OrderLemmas.{one_more, all_judged, few_below, few_further, few_all}
 use Rattle.ags_recheck.proofs.NotingLemmas.{none_first, one_further, all_first}
 use Rattle.ags_recheck.proofs.EditLemmas.{true_false}
@@ -23,7 +23,7 @@ pub loop-case-init : goal.loop-case-init
 loop-case-init g c = (
   search rules,
   λ location. none_first (λ (x : RowCase). CaseGoesTo value_meaning c.args.machine.now c.args.image.now c.args.cert.now.limits
-      (case_in c.args.machine.now c.args.image.now c.args.cert.now.limits c.args.row.now x) location) c.args.cases.now (has_place c.args.places.now location ≡ true)
+      (case_in c.args.machine.now c.args.image.now c.args.cert.now.limits c.args.row.now x) location) c.args.cases.now (has_location c.args.locations.now location ≡ true)
       (λ has. true_false (sym has ∙ c.requires.empty location)),
   search rules,
   search rules,
@@ -31,16 +31,17 @@ loop-case-init g c = (
 
 pub loop-case-preserved : goal.loop-case-preserved
 loop-case-preserved g c = (
-  subst (λ (r : Result ℕ (RowFault Value)). InOrder (λ place x o. IsCaseJudged value_meaning (certificate_of c.args.cert.now)
+  subst (λ (r : Result ℕ (RowFault Value)). InOrder (λ position x o. IsCaseJudged value_meaning (certificate_of c.args.cert.now)
       (case_in c.args.machine.now c.args.image.now c.args.cert.now.limits c.args.row.now x) o) 0 (take (c.loop-case.case-index + 1) c.args.cases.now) r)
       (sym c.join-outcome.ensures)
-      (one_more (λ place x o. IsCaseJudged value_meaning (certificate_of c.args.cert.now)
+      (one_more (λ position x o. IsCaseJudged value_meaning (certificate_of c.args.cert.now)
       (case_in c.args.machine.now c.args.image.now c.args.cert.now.limits c.args.row.now x) o) 0 c.args.cases.now
       c.loop-case.case-index c.case-item.result c.case-item.result c.loop-case.outcome c.case_noted-one.result c.loop-case-test.true c.case-item.is
       c.loop-case.invariant.0 c.case_noted-one.ensures.judged),
   λ location. one_further (λ (x : RowCase). CaseGoesTo value_meaning c.args.machine.now c.args.image.now c.args.cert.now.limits
       (case_in c.args.machine.now c.args.image.now c.args.cert.now.limits c.args.row.now x) location) c.args.cases.now
-      c.loop-case.case-index c.case-item.result (has_place c.loop-case.places location ≡ true) (has_place c.case_noted-one.new.places location ≡ true)
+      c.loop-case.case-index c.case-item.result (has_location c.loop-case.locations location ≡ true)
+      (has_location c.case_noted-one.new.locations location ≡ true)
       c.loop-case-test.true c.case-item.is (c.loop-case.invariant.1 location) (c.case_noted-one.ensures.noted location),
   few_further c.loop-case.outcome c.case_noted-one.result c.join-outcome.result c.loop-case.case-index c.join-outcome.ensures c.loop-case.invariant.2 c.case_noted-one.ensures.once,
   search rules,
@@ -49,7 +50,7 @@ loop-case-preserved g c = (
 pub returns-clause-judged : goal.returns-clause-judged
 returns-clause-judged g c =
     let whole : length c.args.cases.now ≤ c.loop-case.case-index = search rules in
-    all_judged (λ place x o. IsCaseJudged value_meaning (certificate_of c.args.cert.now)
+    all_judged (λ position x o. IsCaseJudged value_meaning (certificate_of c.args.cert.now)
     (case_in c.args.machine.now c.args.image.now c.args.cert.now.limits c.args.row.now x) o) 0 c.args.cases.now c.loop-case.case-index c.loop-case.outcome whole c.loop-case.invariant.0
 
 pub returns-clause-noted : goal.returns-clause-noted
@@ -57,7 +58,7 @@ returns-clause-noted g c = λ location.
     let whole : length c.args.cases.now ≤ c.loop-case.case-index = search rules in
     all_first (λ (x : RowCase). CaseGoesTo value_meaning c.args.machine.now c.args.image.now c.args.cert.now.limits
     (case_in c.args.machine.now c.args.image.now c.args.cert.now.limits c.args.row.now x) location) c.args.cases.now c.loop-case.case-index
-    (has_place c.loop-case.places location ≡ true) whole (c.loop-case.invariant.1 location)
+    (has_location c.loop-case.locations location ≡ true) whole (c.loop-case.invariant.1 location)
 
 pub returns-clause-counted : goal.returns-clause-counted
 returns-clause-counted g c =

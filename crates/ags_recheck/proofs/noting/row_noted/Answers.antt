@@ -14,7 +14,7 @@ returns-in-Some-clause-kept g c =
     subst (λ (l : Limiting Value). IsCode value_meaning c.args.image.now l c.args.row.now (Some c.in-Some.set)) c.limits.ensures.limits c.in-Some.ensures in
     row_kept c.args.machine.now c.args.image.now c.args.cert.now c.args.row.now (c.code_has_the_word_of_each_state.ensures.one) c.in-Some.set is_code
     c.as_slice.result.now (c.as_slice.ensures ∙ c.cases_of.ensures ∙ ap (λ (words : List ℕ). cases_in c.args.row.now words) c.words.ensures.same)
-    c.cases_noted.result c.cases_noted.new.places c.cases_noted.ensures.judged c.cases_noted.ensures.noted c.cases_noted.ensures.counted
+    c.cases_noted.result c.cases_noted.new.locations c.cases_noted.ensures.judged c.cases_noted.ensures.noted c.cases_noted.ensures.counted
 
 pub returns-in-Some-clause-steps : goal.returns-in-Some-clause-steps
 returns-in-Some-clause-steps g c =

@@ -9,12 +9,12 @@ use Rattle.ags_recheck.proofs.StepLemmas.{Spent}
 use Rattle.ags_recheck.proofs.rejudging.rejudge.Given as goal
 
 -- the items so far are kept, and the others are as they were; and so many steps were taken
-abbrev pub invariant-loop-place : goal.invariant-loop-place
-invariant-loop-place g l = (length l.items ≡ length l.cert.rows)
-    × ((place : ℕ) (row : Row Value) (item : Item) → place < l.place → place < length l.cert.rows → get_or l.cert.rows place row ≡ row
-    → get_or l.items place item ≡ item → IsItemKept l.machine l.image l.cert row item)
-    × ((place : ℕ) (d : Item) → l.place ≤ place → get_or l.items place d ≡ get_or l.fn.items place d)
+abbrev pub invariant-loop-position : goal.invariant-loop-position
+invariant-loop-position g l = (length l.items ≡ length l.cert.rows)
+    × ((position : ℕ) (row : Row Value) (item : Item) → position < l.position → position < length l.cert.rows → get_or l.cert.rows position row ≡ row
+    → get_or l.items position item ≡ item → IsItemKept l.machine l.image l.cert row item)
+    × ((position : ℕ) (d : Item) → l.position ≤ position → get_or l.items position d ≡ get_or l.fn.items position d)
     × ((before : List (Row Value)) (new : Row Value) (own : ℕ)
     → (is : IsBeforeEdit l.machine l.image l.cert l.edited l.one l.other before new l.fn.items)
     → (has : HasCases value_meaning l.image l.cert.limits new own)
-    → Spent l.machine l.image l.cert l.edited l.one l.other before new l.fn.items is own has l.fn.steps l.place l.steps)
+    → Spent l.machine l.image l.cert l.edited l.one l.other before new l.fn.items is own has l.fn.steps l.position l.steps)

@@ -29,10 +29,10 @@ loop-byte-preserved c =
     let text = c.args.text.now in
     let i = c.loop-byte.byte-index in
     let within = c.loop-byte-test.true in
-    let told = rw c.from.ensures at c.in-Some.ensures.value in
+    let told = rw c.from.ensures at c.in_ok-digit.ensures.value in
     record {
-      value = value_more c.args.base c.loop-byte.number c.in-Some.digit i text within told.1 c.loop-byte.invariant.value;
-      small = small_more c.args.base c.loop-byte.number c.in-Some.digit i c.loop-byte.invariant.small (rw told.1 told.0);
+      value = value_more c.args.base c.loop-byte.number c.in_ok-digit.digit i text within told.1 c.loop-byte.invariant.value;
+      small = small_more c.args.base c.loop-byte.number c.in_ok-digit.digit i c.loop-byte.invariant.small (rw told.1 told.0);
       forward = forward_more c.args.base i text within told.0 c.loop-byte.invariant.forward;
       back = back_more c.args.base i text within c.loop-byte.invariant.back;
     }
@@ -43,7 +43,7 @@ overflow_mul-number c =
 
 pub overflow_add-number : goal.overflow_add-number
 overflow_add-number c =
-    omega (arith, room c.args.base c.args.most c.loop-byte.byte-index c.loop-byte.number c.in-Some.digit c.requires.low c.requires.room (omega arith) c.loop-byte.invariant.small (search rules))
+    omega (arith, room c.args.base c.args.most c.loop-byte.byte-index c.loop-byte.number c.in_ok-digit.digit c.requires.low c.requires.room (omega arith) c.loop-byte.invariant.small (search rules))
 
 pub returns-clause-below : goal.returns-clause-below
 returns-clause-below c = below_most c.args.base c.args.most c.loop-byte.byte-index c.loop-byte.number c.requires.low (omega arith) c.loop-byte.invariant.small

@@ -7,8 +7,8 @@ use Rattle.ags_asm.proofs.half_words.HalfWords.add_waiting.Goals as goal
 pub returns-in-Some-clause-step : goal.returns-in-Some-clause-step
 returns-in-Some-clause-step c = λ codes S cards before left card next made so.
     keep_taken codes S cards before left card c.args.self.now _ c.args.number c.args.at 1 [] (c.args.fix_up ∷ []) c.requires.not_met c.in_ok-push.ensures.items (one_small c.args.fix_up c.args.at c.requires.there c.requires.room) (omega arith)
-    (omega (arith, c.requires.room)) next made so c.in-Some.kind
-    (found_there c.deref.result.now c.args.self.now.owners.items c.args.at 1 c.first_taken.result (Some c.in-Some.kind) c.deref.ensures.value c.first_taken.ensures c.in-Some.is) so.whole refl
+    (omega (arith, c.requires.room)) next made so c.in-Some.fault
+    (found_there c.deref.result.now c.args.self.now.owners.items c.args.at 1 c.first_taken.result (Some c.in-Some.fault) c.deref.ensures.value c.first_taken.ensures c.in-Some.is) so.whole refl
 
 pub returns-clause-step : goal.returns-clause-step
 returns-clause-step c = λ codes S cards before left card next made so.

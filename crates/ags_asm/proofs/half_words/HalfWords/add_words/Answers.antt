@@ -8,7 +8,7 @@ use Rattle.ags_asm.proofs.half_words.HalfWords.add_words.Goals as goal
 pub returns-in-Some-clause-step : goal.returns-in-Some-clause-step
 returns-in-Some-clause-step c = λ codes S cards before left card next made so.
     keep_taken codes S cards before left card c.args.self.now _ c.args.number c.args.at (length c.args.words.now) c.args.words.now [] c.requires.not_met (sym (append-nil c.args.self.now.waiting.items)) none_small (omega arith) c.requires.room next made so
-    c.in-Some.kind (found_there c.deref.result.now c.args.self.now.owners.items c.args.at (length c.args.words.now) c.first_taken.result (Some c.in-Some.kind) c.deref.ensures.value c.first_taken.ensures c.in-Some.is) so.whole refl
+    c.in-Some.fault (found_there c.deref.result.now c.args.self.now.owners.items c.args.at (length c.args.words.now) c.first_taken.result (Some c.in-Some.fault) c.deref.ensures.value c.first_taken.ensures c.in-Some.is) so.whole refl
 
 pub returns-clause-step : goal.returns-clause-step
 returns-clause-step c = λ codes S cards before left card next made so.

@@ -7,4 +7,4 @@ invariant_of-result c = stood_nothing (gathering_of c.in_ok-gatherer.gatherer) c
 
 pub returns-clause-took : goal.returns-clause-took
 returns-clause-took c =
-    new_standing c.copy_of.result c.new-2.result.items (gathering_of c.in_ok-gatherer.gatherer) c.new-2.ensures.items c.in_ok-gatherer.ensures
+    new_standing c.copy.result c.new-2.result.items (gathering_of c.in_ok-gatherer.gatherer) c.new-2.ensures.items c.in_ok-gatherer.ensures

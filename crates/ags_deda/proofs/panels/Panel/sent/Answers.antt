@@ -8,8 +8,8 @@ pub returns-then-not-has_message-clause-answer : goal.returns-then-not-has_messa
 returns-then-not-has_message-clause-answer c = λ happenings stands.
     sym (no_message happenings (sym (c.has_message.ensures (since_clear happenings) (stands_since c.args.self.now happenings stands)) ∙ c.if-not-has_message.true))
 
-pub returns-then-place-ge-PLACES-clause-answer : goal.returns-then-place-ge-PLACES-clause-answer
-returns-then-place-ge-PLACES-clause-answer c = λ happenings stands.
+pub returns-then-column-ge-COLUMNS-clause-answer : goal.returns-then-column-ge-COLUMNS-clause-answer
+returns-then-column-ge-COLUMNS-clause-answer c = λ happenings stands.
     let since = stands_since c.args.self.now happenings stands in
     sym (all_sent happenings (sym (c.has_message.ensures (since_clear happenings) since) ∙ c.if-not-has_message.false) (omega (arith, since.sent)))
 

@@ -6,4 +6,4 @@ use Rattle.ags_deda.proofs.panels.Panel.text.Goals as goal
 
 pub returns : goal.returns
 unfolding text StandsFor
-returns c = λ happenings stands. c.with_tenth.ensures ∙ rw (c.places.ensures (since_clear happenings) stands, c.light_character.ensures, stands.light) refl
+returns c = λ happenings stands. c.with_tenth.ensures ∙ rw (c.columns.ensures (since_clear happenings) stands, c.light_character.ensures, stands.light) refl

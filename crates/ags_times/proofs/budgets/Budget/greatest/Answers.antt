@@ -8,11 +8,11 @@ use Rattle.ags_times.proofs.budgets.Budget.greatest.Goals as goal
 pub loop-bound-preserved : goal.loop-bound-preserved
 loop-bound-preserved c =
     let items : List (Option ℕ) = c.as_slice-bound-items.result.now in
-    let place : ℕ = c.loop-bound.bound-index in
+    let position : ℕ = c.loop-bound.bound-index in
     let number : ℕ = c.unwrap_or.result in
-    let inside : place < length items = c.loop-bound-test.true in
+    let inside : position < length items = c.loop-bound-test.true in
     let same : length (bounds_where items) ≡ length items = length-map items (λ (bound : Option ℕ). unwrap_or bound 20000) in
-    let is : number ≡ get_or (bounds_where items) place number =
-    c.unwrap_or.ensures ∙ sym (get_or-map (λ (bound : Option ℕ). unwrap_or bound 20000) items place None number inside) in
-    greater (bounds_where items) place c.loop-bound.greatest number c.max-greatest.result (omega (arith, inside, same)) is c.max-greatest.ensures
+    let is : number ≡ get_or (bounds_where items) position number =
+    c.unwrap_or.ensures ∙ sym (get_or-map (λ (bound : Option ℕ). unwrap_or bound 20000) items position None number inside) in
+    greater (bounds_where items) position c.loop-bound.greatest number c.max-greatest.result (omega (arith, inside, same)) is c.max-greatest.ensures
     c.loop-bound.invariant.0 c.loop-bound.invariant.1

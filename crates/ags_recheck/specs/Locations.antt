@@ -3,5 +3,5 @@ use Rattle.std.specs.Prelude.{ℕ, ◌/◌, ◌%◌, ◌==◌, Bool, List, get_o
 use Rattle.std.specs.Int.{bit_at}
 
 -- a set has a location: its bit is set
-abbrev pub has_place : List ℕ → (location : ℕ) → Bool
-has_place words location = bit_at (get_or words (location / 64) 0) (location % 64) == 1
+abbrev pub has_location : List ℕ → (location : ℕ) → Bool
+has_location words location = bit_at (get_or words (location / 64) 0) (location % 64) == 1

@@ -1,5 +1,5 @@
-use Rattle.ags_recheck.proofs.PlacesLemmas.{here_from, others_from}
-use Rattle.ags_recheck.proofs.places.Places.note.Goals as goal
+use Rattle.ags_recheck.proofs.LocationsLemmas.{here_from, others_from}
+use Rattle.ags_recheck.proofs.locations.Locations.note.Goals as goal
 
 pub returns-clause-here : goal.returns-clause-here
 returns-clause-here c = here_from c.self.inside.words c.args.location c.requires c.self.invariant

@@ -1,5 +1,5 @@
--- A row that holds all that may stand at the start holds each start whose cells are in their limits. Behind the law is
---     start_in_row
+-- A row that holds all that may stand at the start holds each start whose cells are in their limits: `start_in_row`, which crates
+-- above cite too.
 use Rattle.std.proofs.Common.{◌≡◌, ℕ, zero, suc, ◌<◌, Bool, true, false, refl, sym, ap, subst, ◌∙◌, arith, List, [], ◌∷◌, length, get_or, ℤ, ◌+ℤ◌}
 use Rattle.std.specs.Prelude.{Option, Some, None, IfSome, ◌==◌, unwrap_or, if◌then◌else◌}
 use Rattle.std.proofs.lemmas.Bool.{eqb-true}
