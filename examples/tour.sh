@@ -278,11 +278,11 @@ ags: examples/counter.cert: MayOverflow ROW 2 WORD 224004 A 377777 Q 000000 M 00
 END
 
 says 1 guard examples/deck.lem examples/outside.script examples/deck.cert <<'END'
-ags: examples/outside.script: OUTSIDE IN 2001 001751: a word that is put into an input register is one of its IN line: put another, or widen that
+ags: examples/outside.script: OUTSIDE IN 2001 001751: it is the script's first word, put by SET, FEED or CYCLE, that isn't one of its register's IN line: put another, or widen that; bin/ags-explain -g tells its line
 END
 
 says 2 assemble examples/deck.cert <<'END'
-ags: examples/deck.cert:1: BadSymbol: a symbol, from column 1 on, is 1 to 6 capitals and digits with a letter among them; EQU and SYN have one; a comment has * in column 1
+ags: examples/deck.cert:1: BadSymbol: this is read as a source: a symbol, from column 1 on, is 1 to 6 capitals and digits with a letter among them; EQU and SYN have one; a comment has * in column 1
 END
 
 says 3 assemble <<'END'

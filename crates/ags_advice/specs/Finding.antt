@@ -15,7 +15,7 @@ number_in FaultOnLine line = number_of 10 9 (first_word (after_words 2 line))
 number_in OnLine line = number_of 10 9 (first_word (after_words 2 line))
 number_in _ line = None
 
--- what is shown of it: of a fault and of a refusal its kind and what stands behind it, and of an absent file its name
+-- what is shown of it: of a fault and of a refusal its kind and what stands after it, and of an absent file its name
 abbrev pub shown_in : Form → (line : List ℕ) → List ℕ
 shown_in FaultOnLine line = after_words 5 line
 shown_in Fault line = after_words 3 line

@@ -56,7 +56,7 @@ abbrev pub heading_of : Program → (word : List ℕ) → Option Heading
 heading_of Ags word = named headings word
 heading_of AgsBench word = at_bench (named headings word)
 
--- how a line goes on behind a heading
+-- how a line goes on after a heading
 abbrev pub form_of : Heading → Form
 form_of Source = form.FaultOnLine
 form_of Machine = form.Fault
@@ -96,12 +96,12 @@ wanted_of Refused kind = wanted_in hint.verdict kind
 wanted_of Edit kind = wanted_in hint.edit kind
 wanted_of Outside kind = wanted_in hint.outside kind
 wanted_of BenchOutside kind = wanted_in hint.bench_outside kind
-wanted_of NoDevice kind = codes "FEED and DETACH name a device that is there, from 1 on; behind a DETACH the numbers close up"
+wanted_of NoDevice kind = codes "FEED and DETACH name a device that is there, from 1 on; after a DETACH the numbers close up"
 wanted_of NoFeed kind = codes "FEED names a device that feeds an input register of the machine; a recorder feeds none"
-wanted_of Over kind = codes "a row needs its order's time and, but at DLY, the least bound of a row that covers what is next; a row without a TIME line has 20,000"
+wanted_of Over kind = codes "a row needs its order's time and, but at DLY, the least bound of a row that covers what is next; a row without a TIME line has 20,000; rows of a subroutine may be written once for each caller"
 wanted_of StartMixed kind = codes "a row that holds the start has ANY or RAW for A and for Q, or no ROW line in the text of scales"
 wanted_of Mixed kind = codes "two tags that meet have to be one scale, or both raw: mend the declaration or the ROW line, or shift the word first"
-wanted_of NotHeld kind = codes "a row at NEXT that covers what this order leaves has to have its tags or ANY: mend the tags there, or of this row; a cell without a CELL line is raw"
+wanted_of NotHeld kind = codes "a row at NEXT that covers what this order leaves has to have its tags or ANY: mend the tags there, or of this row; docs/SCALES.md has what each order leaves; a cell without a CELL line is raw"
 wanted_of Absent kind = codes "there is no file of this name"
 wanted_of Long kind = codes "it is longer than is read: at most 65,536 bytes of a machine file, 67,108,864 of a certificate, 134,217,728 of a listing, 4,194,304 of any other"
 wanted_of Differs kind = []

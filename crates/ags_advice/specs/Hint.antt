@@ -27,12 +27,12 @@ source = record {
   kinds =
       record { kind = codes "BadByte"; wanted = codes "a card, a comment too, has tabs and the characters from the space to the tilde, and no other byte" }
       ∷ record { kind = codes "LongCard"; wanted = codes "a card, a comment too, has at most 120 bytes; the line's end doesn't count" }
-      ∷ record { kind = codes "BadSymbol"; wanted = codes "a symbol, from column 1 on, is 1 to 6 capitals and digits with a letter among them; EQU and SYN have one; a comment has * in column 1" }
-      ∷ record { kind = codes "UnknownOperation"; wanted = codes "an operation, behind column 1, is one of the 27 orders, ORG, EQU, SYN, BSS, BES, DEC, OCT or END, in capitals" }
-      ∷ record { kind = codes "MissingOperand"; wanted = codes "every operation but ABS, COM and END has an operand behind a blank, with no blank in it" }
+      ∷ record { kind = codes "BadSymbol"; wanted = codes "this is read as a source: a symbol, from column 1 on, is 1 to 6 capitals and digits with a letter among them; EQU and SYN have one; a comment has * in column 1" }
+      ∷ record { kind = codes "UnknownOperation"; wanted = codes "an operation, after column 1, is one of the 27 orders, ORG, EQU, SYN, BSS, BES, DEC, OCT or END, in capitals; a comment has * in column 1" }
+      ∷ record { kind = codes "MissingOperand"; wanted = codes "every operation but ABS, COM and END has an operand after a blank, with no blank in it" }
       ∷ record { kind = codes "ExtraOperand"; wanted = codes "the operand of ORG, EQU, SYN, BSS and BES is one expression, without a comma" }
       ∷ record { kind = codes "BadExpression"; wanted = codes "an operand is terms joined by + or -: /octal or decimal, 6 digits at most, *, a symbol; an order may end in ,1" }
-      ∷ record { kind = codes "BadDecimal"; wanted = codes "a number of DEC is as -1.5E2B10: 1 to 10 digits, E and B or none, net power of ten -12 to 12, scale -30 to 60; no blank stands behind a comma" }
+      ∷ record { kind = codes "BadDecimal"; wanted = codes "a number of DEC is as -1.5E2B10: 1 to 10 digits, E and B or none, net power of ten -12 to 12, scale -30 to 60; no blank stands after a comma" }
       ∷ record { kind = codes "BadOctal"; wanted = codes "each number of OCT is an optional sign and 1 to 6 octal digits, with a comma between each two" }
       ∷ record { kind = codes "SymbolTwice"; wanted = codes "a symbol stands in the symbol field of one card alone" }
       ∷ record { kind = codes "UndefinedEarly"; wanted = codes "the symbols that ORG, EQU, SYN, BSS and BES use are defined by earlier cards" }
@@ -49,9 +49,9 @@ source = record {
 abbrev pub machine : Hints
 machine = record {
   kinds =
-      record { kind = codes "NotToml"; wanted = codes "a machine file is one TOML document in UTF-8; an empty one gives the standard machine" }
+      record { kind = codes "NotToml"; wanted = codes "a machine file is one TOML document in UTF-8, with texts in quotes and numbers as 1025 or 0o2001; an empty one gives the standard machine" }
       ∷ record { kind = codes "MissingKey"; wanted = codes "codes and times, where given, have all 27 orders by name; each entry of input and output has an address" }
-      ∷ record { kind = codes "BadValue"; wanted = codes "codes are even, 0 to 62, times 1 to 1000, addresses 0 to 4095; input and output are at most 32 tables each" }
+      ∷ record { kind = codes "BadValue"; wanted = codes "codes are even, 0 to 62, times 1 to 1000, addresses 0 to 4095, all without quotes; once is true or false; input and output are at most 32 tables each" }
       ∷ record { kind = codes "SameCode"; wanted = codes "no two of the 27 orders have one code" }
       ∷ record { kind = codes "SamePort"; wanted = codes "no two registers of one direction have one address; an input and an output register may" }
       ∷ [];
@@ -62,7 +62,7 @@ machine = record {
 abbrev pub certificate : Hints
 certificate = record {
   kinds =
-      record { kind = codes "BadLine"; wanted = codes "in capitals and in this order come START p, CELL c value, INIT c value, IN p value, OUT p value, MAY p, then ROW p A value Q value X digits V digits with AT c value and in version 2 LINK c k behind it, and END; a value is ANY, RANGE n m or WORDS w ..; p and c have 4 octal digits, w has 6, n and m are decimal, -131072 to 131071; c is erasable, IN and OUT name registers; a comment has # in column 1" }
+      record { kind = codes "BadLine"; wanted = codes "in capitals and in this order come START p, CELL c value, INIT c value, IN p value, OUT p value, MAY p, then ROW p A value Q value X digits V digits with AT c value and in version 2 LINK c k after it, and END last; a value is ANY, RANGE n m or WORDS w .. with 1 to 16 w that ascend; the digits ascend without blanks; p and c have 4 octal digits, w has 6, n and m are decimal, -131072 to 131071, k -262143 to 262143; c is erasable, IN and OUT name registers; a comment has # in column 1; a line has at most 512 bytes" }
       ∷ record { kind = codes "Version"; wanted = codes "line 1 is AGSCERT 1 or AGSCERT 2, and there is no other version" }
       ∷ record { kind = codes "Twice"; wanted = codes "START stands once, an address once in one kind, AT once for a cell of a row, and LINK once in a row" }
       ∷ record { kind = codes "EmptyRange"; wanted = codes "RANGE n m has the lesser value first: n is m or less" }
@@ -89,7 +89,7 @@ listing = record {
 abbrev pub script : Hints
 script = record {
   kinds =
-      record { kind = codes "BadLine"; wanted = codes "START p, CELL c w and PORT p w come first, then STEP n, PULSE, SET p w, KEY k .., FEED, CYCLE n, SHOW REG, SHOW CELL c, SHOW OUT p and SHOW DEDA; p and c have 4 octal digits, w has 6, n is decimal; the c of CELL is 0000 to 3777; a comment has # in column 1" }
+      record { kind = codes "BadLine"; wanted = codes "this is read as a script: START p once, CELL c w and PORT p w come first, then STEP n, PULSE, SET p w, KEY k .., FEED, CYCLE n, SHOW REG, SHOW CELL c, SHOW OUT p and SHOW DEDA; p and c have 4 octal digits, w has 6, n is decimal, of 1 to 9 digits, k is 0 to 9, +, -, CLR, ENTR, RO or HOLD; the c of CELL is 0000 to 3777; a comment has # in column 1" }
       ∷ record { kind = codes "NoPort"; wanted = codes "PORT and SET name an input register of the machine, SHOW OUT an output one, and FEED needs the panel's" }
       ∷ record { kind = codes "TooManySteps"; wanted = codes "the counts of all STEP lines, and 20,000 times those of all CYCLE lines, come to at most 100,000,000" }
       ∷ [];
@@ -136,7 +136,7 @@ scales = record {
 abbrev pub edits : Hints
 edits = record {
   kinds =
-      record { kind = codes "BadLine"; wanted = codes "a line is WORD p w, CELL c value or ROW r p A .. (the row's number, then its location), with its AT and LINK lines behind it, and END is last; CELL, AT and LINK name erasable cells" }
+      record { kind = codes "BadLine"; wanted = codes "a line is WORD p w, CELL c value or ROW r p A .. (the row's number, then its location), with its AT and LINK lines after it, and END is last; p has 4 octal digits, w has 6; CELL, AT and LINK name erasable cells" }
       ∷ record { kind = codes "Version"; wanted = codes "line 1 is AGSEDIT 1, and there is no other version" }
       ∷ record { kind = codes "Twice"; wanted = codes "a cell stands in one AT line of a row, and a row has one LINK line at most" }
       ∷ record { kind = codes "EmptyRange"; wanted = codes "RANGE n m has the lesser value first: n is m or less" }
@@ -153,7 +153,7 @@ outside = record {
       record { kind = codes "START"; wanted = codes "the script starts where the certificate does: its START names that location, or it has none" }
       ∷ record { kind = codes "CELL"; wanted = codes "an erasable cell begins as its card's word, else as a word of its INIT line, and where neither is as 0" }
       ∷ record { kind = codes "PORT"; wanted = codes "an input register begins as a word of its IN line, and as 0 where no PORT line sets it" }
-      ∷ record { kind = codes "IN"; wanted = codes "a word that is put into an input register is one of its IN line: put another, or widen that" }
+      ∷ record { kind = codes "IN"; wanted = codes "it is the script's first word, put by SET, FEED or CYCLE, that isn't one of its register's IN line: put another, or widen that; bin/ags-explain -g tells its line" }
       ∷ [];
   otherwise = codes "docs/SCRIPT.md, Guarded plays, has the kinds";
 }
@@ -181,7 +181,7 @@ items =
     ∷ record { kind = codes "MayOverflow"; wanted = codes "with these words the order overflows: narrow A in the row, or the cell by AT or CELL, or name the place by MAY" }
     ∷ record { kind = codes "CellRange"; wanted = codes "what is stored has to lie within the CELL line: widen that, or narrow A in the row (Q for STQ)" }
     ∷ record { kind = codes "OutputRange"; wanted = codes "what is given has to lie within the OUT line of the register: widen that, or narrow A in the row" }
-    ∷ record { kind = codes "NotCovered"; wanted = codes "a row at NEXT has to hold all that this order leaves: in A, Q, X, V and the cells of its AT lines, and its LINK; bin/ags-explain shows the rows there" }
+    ∷ record { kind = codes "NotCovered"; wanted = codes "a row at NEXT has to hold all that this order leaves, where X and V here are from before it: in A, Q, X, V and the cells of its AT lines, and its LINK; bin/ags-explain tells what is left, of a certificate with its edits made" }
     ∷ []
 
 -- of an item of the verdict that fails

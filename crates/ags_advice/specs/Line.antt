@@ -10,11 +10,11 @@ first_line text = before_first (λ byte. byte == 10) text
 abbrev pub first_word : List ℕ → List ℕ
 first_word text = before_first (λ byte. byte == 32) text
 
--- what stands behind that blank, and nothing where there is none
+-- what stands after that blank, and nothing where there is none
 abbrev pub after_word : List ℕ → List ℕ
 after_word text = after_first (λ byte. byte == 32) text
 
--- what stands behind so many words
+-- what stands after so many words
 abbrev pub after_words : (count : ℕ) → List ℕ → List ℕ
 after_words zero text = text
 after_words (suc count) text = after_word (after_words count text)

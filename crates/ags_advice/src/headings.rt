@@ -7,7 +7,7 @@ ghost use Rattle.ags_advice.specs.Heading as heading;
 use crate::hints;
 use crate::programs::Program;
 
-/// How a line goes on behind its heading.
+/// How a line goes on after its heading.
 #[derive(Clone, Copy, PartialEq, Eq)]
 pub(crate) enum Form {
     /// `CARD c ERROR n Kind` or `LINE n ERROR k Kind`, and what the kind is about.
@@ -122,7 +122,7 @@ impl Heading {
         }
     }
 
-    /// How a line goes on behind it.
+    /// How a line goes on after it.
     pub(crate) fn form(self) -> Form
         ensures { result ≡ heading.form_of self }
     {
@@ -171,13 +171,13 @@ impl Heading {
             Heading::Outside => hints::outside(kind),
             Heading::BenchOutside => hints::bench_outside(kind),
             Heading::NoDevice => {
-                "FEED and DETACH name a device that is there, from 1 on; behind a DETACH the numbers close up"
+                "FEED and DETACH name a device that is there, from 1 on; after a DETACH the numbers close up"
             }
             Heading::NoFeed => {
                 "FEED names a device that feeds an input register of the machine; a recorder feeds none"
             }
             Heading::Over => {
-                "a row needs its order's time and, but at DLY, the least bound of a row that covers what is next; a row without a TIME line has 20,000"
+                "a row needs its order's time and, but at DLY, the least bound of a row that covers what is next; a row without a TIME line has 20,000; rows of a subroutine may be written once for each caller"
             }
             Heading::StartMixed => {
                 "a row that holds the start has ANY or RAW for A and for Q, or no ROW line in the text of scales"
@@ -186,7 +186,7 @@ impl Heading {
                 "two tags that meet have to be one scale, or both raw: mend the declaration or the ROW line, or shift the word first"
             }
             Heading::NotHeld => {
-                "a row at NEXT that covers what this order leaves has to have its tags or ANY: mend the tags there, or of this row; a cell without a CELL line is raw"
+                "a row at NEXT that covers what this order leaves has to have its tags or ANY: mend the tags there, or of this row; docs/SCALES.md has what each order leaves; a cell without a CELL line is raw"
             }
             Heading::Absent => "there is no file of this name",
             Heading::Long => {

@@ -13,13 +13,13 @@ pub(crate) fn source(kind: &str) -> &'static str
         }
         "LongCard" => "a card, a comment too, has at most 120 bytes; the line's end doesn't count",
         "BadSymbol" => {
-            "a symbol, from column 1 on, is 1 to 6 capitals and digits with a letter among them; EQU and SYN have one; a comment has * in column 1"
+            "this is read as a source: a symbol, from column 1 on, is 1 to 6 capitals and digits with a letter among them; EQU and SYN have one; a comment has * in column 1"
         }
         "UnknownOperation" => {
-            "an operation, behind column 1, is one of the 27 orders, ORG, EQU, SYN, BSS, BES, DEC, OCT or END, in capitals"
+            "an operation, after column 1, is one of the 27 orders, ORG, EQU, SYN, BSS, BES, DEC, OCT or END, in capitals; a comment has * in column 1"
         }
         "MissingOperand" => {
-            "every operation but ABS, COM and END has an operand behind a blank, with no blank in it"
+            "every operation but ABS, COM and END has an operand after a blank, with no blank in it"
         }
         "ExtraOperand" => {
             "the operand of ORG, EQU, SYN, BSS and BES is one expression, without a comma"
@@ -28,7 +28,7 @@ pub(crate) fn source(kind: &str) -> &'static str
             "an operand is terms joined by + or -: /octal or decimal, 6 digits at most, *, a symbol; an order may end in ,1"
         }
         "BadDecimal" => {
-            "a number of DEC is as -1.5E2B10: 1 to 10 digits, E and B or none, net power of ten -12 to 12, scale -30 to 60; no blank stands behind a comma"
+            "a number of DEC is as -1.5E2B10: 1 to 10 digits, E and B or none, net power of ten -12 to 12, scale -30 to 60; no blank stands after a comma"
         }
         "BadOctal" => {
             "each number of OCT is an optional sign and 1 to 6 octal digits, with a comma between each two"
@@ -58,13 +58,13 @@ pub(crate) fn machine(kind: &str) -> &'static str
 {
     match kind {
         "NotToml" => {
-            "a machine file is one TOML document in UTF-8; an empty one gives the standard machine"
+            "a machine file is one TOML document in UTF-8, with texts in quotes and numbers as 1025 or 0o2001; an empty one gives the standard machine"
         }
         "MissingKey" => {
             "codes and times, where given, have all 27 orders by name; each entry of input and output has an address"
         }
         "BadValue" => {
-            "codes are even, 0 to 62, times 1 to 1000, addresses 0 to 4095; input and output are at most 32 tables each"
+            "codes are even, 0 to 62, times 1 to 1000, addresses 0 to 4095, all without quotes; once is true or false; input and output are at most 32 tables each"
         }
         "SameCode" => "no two of the 27 orders have one code",
         "SamePort" => {
@@ -80,7 +80,7 @@ pub(crate) fn certificate(kind: &str) -> &'static str
 {
     match kind {
         "BadLine" => {
-            "in capitals and in this order come START p, CELL c value, INIT c value, IN p value, OUT p value, MAY p, then ROW p A value Q value X digits V digits with AT c value and in version 2 LINK c k behind it, and END; a value is ANY, RANGE n m or WORDS w ..; p and c have 4 octal digits, w has 6, n and m are decimal, -131072 to 131071; c is erasable, IN and OUT name registers; a comment has # in column 1"
+            "in capitals and in this order come START p, CELL c value, INIT c value, IN p value, OUT p value, MAY p, then ROW p A value Q value X digits V digits with AT c value and in version 2 LINK c k after it, and END last; a value is ANY, RANGE n m or WORDS w .. with 1 to 16 w that ascend; the digits ascend without blanks; p and c have 4 octal digits, w has 6, n and m are decimal, -131072 to 131071, k -262143 to 262143; c is erasable, IN and OUT name registers; a comment has # in column 1; a line has at most 512 bytes"
         }
         "Version" => "line 1 is AGSCERT 1 or AGSCERT 2, and there is no other version",
         "Twice" => {
@@ -119,7 +119,7 @@ pub(crate) fn script(kind: &str) -> &'static str
 {
     match kind {
         "BadLine" => {
-            "START p, CELL c w and PORT p w come first, then STEP n, PULSE, SET p w, KEY k .., FEED, CYCLE n, SHOW REG, SHOW CELL c, SHOW OUT p and SHOW DEDA; p and c have 4 octal digits, w has 6, n is decimal; the c of CELL is 0000 to 3777; a comment has # in column 1"
+            "this is read as a script: START p once, CELL c w and PORT p w come first, then STEP n, PULSE, SET p w, KEY k .., FEED, CYCLE n, SHOW REG, SHOW CELL c, SHOW OUT p and SHOW DEDA; p and c have 4 octal digits, w has 6, n is decimal, of 1 to 9 digits, k is 0 to 9, +, -, CLR, ENTR, RO or HOLD; the c of CELL is 0000 to 3777; a comment has # in column 1"
         }
         "NoPort" => {
             "PORT and SET name an input register of the machine, SHOW OUT an output one, and FEED needs the panel's"
@@ -184,7 +184,7 @@ pub(crate) fn edits(kind: &str) -> &'static str
 {
     match kind {
         "BadLine" => {
-            "a line is WORD p w, CELL c value or ROW r p A .. (the row's number, then its location), with its AT and LINK lines behind it, and END is last; CELL, AT and LINK name erasable cells"
+            "a line is WORD p w, CELL c value or ROW r p A .. (the row's number, then its location), with its AT and LINK lines after it, and END is last; p has 4 octal digits, w has 6; CELL, AT and LINK name erasable cells"
         }
         "Version" => "line 1 is AGSEDIT 1, and there is no other version",
         "Twice" => "a cell stands in one AT line of a row, and a row has one LINK line at most",
@@ -210,7 +210,7 @@ pub(crate) fn outside(kind: &str) -> &'static str
             "an input register begins as a word of its IN line, and as 0 where no PORT line sets it"
         }
         "IN" => {
-            "a word that is put into an input register is one of its IN line: put another, or widen that"
+            "it is the script's first word, put by SET, FEED or CYCLE, that isn't one of its register's IN line: put another, or widen that; bin/ags-explain -g tells its line"
         }
         _ => "docs/SCRIPT.md, Guarded plays, has the kinds",
     }
@@ -265,7 +265,7 @@ fn item_or(otherwise: &'static str, kind: &str) -> &'static str
             "what is given has to lie within the OUT line of the register: widen that, or narrow A in the row"
         }
         "NotCovered" => {
-            "a row at NEXT has to hold all that this order leaves: in A, Q, X, V and the cells of its AT lines, and its LINK; bin/ags-explain shows the rows there"
+            "a row at NEXT has to hold all that this order leaves, where X and V here are from before it: in A, Q, X, V and the cells of its AT lines, and its LINK; bin/ags-explain tells what is left, of a certificate with its edits made"
         }
         _ => otherwise,
     }

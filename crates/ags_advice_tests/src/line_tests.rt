@@ -28,15 +28,15 @@ const SOURCE_1: [Row; 8] = [
     ),
     (
         "SOURCE CARD 0000031 ERROR 3 BadSymbol\n",
-        "F:31: BadSymbol: a symbol, from column 1 on, is 1 to 6 capitals and digits with a letter among them; EQU and SYN have one; a comment has * in column 1",
+        "F:31: BadSymbol: this is read as a source: a symbol, from column 1 on, is 1 to 6 capitals and digits with a letter among them; EQU and SYN have one; a comment has * in column 1",
     ),
     (
         "SOURCE CARD 0000032 ERROR 4 UnknownOperation\n",
-        "F:32: UnknownOperation: an operation, behind column 1, is one of the 27 orders, ORG, EQU, SYN, BSS, BES, DEC, OCT or END, in capitals",
+        "F:32: UnknownOperation: an operation, after column 1, is one of the 27 orders, ORG, EQU, SYN, BSS, BES, DEC, OCT or END, in capitals; a comment has * in column 1",
     ),
     (
         "SOURCE CARD 0000033 ERROR 5 MissingOperand\n",
-        "F:33: MissingOperand: every operation but ABS, COM and END has an operand behind a blank, with no blank in it",
+        "F:33: MissingOperand: every operation but ABS, COM and END has an operand after a blank, with no blank in it",
     ),
     (
         "SOURCE CARD 0000034 ERROR 6 ExtraOperand\n",
@@ -48,7 +48,7 @@ const SOURCE_1: [Row; 8] = [
     ),
     (
         "SOURCE CARD 0000036 ERROR 8 BadDecimal\n",
-        "F:36: BadDecimal: a number of DEC is as -1.5E2B10: 1 to 10 digits, E and B or none, net power of ten -12 to 12, scale -30 to 60; no blank stands behind a comma",
+        "F:36: BadDecimal: a number of DEC is as -1.5E2B10: 1 to 10 digits, E and B or none, net power of ten -12 to 12, scale -30 to 60; no blank stands after a comma",
     ),
 ];
 
@@ -102,7 +102,7 @@ fn source_2_lines_say_what_is_wanted(rt: HostRuntime) {
 const CERTIFICATE_1: [Row; 5] = [
     (
         "CERTIFICATE LINE 7 ERROR 1 BadLine\n",
-        "F:7: BadLine: in capitals and in this order come START p, CELL c value, INIT c value, IN p value, OUT p value, MAY p, then ROW p A value Q value X digits V digits with AT c value and in version 2 LINK c k behind it, and END; a value is ANY, RANGE n m or WORDS w ..; p and c have 4 octal digits, w has 6, n and m are decimal, -131072 to 131071; c is erasable, IN and OUT name registers; a comment has # in column 1",
+        "F:7: BadLine: in capitals and in this order come START p, CELL c value, INIT c value, IN p value, OUT p value, MAY p, then ROW p A value Q value X digits V digits with AT c value and in version 2 LINK c k after it, and END last; a value is ANY, RANGE n m or WORDS w .. with 1 to 16 w that ascend; the digits ascend without blanks; p and c have 4 octal digits, w has 6, n and m are decimal, -131072 to 131071, k -262143 to 262143; c is erasable, IN and OUT name registers; a comment has # in column 1; a line has at most 512 bytes",
     ),
     (
         "CERTIFICATE LINE 8 ERROR 2 Version\n",
@@ -168,7 +168,7 @@ const TEXT: [Row; 5] = [
     ),
     (
         "SCRIPT LINE 7 ERROR 1 BadLine\n",
-        "F:7: BadLine: START p, CELL c w and PORT p w come first, then STEP n, PULSE, SET p w, KEY k .., FEED, CYCLE n, SHOW REG, SHOW CELL c, SHOW OUT p and SHOW DEDA; p and c have 4 octal digits, w has 6, n is decimal; the c of CELL is 0000 to 3777; a comment has # in column 1",
+        "F:7: BadLine: this is read as a script: START p once, CELL c w and PORT p w come first, then STEP n, PULSE, SET p w, KEY k .., FEED, CYCLE n, SHOW REG, SHOW CELL c, SHOW OUT p and SHOW DEDA; p and c have 4 octal digits, w has 6, n is decimal, of 1 to 9 digits, k is 0 to 9, +, -, CLR, ENTR, RO or HOLD; the c of CELL is 0000 to 3777; a comment has # in column 1",
     ),
     (
         "SCRIPT LINE 8 ERROR 2 NoPort\n",
@@ -251,7 +251,7 @@ fn times_and_scales_2_lines_say_what_is_wanted(rt: HostRuntime) {
 const EDITS: [Row; 7] = [
     (
         "EDITS LINE 7 ERROR 1 BadLine\n",
-        "F:7: BadLine: a line is WORD p w, CELL c value or ROW r p A .. (the row's number, then its location), with its AT and LINK lines behind it, and END is last; CELL, AT and LINK name erasable cells",
+        "F:7: BadLine: a line is WORD p w, CELL c value or ROW r p A .. (the row's number, then its location), with its AT and LINK lines after it, and END is last; p has 4 octal digits, w has 6; CELL, AT and LINK name erasable cells",
     ),
     (
         "EDITS LINE 8 ERROR 2 Version\n",
@@ -288,7 +288,7 @@ fn edits_lines_say_what_is_wanted(rt: HostRuntime) {
 const MACHINE: [Row; 5] = [
     (
         "MACHINE ERROR 1 NotToml\n",
-        "F: NotToml: a machine file is one TOML document in UTF-8; an empty one gives the standard machine",
+        "F: NotToml: a machine file is one TOML document in UTF-8, with texts in quotes and numbers as 1025 or 0o2001; an empty one gives the standard machine",
     ),
     (
         "MACHINE ERROR 2 MissingKey codes.ADD\n",
@@ -296,7 +296,7 @@ const MACHINE: [Row; 5] = [
     ),
     (
         "MACHINE ERROR 3 BadValue input.3\n",
-        "F: BadValue input.3: codes are even, 0 to 62, times 1 to 1000, addresses 0 to 4095; input and output are at most 32 tables each",
+        "F: BadValue input.3: codes are even, 0 to 62, times 1 to 1000, addresses 0 to 4095, all without quotes; once is true or false; input and output are at most 32 tables each",
     ),
     (
         "MACHINE ERROR 4 SameCode ADD SUB\n",
@@ -362,7 +362,7 @@ const REFUSAL_2: [Row; 5] = [
     ),
     (
         "REFUSED 10 NotCovered ROW 4 WORD 400017 X 0 V 0 NEXT 0017\n",
-        "C: NotCovered ROW 4 WORD 400017 X 0 V 0 NEXT 0017: a row at NEXT has to hold all that this order leaves: in A, Q, X, V and the cells of its AT lines, and its LINK; bin/ags-explain shows the rows there (docs/CHECKER.md, The verdict)",
+        "C: NotCovered ROW 4 WORD 400017 X 0 V 0 NEXT 0017: a row at NEXT has to hold all that this order leaves, where X and V here are from before it: in A, Q, X, V and the cells of its AT lines, and its LINK; bin/ags-explain tells what is left, of a certificate with its edits made (docs/CHECKER.md, The verdict)",
     ),
 ];
 
@@ -420,7 +420,7 @@ const OUTSIDE: [Row; 4] = [
     ),
     (
         "OUTSIDE IN 2001 001751\n",
-        "F: OUTSIDE IN 2001 001751: a word that is put into an input register is one of its IN line: put another, or widen that",
+        "F: OUTSIDE IN 2001 001751: it is the script's first word, put by SET, FEED or CYCLE, that isn't one of its register's IN line: put another, or widen that; bin/ags-explain -g tells its line",
     ),
 ];
 
@@ -433,7 +433,7 @@ fn outside_lines_say_what_is_wanted(rt: HostRuntime) {
 const ORDER: [Row; 4] = [
     (
         "OVER ROW 3 WORD 224005 X 0 V 0 NEXT ---- NEEDS 10 BOUND 9\n",
-        "F: OVER ROW 3 WORD 224005 X 0 V 0 NEXT ---- NEEDS 10 BOUND 9: a row needs its order's time and, but at DLY, the least bound of a row that covers what is next; a row without a TIME line has 20,000",
+        "F: OVER ROW 3 WORD 224005 X 0 V 0 NEXT ---- NEEDS 10 BOUND 9: a row needs its order's time and, but at DLY, the least bound of a row that covers what is next; a row without a TIME line has 20,000; rows of a subroutine may be written once for each caller",
     ),
     (
         "STARTMIXED\n",
@@ -445,7 +445,7 @@ const ORDER: [Row; 4] = [
     ),
     (
         "NOTHELD ROW 3 WORD 224005 X 0 V 0 NEXT 4006\n",
-        "F: NOTHELD ROW 3 WORD 224005 X 0 V 0 NEXT 4006: a row at NEXT that covers what this order leaves has to have its tags or ANY: mend the tags there, or of this row; a cell without a CELL line is raw",
+        "F: NOTHELD ROW 3 WORD 224005 X 0 V 0 NEXT 4006: a row at NEXT that covers what this order leaves has to have its tags or ANY: mend the tags there, or of this row; docs/SCALES.md has what each order leaves; a cell without a CELL line is raw",
     ),
 ];
 
@@ -496,7 +496,7 @@ const BENCH: [Row; 8] = [
     ),
     (
         "NODEVICE LINE 12 DEVICE 4\n",
-        "F:12: NODEVICE LINE 12 DEVICE 4: FEED and DETACH name a device that is there, from 1 on; behind a DETACH the numbers close up",
+        "F:12: NODEVICE LINE 12 DEVICE 4: FEED and DETACH name a device that is there, from 1 on; after a DETACH the numbers close up",
     ),
     (
         "NOFEED LINE 2 DEVICE 3\n",
