@@ -71,7 +71,7 @@ announce() {
   if [ "$at_once" -lt 1 ]; then at_once=1; fi
   if [ "$at_once" -lt "$processors" ]; then processors=$at_once; fi
   read -r crates minutes < <(estimate "$processors") || return
-  say "the program is proved and built first, which may take about $(counted "$minutes" minute) on $(counted "$processors" processor)"
+  say "the program is proved and built first, which may take about $(counted "$minutes" minute) on $(counted "$processors" processor), and twice that where the machine is slow or busy"
   if [ -x "$top/bin/$name-unproved" ]; then
     say "to look at it at once, before any proof, call bin/$name-unproved with the same arguments"
   fi

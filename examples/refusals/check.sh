@@ -92,13 +92,27 @@ refuses 10-NotCovered 'REFUSED 10 NotCovered ROW 3 WORD 464004 X 0 V 0 NEXT 4004
   'row 3:' '  10-NotCovered.cert:7: ROW 4002 A RANGE -10 0 Q ANY X 0 V 0' \
   'card at 4002:' '  0000007 4002 464004         TMI UP' \
   'rows at 4004:' '  10-NotCovered.cert:9: ROW 4004 A ANY Q ANY X 0 V 0' \
-  '  10-NotCovered.cert:10: AT 0020 RANGE 0 9'
+  '  10-NotCovered.cert:10: AT 0020 RANGE 0 9' \
+  '  A: from -10 to -1' '  Q: any word' '  X: 0' '  V: 0' \
+  '  cell 0020: from 0 to 10 (row 3 has no AT or LINK line of it)' 'row 5 is too narrow for that in: AT 0020'
 
 refuses 10-NotCovered-norow 'REFUSED 10 NotCovered ROW 2 WORD 244010 X 0 V 0 NEXT 4002' \
   'row 2:' '  10-NotCovered-norow.cert:4: ROW 4001 A RANGE 0 10 Q ANY X 0 V 0' \
   '  10-NotCovered-norow.cert:5: LINK 0020 0' \
   'card at 4001:' '  0000006 4001 244010         SUB MAX' \
-  'rows at 4002:' '  none: no row stands there'
+  'rows at 4002:' '  none: no row stands there' 'a row of just that:' '  ROW 4002 A RANGE -10 0 Q ANY X 0 V 0'
+
+# says WANTED WORD..: what bin/ags-explain prints where it is asked for a row, or for the line of a word that isn't declared
+says() {
+  local wanted=$1 told
+  shift
+  told=$(AGS=$program ../../bin/ags-explain "$@" 2>&1)
+  [ "$told" = "$wanted" ] || tell "ags-explain $*: it says $told"
+}
+
+says '  08-CellRange.cert:6: ROW 4001 A RANGE -126 125 Q ANY X 0 V 0' -r 2 08-CellRange.cert
+says 'OUTSIDE IN 2001 001751
+  ../outside.script:2: SET 2001 001751' -g ../deck.lem ../outside.script ../deck.cert
 
 for certificate in *.cert; do
   [[ $tried == *" ${certificate%.cert} "* ]] || tell "$certificate isn't tried"
