@@ -31,7 +31,7 @@ source = record {
       ∷ record { kind = codes "UnknownOperation"; wanted = codes "an operation, after column 1, is one of the 27 orders, ORG, EQU, SYN, BSS, BES, DEC, OCT or END, in capitals; a comment has * in column 1" }
       ∷ record { kind = codes "MissingOperand"; wanted = codes "every operation but ABS, COM and END has an operand after a blank, with no blank in it" }
       ∷ record { kind = codes "ExtraOperand"; wanted = codes "the operand of ORG, EQU, SYN, BSS and BES is one expression, without a comma" }
-      ∷ record { kind = codes "BadExpression"; wanted = codes "an operand is terms joined by + or -: /octal or decimal, 6 digits at most, *, a symbol; an order may end in ,1" }
+      ∷ record { kind = codes "BadExpression"; wanted = codes "an operand is terms joined by + or -: /octal or decimal, 6 digits at most, *, or a symbol of at most 6 capitals and digits; an order may end in ,1" }
       ∷ record { kind = codes "BadDecimal"; wanted = codes "a number of DEC is as -1.5E2B10: 1 to 10 digits, E and B or none, net power of ten -12 to 12, scale -30 to 60; no blank stands after a comma" }
       ∷ record { kind = codes "BadOctal"; wanted = codes "each number of OCT is an optional sign and 1 to 6 octal digits, with a comma between each two" }
       ∷ record { kind = codes "SymbolTwice"; wanted = codes "a symbol stands in the symbol field of one card alone" }
@@ -90,7 +90,7 @@ abbrev pub script : Hints
 script = record {
   kinds =
       record { kind = codes "BadLine"; wanted = codes "this is read as a script: START p once, CELL c w and PORT p w come first, then STEP n, PULSE, SET p w, KEY k .., FEED, CYCLE n, SHOW REG, SHOW CELL c, SHOW OUT p and SHOW DEDA; p and c have 4 octal digits, w has 6, n is decimal, of 1 to 9 digits, k is 0 to 9, +, -, CLR, ENTR, RO or HOLD; the c of CELL is 0000 to 3777; a comment has # in column 1" }
-      ∷ record { kind = codes "NoPort"; wanted = codes "PORT and SET name an input register of the machine, SHOW OUT an output one, and FEED needs the panel's" }
+      ∷ record { kind = codes "NoPort"; wanted = codes "PORT and SET name an input register of the machine, SHOW OUT an output one, and FEED needs the panel's; docs/MACHINE.md, Registers, has their addresses" }
       ∷ record { kind = codes "TooManySteps"; wanted = codes "the counts of all STEP lines, and 20,000 times those of all CYCLE lines, come to at most 100,000,000" }
       ∷ [];
   otherwise = codes "docs/SCRIPT.md, Faults, has the kinds";
@@ -101,7 +101,7 @@ abbrev pub bench_script : Hints
 bench_script = record {
   kinds =
       record { kind = codes "BadLine"; wanted = codes "a line is STEP n, PULSE, CYCLE n, FEED i, DETACH i, SHOW REG, SHOW CELL c or SHOW OUT p, and no other" }
-      ∷ record { kind = codes "NoPort"; wanted = codes "SHOW OUT names an output register of the machine" }
+      ∷ record { kind = codes "NoPort"; wanted = codes "SHOW OUT names an output register of the machine; docs/MACHINE.md, Registers, has their addresses" }
       ∷ record { kind = codes "TooManySteps"; wanted = codes "the counts of all STEP lines, and 20,000 times those of all CYCLE lines, come to at most 100,000,000" }
       ∷ [];
   otherwise = codes "docs/BENCH.md, Scripts, has the kinds";
@@ -175,13 +175,13 @@ items =
     record { kind = codes "InitRange"; wanted = codes "a cell begins as a word of its CELL line: widen that, mend the card, or write INIT where no card has a word there" }
     ∷ record { kind = codes "StartUncovered"; wanted = codes "a row at the location of START, or at 4000 without it, has to hold 0 in A, Q, X and V, and the first word of each cell of its AT lines" }
     ∷ record { kind = codes "CodeUnknown"; wanted = codes "at an erasable cell at most 16 words may be run: name them by WORDS in an AT line of the row, or in CELL" }
-    ∷ record { kind = codes "NoOrder"; wanted = codes "each word that is run has to be an order: let no way lead to another word, or state fewer words of the cell" }
+    ∷ record { kind = codes "NoOrder"; wanted = codes "each word that is run has to be an order: let no way lead to another word, or state by AT which words a cell has that is run, in this row and in those that lead to it" }
     ∷ record { kind = codes "BadPort"; wanted = codes "INP names an input register of the machine, and OUT an output register; /2001 is octal, and 2001 decimal" }
     ∷ record { kind = codes "FixedWrite"; wanted = codes "a store goes to an erasable cell, 0000 to 3777: mend the address, or allow fewer words of a cell that is run" }
     ∷ record { kind = codes "MayOverflow"; wanted = codes "with these words the order overflows: narrow A in the row, or the cell by AT or CELL, or name the place by MAY" }
     ∷ record { kind = codes "CellRange"; wanted = codes "what is stored has to lie within the CELL line: widen that, or narrow A in the row (Q for STQ)" }
     ∷ record { kind = codes "OutputRange"; wanted = codes "what is given has to lie within the OUT line of the register: widen that, or narrow A in the row" }
-    ∷ record { kind = codes "NotCovered"; wanted = codes "a row at NEXT has to hold all that this order leaves, where X and V here are from before it: in A, Q, X, V and the cells of its AT lines, and its LINK; bin/ags-explain tells what is left, of a certificate with its edits made" }
+    ∷ record { kind = codes "NotCovered"; wanted = codes "a row at NEXT has to hold all that this order leaves, where X and V here are from before it: in A, Q, X, V and the cells of its AT lines, and its LINK; bin/ags-explain tells what is left" }
     ∷ []
 
 -- of an item of the verdict that fails

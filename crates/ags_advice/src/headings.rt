@@ -183,7 +183,7 @@ impl Heading {
                 "a row that holds the start has ANY or RAW for A and for Q, or no ROW line in the text of scales"
             }
             Heading::Mixed => {
-                "two tags that meet have to be one scale, or both raw: mend the declaration or the ROW line, or shift the word first"
+                "two tags that meet have to be one scale, or both raw: mend the declaration or the ROW line, which bin/ags-explain -r shows, or shift the word first"
             }
             Heading::NotHeld => {
                 "a row at NEXT that covers what this order leaves has to have its tags or ANY: mend the tags there, or of this row; docs/SCALES.md has what each order leaves; a cell without a CELL line is raw"

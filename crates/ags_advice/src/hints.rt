@@ -25,7 +25,7 @@ pub(crate) fn source(kind: &str) -> &'static str
             "the operand of ORG, EQU, SYN, BSS and BES is one expression, without a comma"
         }
         "BadExpression" => {
-            "an operand is terms joined by + or -: /octal or decimal, 6 digits at most, *, a symbol; an order may end in ,1"
+            "an operand is terms joined by + or -: /octal or decimal, 6 digits at most, *, or a symbol of at most 6 capitals and digits; an order may end in ,1"
         }
         "BadDecimal" => {
             "a number of DEC is as -1.5E2B10: 1 to 10 digits, E and B or none, net power of ten -12 to 12, scale -30 to 60; no blank stands after a comma"
@@ -122,7 +122,7 @@ pub(crate) fn script(kind: &str) -> &'static str
             "this is read as a script: START p once, CELL c w and PORT p w come first, then STEP n, PULSE, SET p w, KEY k .., FEED, CYCLE n, SHOW REG, SHOW CELL c, SHOW OUT p and SHOW DEDA; p and c have 4 octal digits, w has 6, n is decimal, of 1 to 9 digits, k is 0 to 9, +, -, CLR, ENTR, RO or HOLD; the c of CELL is 0000 to 3777; a comment has # in column 1"
         }
         "NoPort" => {
-            "PORT and SET name an input register of the machine, SHOW OUT an output one, and FEED needs the panel's"
+            "PORT and SET name an input register of the machine, SHOW OUT an output one, and FEED needs the panel's; docs/MACHINE.md, Registers, has their addresses"
         }
         "TooManySteps" => {
             "the counts of all STEP lines, and 20,000 times those of all CYCLE lines, come to at most 100,000,000"
@@ -139,7 +139,8 @@ pub(crate) fn bench_script(kind: &str) -> &'static str
         "BadLine" => {
             "a line is STEP n, PULSE, CYCLE n, FEED i, DETACH i, SHOW REG, SHOW CELL c or SHOW OUT p, and no other"
         }
-        "NoPort" => "SHOW OUT names an output register of the machine",
+        "NoPort" =>
+            "SHOW OUT names an output register of the machine; docs/MACHINE.md, Registers, has their addresses",
         "TooManySteps" => {
             "the counts of all STEP lines, and 20,000 times those of all CYCLE lines, come to at most 100,000,000"
         }
@@ -247,7 +248,7 @@ fn item_or(otherwise: &'static str, kind: &str) -> &'static str
             "at an erasable cell at most 16 words may be run: name them by WORDS in an AT line of the row, or in CELL"
         }
         "NoOrder" => {
-            "each word that is run has to be an order: let no way lead to another word, or state fewer words of the cell"
+            "each word that is run has to be an order: let no way lead to another word, or state by AT which words a cell has that is run, in this row and in those that lead to it"
         }
         "BadPort" => {
             "INP names an input register of the machine, and OUT an output register; /2001 is octal, and 2001 decimal"
@@ -265,7 +266,7 @@ fn item_or(otherwise: &'static str, kind: &str) -> &'static str
             "what is given has to lie within the OUT line of the register: widen that, or narrow A in the row"
         }
         "NotCovered" => {
-            "a row at NEXT has to hold all that this order leaves, where X and V here are from before it: in A, Q, X, V and the cells of its AT lines, and its LINK; bin/ags-explain tells what is left, of a certificate with its edits made"
+            "a row at NEXT has to hold all that this order leaves, where X and V here are from before it: in A, Q, X, V and the cells of its AT lines, and its LINK; bin/ags-explain tells what is left"
         }
         _ => otherwise,
     }

@@ -44,7 +44,7 @@ const SOURCE_1: [Row; 8] = [
     ),
     (
         "SOURCE CARD 0000035 ERROR 7 BadExpression\n",
-        "F:35: BadExpression: an operand is terms joined by + or -: /octal or decimal, 6 digits at most, *, a symbol; an order may end in ,1",
+        "F:35: BadExpression: an operand is terms joined by + or -: /octal or decimal, 6 digits at most, *, or a symbol of at most 6 capitals and digits; an order may end in ,1",
     ),
     (
         "SOURCE CARD 0000036 ERROR 8 BadDecimal\n",
@@ -172,7 +172,7 @@ const TEXT: [Row; 5] = [
     ),
     (
         "SCRIPT LINE 8 ERROR 2 NoPort\n",
-        "F:8: NoPort: PORT and SET name an input register of the machine, SHOW OUT an output one, and FEED needs the panel's",
+        "F:8: NoPort: PORT and SET name an input register of the machine, SHOW OUT an output one, and FEED needs the panel's; docs/MACHINE.md, Registers, has their addresses",
     ),
     (
         "SCRIPT LINE 9 ERROR 3 TooManySteps\n",
@@ -329,7 +329,7 @@ const REFUSAL_1: [Row; 5] = [
     ),
     (
         "REFUSED 4 NoOrder ROW 2 WORD 000000\n",
-        "C: NoOrder ROW 2 WORD 000000: each word that is run has to be an order: let no way lead to another word, or state fewer words of the cell (docs/CHECKER.md, The verdict)",
+        "C: NoOrder ROW 2 WORD 000000: each word that is run has to be an order: let no way lead to another word, or state by AT which words a cell has that is run, in this row and in those that lead to it (docs/CHECKER.md, The verdict)",
     ),
     (
         "REFUSED 5 BadPort ROW 1 WORD 642003\n",
@@ -362,7 +362,7 @@ const REFUSAL_2: [Row; 5] = [
     ),
     (
         "REFUSED 10 NotCovered ROW 4 WORD 400017 X 0 V 0 NEXT 0017\n",
-        "C: NotCovered ROW 4 WORD 400017 X 0 V 0 NEXT 0017: a row at NEXT has to hold all that this order leaves, where X and V here are from before it: in A, Q, X, V and the cells of its AT lines, and its LINK; bin/ags-explain tells what is left, of a certificate with its edits made (docs/CHECKER.md, The verdict)",
+        "C: NotCovered ROW 4 WORD 400017 X 0 V 0 NEXT 0017: a row at NEXT has to hold all that this order leaves, where X and V here are from before it: in A, Q, X, V and the cells of its AT lines, and its LINK; bin/ags-explain tells what is left (docs/CHECKER.md, The verdict)",
     ),
 ];
 
@@ -441,7 +441,7 @@ const ORDER: [Row; 4] = [
     ),
     (
         "MIXED ROW 3 WORD 224005 X 0 V 0 LEFT 6 RIGHT 7\n",
-        "F: MIXED ROW 3 WORD 224005 X 0 V 0 LEFT 6 RIGHT 7: two tags that meet have to be one scale, or both raw: mend the declaration or the ROW line, or shift the word first",
+        "F: MIXED ROW 3 WORD 224005 X 0 V 0 LEFT 6 RIGHT 7: two tags that meet have to be one scale, or both raw: mend the declaration or the ROW line, which bin/ags-explain -r shows, or shift the word first",
     ),
     (
         "NOTHELD ROW 3 WORD 224005 X 0 V 0 NEXT 4006\n",
@@ -476,7 +476,7 @@ const BENCH: [Row; 8] = [
     ),
     (
         "SCRIPT LINE 8 ERROR 2 NoPort\n",
-        "F:8: NoPort: SHOW OUT names an output register of the machine",
+        "F:8: NoPort: SHOW OUT names an output register of the machine; docs/MACHINE.md, Registers, has their addresses",
     ),
     (
         "SCRIPT LINE 9 ERROR 3 TooManySteps\n",
