@@ -21,7 +21,7 @@ use Rattle.ags_certtext.specs.declared.cert_error.CertKind.TheVariants.{BadLine}
 use Rattle.ags_certtext.specs.declared.statements.RowLine.{RowLine}
 use Rattle.ags_certtext.specs.declared.statements.Statement.{Statement}
 use Rattle.ags_certtext.specs.declared.statements.Statement.TheVariants.{Entry as EntryOf, Linked}
-use Rattle.ags_certtext.specs.declared.statements.Table.TheVariants.{At}
+use Rattle.ags_certtext.specs.declared.kinds.Table.TheVariants.{At}
 use Rattle.ags_certtext.specs.declared.kinds.Kind.TheVariants as kind
 use Rattle.ags_frame.specs.Reading.{Opening, OtherOpening, Stated, Skipped, Malformed, Ended, statement_of}
 use Rattle.ags_certtext.specs.Reading.{Reading, IsFirstReading, IsReading}

@@ -13,8 +13,8 @@ use Rattle.ags_certtext.specs.declared.statements.Entry.{Entry}
 use Rattle.ags_certtext.specs.declared.statements.RowLine.{RowLine}
 use Rattle.ags_certtext.specs.declared.statements.Statement.{Statement}
 use Rattle.ags_certtext.specs.declared.statements.Statement.TheVariants.{Start, Entry as EntryOf, May, Row, Linked, End}
-use Rattle.ags_certtext.specs.declared.statements.Table.{Table}
-use Rattle.ags_certtext.specs.declared.statements.Table.TheVariants.{Cell, Init, In, Out, At}
+use Rattle.ags_certtext.specs.declared.kinds.Table.{Table}
+use Rattle.ags_certtext.specs.declared.kinds.Table.TheVariants.{Cell, In, Out, At}
 use Rattle.ags_certtext.specs.Fault.{entry_fault, fault_after, fault_if, fault_in, is_empty, is_fixed, is_full_with, is_of_version, lacks_word, leaves_limit, may_stand, statement_fault}
 use Rattle.ags_certtext.specs.Kind.{follows, is_kind, is_last, is_second_start, kinds_before, last_kind, stands_in_order}
 use Rattle.ags_certtext.specs.Statement.{IsStatement, entries, entries_before, has_address, row_links, value_at}
@@ -23,6 +23,7 @@ use Rattle.ags_certread.specs.Before.{Gathered}
 use Rattle.ags_certread.specs.Sound.{kinds_come}
 use Rattle.ags_certread.specs.Gathering.{Gathering, is_stated_in, row_count, stated, IsPlaced}
 use Rattle.ags_certread.proofs.CheckLemmas.{neither}
+use Rattle.ags_certread.proofs.EntryLemmas.{stated_before}
 
 pub clear : (found : Bool) (kind : CertKind) (later : Option CertKind) → fault_if found kind later ≡ None → (found ≡ false) × (later ≡ None)
 clear true kind later none = let clash : ◌≡◌ {A = Option CertKind} (Some kind) None = none in absurd cc
@@ -125,23 +126,11 @@ EndsRow (EntryOf At entry) = ⊥
 EndsRow (Linked link) = ⊥
 EndsRow _ = Unit {0}
 
--- what is kept has an entry at the address where the statements before have one
-pub stated_before : (before : List Statement) (g : Gathering) → Gathered before g → (table : Table) (address : ℕ)
-    → is_stated_in g table address ≡ has_address (entries_before table before) address
-stated_before before g is Cell address = is.tables.cells.has address
-stated_before before g is Init address = is.tables.init.has address
-stated_before before g is In address = is.tables.inputs.has address
-stated_before before g is Out address = is.tables.outputs.has address
-stated_before before g is At address = is.rows.cells.has address
-
--- and has room where there is some after them
+-- what is kept has room for an entry where there is some after the statements before
 pub full_before : (before : List Statement) (g : Gathering) → Gathered before g → (table : Table)
     → is_full_with (length g.row_cells) table ≡ is_full_with (length (entries_before table before)) table
-full_before before g is Cell = refl
-full_before before g is Init = refl
-full_before before g is In = refl
-full_before before g is Out = refl
 full_before before g is At = rw is.rows.cells.count refl
+full_before before g is _ = refl
 
 -- and has a link where the row before has one
 pub linked_before : (before : List Statement) (g : Gathering) → Gathered before g → is_some g.row_link ≡ nat_le 1 (length (row_links before))
@@ -187,7 +176,7 @@ module _ (ports : Registers) (before : List Statement) (g : Gathering) (is : Gat
         place = (ports, its.place);
         once = stated_before before g is table entry.address ∙ its.once;
         some = its.some;
-        within = rw (is.tables.cells.at entry.address) its.within;
+        within = rw (is.tables.entered.cells.at entry.address) its.within;
         room = full_before before g is table ∙ its.room;
       }
 
@@ -226,11 +215,10 @@ after_none ports version before statement none = (clear (not (is_of_version vers
 
 pub placed : (g : Gathering) (statement : Statement) → IsFine g statement → IsStatement statement → IsPlaced g.counts statement
 placed g (Start location) fine is = tt
-placed g (EntryOf Cell entry) fine is = erasable entry.address fine.part.place.1
-placed g (EntryOf Init entry) fine is = erasable entry.address fine.part.place.1
 placed g (EntryOf In entry) fine is = is
 placed g (EntryOf Out entry) fine is = is
 placed g (EntryOf At entry) fine is = tt
+placed g (EntryOf of_cells entry) fine is = erasable entry.address fine.part.place.1
 placed g (May location) fine is = is
 placed g (Row row) fine is = (is.location, fine.part.room)
 placed g (Linked link) fine is = tt

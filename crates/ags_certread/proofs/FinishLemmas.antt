@@ -13,20 +13,18 @@ use Rattle.ags_row.specs.Limit.{Limiting, cell_limit, input_limit, output_limit}
 use Rattle.ags_row.specs.declared.ats.At.{At as Cell_at}
 use Rattle.ags_row.specs.declared.rows.Row.{Row as Row_of}
 use Rattle.ags_certtype.specs.Cert.{Stated, IsCert, rows_at}
-use Rattle.ags_certtext.specs.declared.statements.Entry.{Entry}
 use Rattle.ags_certtext.specs.declared.statements.RowLine.{RowLine}
 use Rattle.ags_certtext.specs.declared.statements.Statement.{Statement}
 use Rattle.ags_certtext.specs.declared.kinds.Kind.TheVariants as kind
-use Rattle.ags_certtext.specs.declared.statements.Table.{Table}
-use Rattle.ags_certtext.specs.declared.statements.Table.TheVariants.{Cell, Init, In, Out}
-use Rattle.ags_certtext.specs.Statement.{entry_in, may_place, entries, row_entries, row_links, value_at, is_within}
+use Rattle.ags_certtext.specs.Statement.{may_place, row_entries, row_links, is_within}
 use Rattle.ags_certtext.specs.Fault.{is_outside}
 use Rattle.ags_certtext.specs.Text.{IsLimit, RowOfLines, rows_of, AreRowsOf, IsWhatIsStated}
 use Rattle.ags_certread.specs.Gathering.{Gathering, AreLimitsOf, IsCertOfGathering, IsFinished, stated}
 use Rattle.ags_certread.proofs.CheckLemmas.{within_is}
-use Rattle.ags_certread.proofs.TableLemmas.{apart, any_reversed, chosen_reversed, value_reversed}
+use Rattle.ags_certread.proofs.TableLemmas.{apart, any_reversed, chosen_reversed}
+use Rattle.ags_certread.proofs.EntryLemmas.{entered_turned}
 use Rattle.ags_certread.proofs.RowLemmas.{rows_are, rows_of_reversed, with_open}
-use Rattle.ags_certread.specs.Before.{Gathered, IsTable, closed_rows, open_line}
+use Rattle.ags_certread.specs.Before.{Gathered, closed_rows, open_line}
 use Rattle.ags_certread.specs.Sound.{IsSound, open_at}
 
 -- ---- cells that ascend
@@ -139,14 +137,8 @@ finished g sound end = record {
 
 -- ---- what the statements say, told from the first
 
-turned : (of_table : Table) (before : List Statement) (table : List (Option Value)) → IsTable (entries of_table before) table
-    → (address : ℕ) → stated table address ≡ value_at (entries of_table (reverse before)) address
-turned of_table before table is address =
-    is.at address ∙ sym (value_reversed (entries of_table before) address is.distinct) ∙ ap (λ (l : List Entry). value_at l address) (sym (chosen_reversed (entry_in of_table) before))
-
-limit_turned : (of_table : Table) (before : List Statement) (table : List (Option Value)) → IsTable (entries of_table before) table
-    → (address : ℕ) (limit : Value) → IsLimit (stated table address) limit → IsLimit (value_at (entries of_table (reverse before)) address) limit
-limit_turned of_table before table is address limit = subst (λ (v : Option Value). IsLimit v limit) (turned of_table before table is address)
+limit_turned : {stated_value entered : Option Value} (limit : Value) → stated_value ≡ entered → IsLimit stated_value limit → IsLimit entered limit
+limit_turned limit same = subst (λ (v : Option Value). IsLimit v limit) same
 
 place_turned : (before : List Statement) (location : ℕ) → list_any (λ (place : ℕ). place == location) (filter_map may_place before)
     ≡ list_any (λ (place : ℕ). place == location) (filter_map may_place (reverse before))
@@ -161,18 +153,18 @@ all_rows before none =
 
 pub what_is_stated : (before : List Statement) (g : Gathering) (cert : Stated) → Gathered before g → IsSound g → g.last ≡ Some kind.End → IsCertOfGathering g cert
     → IsWhatIsStated (reverse before) cert
-what_is_stated before g cert gathered sound end is = record {
+what_is_stated before g cert gathered sound end is = let turned = entered_turned before g gathered.tables.entered in record {
   is_cert = is.is_cert;
   start = is.start ∙ gathered.tables.start;
   limits = record {
     tables = is.limits.tables;
-    cells = λ address below. limit_turned Cell before g.cells gathered.tables.cells address (cell_limit cert.limits address) (is.limits.cells address below);
-    inputs = λ address below. limit_turned In before g.inputs gathered.tables.inputs address (input_limit cert.limits address) (is.limits.inputs address below);
-    outputs = λ address below. limit_turned Out before g.outputs gathered.tables.outputs address (output_limit cert.limits address) (is.limits.outputs address below);
+    cells = λ address below. limit_turned (cell_limit cert.limits address) (turned.cells address) (is.limits.cells address below);
+    inputs = λ address below. limit_turned (input_limit cert.limits address) (turned.inputs address) (is.limits.inputs address below);
+    outputs = λ address below. limit_turned (output_limit cert.limits address) (turned.outputs address) (is.limits.outputs address below);
     places = λ location below. is.limits.places location below ∙ gathered.tables.places location ∙ place_turned before location;
     every = is.limits.every;
   };
-  init = λ address below. ap (λ (l : List (Option Value)). get_or l address None) is.init ∙ turned Init before g.init gathered.tables.init address;
+  init = λ address below. ap (λ (l : List (Option Value)). get_or l address None) is.init ∙ turned.init address;
   rows = subst (λ (l : List RowOfLines). AreRowsOf l cert.rows) (all_rows before (sym gathered.rows.line ∙ sound.early.ended end))
       (subst (λ (rows : List (Row_of Value)). AreRowsOf (reverse (closed_rows before)) rows) (sym is.rows) gathered.rows.closed);
 }

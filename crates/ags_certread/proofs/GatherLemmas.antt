@@ -13,14 +13,15 @@ use Rattle.ags_certtext.specs.declared.statements.Entry.{Entry}
 use Rattle.ags_certtext.specs.declared.statements.RowLine.{RowLine}
 use Rattle.ags_certtext.specs.declared.statements.Statement.{Statement}
 use Rattle.ags_certtext.specs.declared.statements.Statement.TheVariants.{Start, Entry as EntryOf, May, Row, Linked}
-use Rattle.ags_certtext.specs.declared.statements.Table.TheVariants.{Cell, Init, In, Out, At}
+use Rattle.ags_certtext.specs.declared.kinds.Table.TheVariants.{Cell, At}
 use Rattle.ags_certtext.specs.Fault.{rows_at}
 use Rattle.ags_certtext.specs.Kind.{is_last, last_kind}
-use Rattle.ags_certtext.specs.Statement.{may_place, row_line, entries, row_entries, row_links}
+use Rattle.ags_certtext.specs.Statement.{may_place, row_line, row_entries, row_links}
 use Rattle.ags_certtext.specs.Text.{IsLinkOf, start_of}
-use Rattle.ags_certread.specs.Before.{AreCounted, AreGatheredRows, AreNamed, AreTables, Gathered, IsTable}
-use Rattle.ags_certread.specs.Gathering.{Gathering, Closes, IsPlaced, IsSized, nothing_stated, row_count, stated, with_statement}
-use Rattle.ags_certread.proofs.TableLemmas.{IsTable-none, IsTable-more, each_same, set_read, same_of}
+use Rattle.ags_certread.specs.Before.{AreCounted, AreEntered, AreGatheredRows, AreNamed, AreTables, Gathered}
+use Rattle.ags_certread.specs.Gathering.{Gathering, Closes, IsPlaced, IsSized, nothing_stated, row_count, with_statement}
+use Rattle.ags_certread.proofs.TableLemmas.{IsTable-none, each_same, set_read, same_of}
+use Rattle.ags_certread.proofs.EntryLemmas.{entry_entered}
 use Rattle.ags_certread.proofs.CellLemmas.{AreCells-none, AreCells-more}
 use Rattle.ags_certread.proofs.RowLemmas.{AreShutRows, shut_closed, shut_open, start_kept}
 use Rattle.ags_certread.proofs.FaultLemmas.{EndsRow, IsFine, last_row, none_last}
@@ -36,10 +37,7 @@ Gathered-none = record {
   tables = record {
     last = refl;
     start = refl;
-    cells = IsTable-none 2048;
-    init = IsTable-none 2048;
-    inputs = IsTable-none 4096;
-    outputs = IsTable-none 4096;
+    entered = record { cells = IsTable-none 2048; init = IsTable-none 2048; inputs = IsTable-none 4096; outputs = IsTable-none 4096 };
     places = λ location. each_same {E = Bool} 4096 false location;
     counts = λ location. each_same {E = ℕ} 4096 0 location;
   };
@@ -56,10 +54,7 @@ tables_kept : (before : List Statement) (g : Gathering) (rows : List (Row_of Val
 tables_kept before g rows line row_cells row_link are = record {
   last = are.last;
   start = are.start;
-  cells = are.cells;
-  init = are.init;
-  inputs = are.inputs;
-  outputs = are.outputs;
+  entered = record { cells = are.entered.cells; init = are.entered.init; inputs = are.entered.inputs; outputs = are.entered.outputs };
   places = are.places;
   counts = are.counts;
 }
@@ -90,11 +85,6 @@ none_before : (before : List Statement) → last_kind before ≡ None → before
 none_before [] is = refl
 none_before (statement ∷ before) is = absurd cc
 
--- an entry without a fault is added to its table
-entered : {found : List Entry} {table : List (Option Value)} {entry : Entry} {count : ℕ} → IsTable found table → length table ≡ count → entry.address < count
-    → is_some (stated table entry.address) ≡ false → is_some entry.value ≡ true → IsTable (entry ∷ found) (set table entry.address entry.value)
-entered {found} {table} {entry} is sized inside once some = IsTable-more found table entry is (rw sized inside) once some
-
 module _ (before : List Statement) (m : Gathering) (are : AreTables before m) (sized : IsSized m) where
   named : (location : ℕ) → location < length m.places → (other : ℕ) (b : Bool) → (location == other) ≡ b
       → get_or (set m.places location true) other false ≡ (b || list_any (λ (place : ℕ). place == other) (filter_map may_place before))
@@ -114,32 +104,14 @@ module _ (before : List Statement) (m : Gathering) (are : AreTables before m) (s
   start_more : (statement : Statement) → IsFine m statement → (with_statement m statement).start ≡ start_of (reverse (statement ∷ before))
   start_more (Start location) fine =
       let none = none_before before (sym are.last ∙ none_last m.last fine.order) in ap (λ (l : List Statement). start_of (reverse (Start location ∷ l))) (sym none)
-  start_more (EntryOf Cell entry) fine = are.start ∙ sym (start_kept before (EntryOf Cell entry) refl)
-  start_more (EntryOf Init entry) fine = are.start ∙ sym (start_kept before (EntryOf Init entry) refl)
-  start_more (EntryOf In entry) fine = are.start ∙ sym (start_kept before (EntryOf In entry) refl)
-  start_more (EntryOf Out entry) fine = are.start ∙ sym (start_kept before (EntryOf Out entry) refl)
   start_more (EntryOf At entry) fine = are.start ∙ sym (start_kept before (EntryOf At entry) refl)
   start_more statement fine = are.start ∙ sym (start_kept before statement refl)
 
-  cells_more : (statement : Statement) → IsFine m statement → IsPlaced m.counts statement
-      → IsTable (entries Cell (statement ∷ before)) (with_statement m statement).cells
-  cells_more (EntryOf Cell entry) fine inside = entered are.cells sized.cells inside fine.part.once fine.part.some
-  cells_more _ fine inside = are.cells
-
-  init_more : (statement : Statement) → IsFine m statement → IsPlaced m.counts statement
-      → IsTable (entries Init (statement ∷ before)) (with_statement m statement).init
-  init_more (EntryOf Init entry) fine inside = entered are.init sized.init inside fine.part.once fine.part.some
-  init_more _ fine inside = are.init
-
-  inputs_more : (statement : Statement) → IsFine m statement → IsPlaced m.counts statement
-      → IsTable (entries In (statement ∷ before)) (with_statement m statement).inputs
-  inputs_more (EntryOf In entry) fine inside = entered are.inputs sized.inputs inside fine.part.once fine.part.some
-  inputs_more _ fine inside = are.inputs
-
-  outputs_more : (statement : Statement) → IsFine m statement → IsPlaced m.counts statement
-      → IsTable (entries Out (statement ∷ before)) (with_statement m statement).outputs
-  outputs_more (EntryOf Out entry) fine inside = entered are.outputs sized.outputs inside fine.part.once fine.part.some
-  outputs_more _ fine inside = are.outputs
+  entered_more : (statement : Statement) → IsFine m statement → IsPlaced m.counts statement → AreEntered (statement ∷ before) (with_statement m statement)
+  entered_more (EntryOf table entry) fine inside =
+      let entered = entry_entered before m entry are.entered sized fine.part.some table inside fine.part.once in
+      record { cells = entered.cells; init = entered.init; inputs = entered.inputs; outputs = entered.outputs }
+  entered_more _ fine inside = record { cells = are.entered.cells; init = are.entered.init; inputs = are.entered.inputs; outputs = are.entered.outputs }
 
   places_more : (statement : Statement) → IsPlaced m.counts statement → AreNamed (statement ∷ before) (with_statement m statement).places
   places_more (May location) inside = λ other. named location (rw sized.places inside) other (location == other) refl
@@ -155,10 +127,7 @@ module _ (before : List Statement) (m : Gathering) (are : AreTables before m) (s
   tables_more statement fine inside = record {
     last = refl;
     start = start_more statement fine;
-    cells = cells_more statement fine inside;
-    init = init_more statement fine inside;
-    inputs = inputs_more statement fine inside;
-    outputs = outputs_more statement fine inside;
+    entered = entered_more statement fine inside;
     places = places_more statement inside;
     counts = counts_more statement inside;
   }
@@ -236,10 +205,7 @@ Gathered-opened before g version is = record {
   tables = record {
     last = is.tables.last;
     start = is.tables.start;
-    cells = is.tables.cells;
-    init = is.tables.init;
-    inputs = is.tables.inputs;
-    outputs = is.tables.outputs;
+    entered = record { cells = is.tables.entered.cells; init = is.tables.entered.init; inputs = is.tables.entered.inputs; outputs = is.tables.entered.outputs };
     places = is.tables.places;
     counts = is.tables.counts;
   };

@@ -3,6 +3,7 @@ pub mod TableLemmas
 pub mod CellLemmas
 pub mod BelowLemmas
 pub mod RowLemmas
+pub mod EntryLemmas
 pub mod FaultLemmas
 pub mod GatherLemmas
 pub mod SoundLemmas

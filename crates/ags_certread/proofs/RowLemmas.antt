@@ -10,7 +10,7 @@ use Rattle.ags_certtext.specs.declared.statements.Entry.{Entry}
 use Rattle.ags_certtext.specs.declared.statements.RowLine.{RowLine}
 use Rattle.ags_certtext.specs.declared.statements.Statement.{Statement}
 use Rattle.ags_certtext.specs.declared.statements.Statement.TheVariants.{Start, Entry as EntryOf, Row, Linked}
-use Rattle.ags_certtext.specs.declared.statements.Table.TheVariants.{At}
+use Rattle.ags_certtext.specs.declared.kinds.Table.TheVariants.{At}
 use Rattle.ags_certtext.specs.Statement.{row_entries, row_links, value_at}
 use Rattle.ags_certtext.specs.Text.{RowOfLines, rows_of, IsLinkOf, IsRowOfLines, AreRowsOf, start_of}
 use Rattle.ags_certread.specs.Before.{AreCells, AreGatheredRows, closed_rows, open_line, rows_back}

@@ -16,7 +16,7 @@ use Rattle.ags_certtext.specs.declared.statements.Entry.{Entry}
 use Rattle.ags_certtext.specs.declared.statements.RowLine.{RowLine}
 use Rattle.ags_certtext.specs.declared.statements.Statement.{Statement}
 use Rattle.ags_certtext.specs.declared.statements.Statement.TheVariants.{Start, Entry as EntryOf, May, Row, Linked, End}
-use Rattle.ags_certtext.specs.declared.statements.Table.TheVariants.{Cell, Init, In, Out, At}
+use Rattle.ags_certtext.specs.declared.kinds.Table.TheVariants.{Cell, Init, In, Out, At}
 use Rattle.ags_certtext.specs.declared.kinds.Kind.{Kind}
 use Rattle.ags_certtext.specs.declared.kinds.Kind.TheVariants as kind
 use Rattle.ags_certtext.specs.Spelling.{is_offset}
@@ -135,11 +135,8 @@ count_kept g line row is = let longer = length-append g.rows (row ∷ []) in rw 
 clear_kept : (g : Gathering) (line : RowLine) (row : Row_of Value) → g.line ≡ Some line → (statement : Statement) → EndsRow statement → IsClear g statement
     → IsClear (record g { rows = g.rows ++ row ∷ []; line = None; row_cells = []; row_link = None }) statement
 clear_kept g line row kept (Start location) ends is = tt
-clear_kept g line row kept (EntryOf Cell entry) ends is = record { place = is.place; once = is.once; some = is.some; within = is.within; room = refl }
-clear_kept g line row kept (EntryOf Init entry) ends is = record { place = is.place; once = is.once; some = is.some; within = is.within; room = refl }
-clear_kept g line row kept (EntryOf In entry) ends is = record { place = is.place; once = is.once; some = is.some; within = is.within; room = refl }
-clear_kept g line row kept (EntryOf Out entry) ends is = record { place = is.place; once = is.once; some = is.some; within = is.within; room = refl }
 clear_kept g line row kept (EntryOf At entry) ends is = absurd ends
+clear_kept g line row kept (EntryOf table entry) ends is = record { place = is.place; once = is.once; some = is.some; within = is.within; room = refl }
 clear_kept g line row kept (May location) ends is = tt
 clear_kept g line row kept (Linked link) ends is = absurd ends
 clear_kept g line row kept (Row next) ends is =

@@ -20,8 +20,8 @@ use Rattle.ags_certtext.specs.declared.cert_error.CertKind.TheVariants.{BadLine,
 use Rattle.ags_certtext.specs.declared.statements.Entry.{Entry}
 use Rattle.ags_certtext.specs.declared.statements.Statement.{Statement}
 use Rattle.ags_certtext.specs.declared.statements.Statement.TheVariants.{Entry as EntryOf}
-use Rattle.ags_certtext.specs.declared.statements.Table.{Table}
-use Rattle.ags_certtext.specs.declared.statements.Table.TheVariants.{In, Out}
+use Rattle.ags_certtext.specs.declared.kinds.Table.{Table}
+use Rattle.ags_certtext.specs.declared.kinds.Table.TheVariants.{In, Out}
 use Rattle.ags_certtext.specs.Statement.{entry_in, entries, value_at}
 use Rattle.ags_certtext.specs.Kind.{is_second_start, last_kind, stands_in_order}
 use Rattle.ags_certtext.specs.Fault.{fault_if, has_register, is_unmet, lacks_zero, reading_fault, statement_fault, fault_after}

@@ -6,8 +6,8 @@ use Rattle.ags_row.specs.declared.links.Link.{Link}
 use Rattle.ags_certtext.specs.declared.statements.Entry.{Entry}
 use Rattle.ags_certtext.specs.declared.statements.RowLine.{RowLine}
 use Rattle.ags_certtext.specs.declared.statements.Statement.{Statement}
-use Rattle.ags_certtext.specs.declared.statements.Statement.TheVariants.{Start, Entry as EntryOf, May, Row, Linked, End}
-use Rattle.ags_certtext.specs.declared.statements.Table.TheVariants.{Cell, Init, In, Out, At}
+use Rattle.ags_certtext.specs.declared.statements.Statement.TheVariants.{Entry as EntryOf, Linked}
+use Rattle.ags_certtext.specs.declared.kinds.Table.TheVariants.{At}
 use Rattle.ags_certtext.specs.Fault.{fault_after}
 use Rattle.ags_certtext.specs.Statement.{IsStatement}
 use Rattle.ags_certread.specs.Before.{Gathered, Stands}
@@ -96,16 +96,8 @@ version_before (Linked link) g m same = ap (λ (h : Gathering). h.version) same
 version_before statement g m closes = version_closed g m g.line closes
 
 version_added : (m : Gathering) (statement : Statement) → (with_statement m statement).version ≡ m.version
-version_added m (Start location) = refl
-version_added m (EntryOf Cell entry) = refl
-version_added m (EntryOf Init entry) = refl
-version_added m (EntryOf In entry) = refl
-version_added m (EntryOf Out entry) = refl
 version_added m (EntryOf At entry) = refl
-version_added m (May location) = refl
-version_added m (Row row) = refl
-version_added m (Linked link) = refl
-version_added m End = refl
+version_added m _ = refl
 
 pub version_taken : (g : Gathering) (statement : Statement) (h : Gathering) → Takes g statement h → h.version ≡ g.version
 version_taken g statement h takes = ap (λ (k : Gathering). k.version) takes.added ∙ version_added takes.between statement ∙ version_before statement g takes.between takes.closed

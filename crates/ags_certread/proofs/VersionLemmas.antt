@@ -15,7 +15,7 @@ use Rattle.ags_frame.specs.Reading.{Opening, Stated, Ended, statement_of}
 use Rattle.ags_certtext.specs.declared.cert_error.CertKind.TheVariants.{BadLine}
 use Rattle.ags_certtext.specs.declared.statements.Statement.{Statement}
 use Rattle.ags_certtext.specs.declared.statements.Statement.TheVariants.{Entry as EntryOf, Row, Linked}
-use Rattle.ags_certtext.specs.declared.statements.Table.TheVariants.{Cell, At}
+use Rattle.ags_certtext.specs.declared.kinds.Table.TheVariants.{Cell, At}
 use Rattle.ags_certtext.specs.Fault.{fault_after, is_of_version, reading_fault}
 use Rattle.ags_certtext.specs.Reading.{Reading, IsReading, AreLineReadings}
 use Rattle.ags_certtext.specs.Statement.{row_links}

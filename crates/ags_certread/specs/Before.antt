@@ -11,7 +11,7 @@ use Rattle.ags_certtext.specs.declared.statements.Entry.{Entry}
 use Rattle.ags_certtext.specs.declared.statements.RowLine.{RowLine}
 use Rattle.ags_certtext.specs.declared.statements.Statement.{Statement}
 use Rattle.ags_certtext.specs.declared.statements.Statement.TheVariants.{Entry as EntryOf, Row, Linked}
-use Rattle.ags_certtext.specs.declared.statements.Table.TheVariants.{Cell, Init, In, Out, At}
+use Rattle.ags_certtext.specs.declared.kinds.Table.TheVariants.{Cell, Init, In, Out, At}
 use Rattle.ags_certtext.specs.Fault.{rows_at}
 use Rattle.ags_certtext.specs.Kind.{last_kind}
 use Rattle.ags_certtext.specs.Statement.{may_place, row_line, entries, has_address, row_entries, row_links, value_at}
@@ -82,14 +82,18 @@ AreNamed before places = (location : ℕ) → get_or places location false ≡ l
 abbrev pub AreCounted : List Statement → List ℕ → Type 0
 AreCounted before counts = (location : ℕ) → get_or counts location 0 ≡ length (rows_at before location)
 
--- the tables have what the statements state
-pub record AreTables (before : List Statement) (g : Gathering) : Type 0 where
-  pub last : g.last ≡ last_kind before
-  pub start : g.start ≡ start_of (reverse before)
+-- the tables have what the statements enter in them
+pub record AreEntered (before : List Statement) (g : Gathering) : Type 0 where
   pub cells : IsTable (entries Cell before) g.cells
   pub init : IsTable (entries Init before) g.init
   pub inputs : IsTable (entries In before) g.inputs
   pub outputs : IsTable (entries Out before) g.outputs
+
+-- what is kept beside the rows is what the statements state
+pub record AreTables (before : List Statement) (g : Gathering) : Type 0 where
+  pub last : g.last ≡ last_kind before
+  pub start : g.start ≡ start_of (reverse before)
+  pub entered : AreEntered before g
   pub places : AreNamed before g.places
   pub counts : AreCounted before g.counts
 

@@ -1,13 +1,12 @@
 //! What is asked of one statement, a question a function.
 
 ghost use Rattle.std.specs.Prelude.{◌≡◌, ◌<◌, ◌&&◌, ◌==◌, length, get_or, false, is_some, Some};
-ghost use Rattle.ags_certtext.specs.Fault.{fault_if, has_register, is_empty, is_fixed, is_full_with, is_of_version, is_outside, is_unmet, lacks_word, lacks_zero, leaves_limit, may_stand};
+ghost use Rattle.ags_certtext.specs.Fault.{fault_if, has_register, is_empty, is_fixed, is_of_version, is_outside, is_unmet, lacks_zero};
 ghost use Rattle.ags_certread.specs.Gathering.{stated};
 
-use ags_certtext::{CertKind, Entry, Statement, Table};
+use ags_certtext::{CertKind, Entry, Statement};
 use ags_domain::{Domain, Value};
-use ags_ports::{Port, Ports};
-use ags_row::{At, MOST_CELLS};
+use ags_ports::Port;
 use ags_word::{ERASABLE, Word};
 
 /// A fault where one is found, and else what is found later.
@@ -76,7 +75,7 @@ fn is_outside(value: &Option<Value>, limit: &Option<Value>) -> bool
 }
 
 /// Whether what an entry states isn't within what is stated at its address.
-fn leaves(entry: &Entry, limits: &[Option<Value>]) -> bool
+pub(crate) fn leaves(entry: &Entry, limits: &[Option<Value>]) -> bool
     ensures { result ≡ is_outside entry.now.value (stated limits.now entry.now.address) }
 {
     let place = entry.address as usize;
@@ -87,7 +86,7 @@ fn leaves(entry: &Entry, limits: &[Option<Value>]) -> bool
 }
 
 /// Whether one of some registers stands at an address.
-fn has_register(ports: &[Port], address: u16) -> bool
+pub(crate) fn has_register(ports: &[Port], address: u16) -> bool
     ensures { result ≡ has_register ports.now address }
 {
     ports.iter().any(|port| port.address == address)
@@ -111,7 +110,7 @@ fn is_unmet_by(port: &Port, entry: &Entry) -> bool
 }
 
 /// Whether the register at an entry's address holds its word once, and the entry's value doesn't hold 0.
-fn is_unmet(ports: &[Port], entry: &Entry) -> bool
+pub(crate) fn is_unmet(ports: &[Port], entry: &Entry) -> bool
     ensures { result ≡ is_unmet ports.now entry.now }
 {
     ports.iter().any(|port| is_unmet_by(port, entry))
@@ -131,56 +130,4 @@ pub(crate) fn count_at(counts: &[u16], location: u16) -> u16
     ensures { result ≡ get_or counts.now location 0 }
 {
     counts[location as usize]
-}
-
-/// Whether an entry of a table may stand at an address: of cells at one that isn't fixed, of registers at one of the machine's.
-pub(crate) fn may_stand(ports: &Ports, table: Table, address: u16) -> bool
-    ensures { result ≡ may_stand ports.now table address }
-{
-    match table {
-        Table::Cell => !is_fixed(address),
-        Table::Init => !is_fixed(address),
-        Table::In => has_register(ports.inputs(), address),
-        Table::Out => has_register(ports.outputs(), address),
-        Table::At => !is_fixed(address),
-    }
-}
-
-/// Whether what an entry states of a cell, at the start or in a row, isn't within the limit that is stated of it.
-pub(crate) fn leaves_limit(table: Table, entry: &Entry, limits: &[Option<Value>]) -> bool
-    ensures { result ≡ leaves_limit table entry.now.value (stated limits.now entry.now.address) }
-{
-    match table {
-        Table::Cell => false,
-        Table::Init => leaves(entry, limits),
-        Table::In => false,
-        Table::Out => false,
-        Table::At => leaves(entry, limits),
-    }
-}
-
-/// Whether the input register of an entry holds its word once, and what the entry states doesn't hold 0.
-pub(crate) fn lacks_word(ports: &Ports, table: Table, entry: &Entry) -> bool
-    ensures { result ≡ lacks_word ports.now table entry.now }
-{
-    match table {
-        Table::Cell => false,
-        Table::Init => false,
-        Table::In => is_unmet(ports.inputs(), entry),
-        Table::Out => false,
-        Table::At => false,
-    }
-}
-
-/// Whether a table has no room for a further entry beside the cells of the open row.
-pub(crate) fn is_full(table: Table, cells: &[At<Value>]) -> bool
-    ensures { result ≡ is_full_with (length cells.now) table }
-{
-    match table {
-        Table::Cell => false,
-        Table::Init => false,
-        Table::In => false,
-        Table::Out => false,
-        Table::At => cells.len() >= MOST_CELLS,
-    }
 }

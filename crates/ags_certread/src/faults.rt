@@ -7,15 +7,12 @@ ghost use Rattle.ags_certtext.specs.declared.statements.Statement.TheVariants.{E
 ghost use Rattle.ags_certtext.specs.Fault.{entry_fault, fault_after, fault_in, statement_fault};
 ghost use Rattle.ags_certtext.specs.Statement.{IsStatement};
 ghost use Rattle.ags_certread.specs.Before.{Gathered};
-ghost use Rattle.ags_certread.specs.Gathering.{IsCounting, IsSized, gathering_of, is_stated_in, row_count};
+ghost use Rattle.ags_certread.specs.Gathering.{IsCounting, IsSized, gathering_of, row_count};
 
-use crate::checks::{
-    count_at, fault_if, is_empty, is_fixed, is_full, is_named, is_of_version, is_stated,
-    lacks_word, leaves_limit, may_stand,
-};
+use crate::checks::{count_at, fault_if, is_empty, is_fixed, is_named, is_of_version};
 use crate::gatherer::Gatherer;
-use crate::open_rows::has_cell;
 use crate::order::{is_second_start, stands_in_order};
+use crate::tables::{is_full, lacks_word, leaves_limit, may_stand};
 use ags_certtext::{CertKind, Entry, RowLine, Statement, Table};
 use ags_certtype::{MOST_ROWS, MOST_ROWS_AT_ONE};
 use ags_ports::Ports;
@@ -30,20 +27,6 @@ impl Gatherer {
         match self.line {
             Some(_) => self.rows.len() + 1,
             None => self.rows.len(),
-        }
-    }
-
-    /// Whether something is stated at an address in a table; of the cells of a row, in the open one.
-    fn is_stated(&self, table: Table, address: u16) -> bool
-        requires { cells_ascend 0 self.now.row_cells.items ≡ true }
-        ensures { result ≡ is_stated_in (gathering_of self.now) table address }
-    {
-        match table {
-            Table::Cell => is_stated(self.cells.as_slice(), address),
-            Table::Init => is_stated(self.init.as_slice(), address),
-            Table::In => is_stated(self.inputs.as_slice(), address),
-            Table::Out => is_stated(self.outputs.as_slice(), address),
-            Table::At => has_cell(self.row_cells.as_slice(), address),
         }
     }
 

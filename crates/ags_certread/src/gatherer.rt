@@ -1,16 +1,16 @@
 //! What is gathered of the statements of a certificate, one after the other.
 
-ghost use Rattle.std.specs.Prelude.{◌≡◌, ◌<◌, true, false, ◌∷◌, List, Ok, None, IfOk, length, get_or, set, replicate};
+ghost use Rattle.std.specs.Prelude.{◌≡◌, ◌<◌, true, false, ◌∷◌, List, Ok, None, IfOk, length, get_or, replicate};
 ghost use Rattle.ags_row.specs.Cell.{cells_ascend};
-ghost use Rattle.ags_certtext.specs.declared.statements.Statement.TheVariants.{Entry as EntryOf, Row as RowOf};
+ghost use Rattle.ags_certtext.specs.declared.statements.Statement.TheVariants.{Row as RowOf};
 ghost use Rattle.ags_certtext.specs.declared.statements.Statement.{Statement};
 ghost use Rattle.ags_certtext.specs.Fault.{fault_in};
 ghost use Rattle.ags_certtext.specs.Statement.{IsStatement};
 ghost use Rattle.ags_certread.specs.Before.{Stands};
-ghost use Rattle.ags_certread.specs.Gathering.{Closes, ClosesBefore, IsClosable, IsPlaced, IsSized, gathering_of, nothing_stated, with_entry_in, with_part, with_statement};
+ghost use Rattle.ags_certread.specs.Gathering.{Closes, ClosesBefore, IsClosable, IsPlaced, IsSized, gathering_of, nothing_stated, with_part, with_statement};
 
-use crate::open_rows::{add_cell, row_of};
-use ags_certtext::{CertKind, Entry, Kind, RowLine, Statement, Table};
+use crate::open_rows::row_of;
+use ags_certtext::{CertKind, Kind, RowLine, Statement, Table};
 use ags_domain::Value;
 use ags_ports::Ports;
 use ags_row::{At, Link, Row};
@@ -69,14 +69,6 @@ fn zeros(alloc: Global) -> Result<Vec<u16>, AllocError>
     Ok(vec![in alloc; 0; LOCATIONS as usize]?)
 }
 
-/// Sets what is stated at an entry's address.
-fn put(table: &mut Vec<Option<Value>>, entry: &Entry)
-    requires { entry.now.address < length table.now.items }
-    ensures { table.new.items ≡ set table.old.items entry.now.address entry.now.value }
-{
-    table[entry.address as usize] = entry.value;
-}
-
 impl Gatherer {
     /// Nothing is stated yet.
     pub(crate) fn new(alloc: Global) -> Result<Gatherer, AllocError>
@@ -121,16 +113,9 @@ impl Gatherer {
         ensures { IfOk result (λ _. ClosesBefore statement.now (gathering_of self.old) (gathering_of self.new)) }
     {
         match statement {
-            Statement::Start(_) => self.close(alloc),
             Statement::Entry(Table::At, _) => Ok(()),
-            Statement::Entry(Table::Cell, _) => self.close(alloc),
-            Statement::Entry(Table::Init, _) => self.close(alloc),
-            Statement::Entry(Table::In, _) => self.close(alloc),
-            Statement::Entry(Table::Out, _) => self.close(alloc),
-            Statement::May(_) => self.close(alloc),
-            Statement::Row(_) => self.close(alloc),
             Statement::Linked(_) => Ok(()),
-            Statement::End => self.close(alloc),
+            _ => self.close(alloc),
         }
     }
 
@@ -144,23 +129,6 @@ impl Gatherer {
         let count = self.counts[place];
         self.counts[place] = count + 1;
         self.line = Some(row);
-    }
-
-    /// Puts an entry without a fault into its table.
-    fn enter(&mut self, table: Table, entry: &Entry) -> Result<(), AllocError>
-        requires sized { IsSized (gathering_of self.old) }
-        requires placed { IsPlaced self.old.counts.items (EntryOf table entry.now) }
-        requires ascending { cells_ascend 0 self.old.row_cells.items ≡ true }
-        ensures { IfOk result (λ _. gathering_of self.new ≡ with_entry_in (gathering_of self.old) table entry.now) }
-    {
-        match table {
-            Table::Cell => put(&mut self.cells, entry),
-            Table::Init => put(&mut self.init, entry),
-            Table::In => put(&mut self.inputs, entry),
-            Table::Out => put(&mut self.outputs, entry),
-            Table::At => add_cell(&mut self.row_cells, entry)?,
-        }
-        Ok(())
     }
 
     /// Adds what a statement without a fault says.

@@ -20,6 +20,7 @@ mod order;
 mod reading;
 mod reading_pieces;
 mod states;
+mod tables;
 
 pub use cert_readers::CertReader;
 pub use laws::{first_version_has_no_links, read_certificates_suit, text_has_one_meaning};

@@ -10,11 +10,7 @@ use ags_certtext::{Kind, Statement, Table};
 fn is_end(kind: Kind) -> bool
     ensures { result ≡ is_kind End kind }
 {
-    match kind {
-        Kind::End => true,
-        Kind::Start | Kind::Cell | Kind::Init | Kind::In | Kind::Out | Kind::May | Kind::Row =>
-            false,
-    }
+    matches!(kind, Kind::End)
 }
 
 /// Whether the last kind, if there is one, was the end.
@@ -31,25 +27,14 @@ pub(crate) fn has_ended(last: Option<Kind>) -> bool
 fn stands_behind_row(last: Option<Kind>) -> bool
     ensures { result ≡ is_last Row last }
 {
-    match last {
-        Some(Kind::Row) => true,
-        Some(
-            Kind::Start | Kind::Cell | Kind::Init | Kind::In | Kind::Out | Kind::May | Kind::End,
-        ) => false,
-        None => false,
-    }
+    matches!(last, Some(Kind::Row))
 }
 
 /// Whether the last kind, if there is one, was the start.
 fn stands_behind_start(last: Option<Kind>) -> bool
     ensures { result ≡ is_last Start last }
 {
-    match last {
-        Some(Kind::Start) => true,
-        Some(Kind::Cell | Kind::Init | Kind::In | Kind::Out | Kind::May | Kind::Row | Kind::End) =>
-            false,
-        None => false,
-    }
+    matches!(last, Some(Kind::Start))
 }
 
 /// Whether a kind may stand after the last one.
@@ -67,11 +52,8 @@ fn entry_follows(last: Option<Kind>, table: Table) -> bool
     ensures { result ≡ entry_follows last table }
 {
     match table {
-        Table::Cell => follows(last, Kind::Cell),
-        Table::Init => follows(last, Kind::Init),
-        Table::In => follows(last, Kind::In),
-        Table::Out => follows(last, Kind::Out),
         Table::At => stands_behind_row(last),
+        _ => follows(last, table.kind()),
     }
 }
 

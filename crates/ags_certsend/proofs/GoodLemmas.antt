@@ -14,8 +14,8 @@ use Rattle.ags_row.specs.declared.rows.Row.{Row}
 use Rattle.ags_certtype.specs.Cert.{Stated, IsCert}
 use Rattle.ags_certtext.specs.declared.statements.Statement.{Statement}
 use Rattle.ags_certtext.specs.declared.statements.Statement.TheVariants.{Entry as EntryOf, May, End}
-use Rattle.ags_certtext.specs.declared.statements.Table.{Table}
-use Rattle.ags_certtext.specs.declared.statements.Table.TheVariants.{Cell, Init, In, Out}
+use Rattle.ags_certtext.specs.declared.kinds.Table.{Table}
+use Rattle.ags_certtext.specs.declared.kinds.Table.TheVariants.{Cell, In, Out}
 use Rattle.ags_certtext.specs.Spelling.{is_offset}
 use Rattle.ags_certsend.specs.CertText.{is_full, entry_of, stating, start_entry, cell_statement, init_statement, input_statement, output_statement, place_statement, ascending, at_statement, link_statements, row_statements, statements_of}
 use Rattle.ags_certsend.proofs.LineLemmas.{IsGoodEntry, IsGood}
@@ -66,10 +66,10 @@ good_limit table address limit false below statement is =
     let same : EntryOf table (entry_of address limit) ≡ statement = cc in
     rw (← same) (good_entry address limit below)
 
-good_start : (address : ℕ) (value : Option Value) → address < 4096 → (statement : Statement) → stating Init (start_entry address value) ≡ Some statement → IsGood statement
-good_start address None below statement is = absurd cc
-good_start address (Some value) below statement is =
-    let same : EntryOf Init (entry_of address value) ≡ statement = cc in
+good_start : (table : Table) (address : ℕ) (value : Option Value) → address < 4096 → (statement : Statement) → stating table (start_entry address value) ≡ Some statement → IsGood statement
+good_start table address None below statement is = absurd cc
+good_start table address (Some value) below statement is =
+    let same : EntryOf table (entry_of address value) ≡ statement = cc in
     rw (← same) (good_entry address value below)
 
 good_place : (location : ℕ) (named : Bool) → location < 4096 → (statement : Statement) → (if named then Some (May location) else None) ≡ Some statement → IsGood statement
@@ -84,7 +84,7 @@ cells_good cert address below statement is = good_limit Cell address (cell_limit
 
 inits_good : (cert : Stated) (address : ℕ) → address < 4096 → (statement : Statement) → init_statement cert address ≡ Some statement → IsGood statement
 unfolding init_statement
-inits_good cert address below statement is = good_start address (get_or cert.init address None) below statement is
+inits_good cert address below statement is = good_start _ address (get_or cert.init address None) below statement is
 
 inputs_good : (cert : Stated) (address : ℕ) → address < 4096 → (statement : Statement) → input_statement cert address ≡ Some statement → IsGood statement
 unfolding input_statement

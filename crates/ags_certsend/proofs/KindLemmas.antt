@@ -26,8 +26,8 @@ use Rattle.ags_certtext.specs.Statement.{entry_in, may_place, entries, has_addre
 use Rattle.ags_certtext.specs.declared.statements.Entry.{Entry}
 use Rattle.ags_certtext.specs.declared.statements.Statement.{Statement}
 use Rattle.ags_certtext.specs.declared.statements.Statement.TheVariants.{Entry as EntryOf, May}
-use Rattle.ags_certtext.specs.declared.statements.Table.{Table}
-use Rattle.ags_certtext.specs.declared.statements.Table.TheVariants.{Cell, Init, In, Out}
+use Rattle.ags_certtext.specs.declared.kinds.Table.{Table}
+use Rattle.ags_certtext.specs.declared.kinds.Table.TheVariants.{Cell, Init, In, Out}
 use Rattle.ags_certsend.specs.CertText.{is_full, entry_of, stating, start_entry, cell_statement, init_statement, input_statement, output_statement, place_statement}
 use Rattle.ags_certsend.proofs.PassLemmas.{in_order, kind_number, last_number, stand, lower_last, Chooses, fresh, cells_more, cells_other, not_outside, Keeps}
 

@@ -8,13 +8,14 @@ use Rattle.ags_domain.specs.ValueText.{value_text}
 use Rattle.ags_domain.specs.declared.values.Value.{Value}
 use Rattle.ags_row.specs.Flag.{some_flag}
 use Rattle.ags_row.specs.declared.links.Link.{Link}
-use Rattle.ags_certtext.specs.Spelling.{flag_digits, is_offset, StatesPlace, StatesEntry, StatesRow, StatesLink, States, table_name}
+use Rattle.ags_certtext.specs.Spelling.{flag_digits, is_offset, StatesPlace, StatesEntry, StatesRow, StatesLink, States}
+use Rattle.ags_certtext.specs.Kind.{table_name}
+use Rattle.ags_certtext.proofs.KeywordLemmas.{table_letters}
 use Rattle.ags_certtext.specs.declared.statements.Entry.{Entry}
 use Rattle.ags_certtext.specs.declared.statements.RowLine.{RowLine}
 use Rattle.ags_certtext.specs.declared.statements.Statement.{Statement}
 use Rattle.ags_certtext.specs.declared.statements.Statement.TheVariants.{Start, Entry as EntryOf, May, Row, Linked, End}
-use Rattle.ags_certtext.specs.declared.statements.Table.{Table}
-use Rattle.ags_certtext.specs.declared.statements.Table.TheVariants.{Cell, Init, In, Out, At}
+use Rattle.ags_certtext.specs.declared.kinds.Table.{Table}
 use Rattle.ags_certsend.specs.Spelled.{entry_text, link_text, row_text, statement_text}
 use Rattle.ags_certsend.proofs.ShownLemmas.{IsShown, shown-append, shown-weaker, octal_shown, flags_shown}
 use Rattle.ags_certsend.proofs.ValueLemmas.{spaced, spaced-append, IsValueText, value_spelled, printed_offset}
@@ -202,11 +203,7 @@ place_is_line keyword location first below =
 
 -- the keyword of a table has five letters at most
 name_shown : (table : Table) → IsShown 5 (table_name table)
-name_shown Cell = record { plain = refl; short = omega arith }
-name_shown Init = record { plain = refl; short = omega arith }
-name_shown In = record { plain = refl; short = omega arith }
-name_shown Out = record { plain = refl; short = omega arith }
-name_shown At = record { plain = refl; short = omega arith }
+name_shown table = let letters = table_letters table in record { plain = letters.0; short = letters.1 }
 
 pub statement_is_line : (statement : Statement) → IsGood statement → IsLine (statement_text statement) statement
 unfolding spaced

@@ -1,5 +1,5 @@
 -- No statement of a certificate is at fault after those before it: what is kept along the kinds that stand by address.
-use Rattle.std.proofs.Common.{◌≡◌, ℕ, zero, suc, ◌+◌, ◌<◌, ◌≤◌, ◌⊎◌, Bool, true, false, not, ◌==◌, ◌||◌, List, [], ◌∷◌, ◌++◌, map, Option, Some, None, refl, sym, ap, ◌∙◌, inl, inr, arith}
+use Rattle.std.proofs.Common.{◌≡◌, ℕ, zero, suc, ◌+◌, ◌<◌, ◌≤◌, ◌⊎◌, Bool, true, false, not, ◌==◌, ◌||◌, List, [], ◌∷◌, ◌++◌, map, Option, Some, None, refl, ap, ◌∙◌, inl, inr, arith}
 use Rattle.std.specs.Prelude.{nat_le}
 use Rattle.std.proofs.lemmas.Bool.Decides.{nat_tests}
 use Rattle.std.specs.List.{list_any, filter_map, range_with_len, cons_option}
@@ -21,8 +21,7 @@ use Rattle.ags_certtext.specs.Kind.{follows, is_kind, kind_of, kinds_before, las
 use Rattle.ags_certtext.specs.Statement.{entry_in, entries, value_at, row_line, all_below, is_within}
 use Rattle.ags_certtext.specs.declared.statements.Statement.{Statement}
 use Rattle.ags_certtext.specs.declared.statements.Statement.TheVariants.{Start, Entry as EntryOf, May, Row as RowOf, Linked, End}
-use Rattle.ags_certtext.specs.declared.statements.Table.{Table}
-use Rattle.ags_certtext.specs.declared.statements.Table.TheVariants.{Cell, Init, In, Out, At as InRow}
+use Rattle.ags_certtext.specs.declared.kinds.Table.TheVariants.{Cell}
 use Rattle.ags_certsend.specs.CertText.{entry_of, ascending}
 
 -- ---- statements one after the other
@@ -69,38 +68,14 @@ stand (RowOf row) = 0
 stand (Linked link) = 0
 stand End = 0
 
--- how many kinds there are up to that of a table, and up to that of a statement
-abbrev pub table_number : Table → ℕ
-table_number Cell = 2
-table_number Init = 3
-table_number In = 4
-table_number Out = 5
-table_number InRow = 7
-
+-- how many kinds there are up to that of a statement
 abbrev pub kind_number : Statement → ℕ
-kind_number (Start location) = 1
-kind_number (EntryOf table entry) = table_number table
-kind_number (May location) = 6
-kind_number (RowOf row) = 7
-kind_number (Linked link) = 7
-kind_number End = 8
+kind_number statement = kinds_before (kind_of statement) + 1
 
 -- and up to that of the last statement
 abbrev pub last_number : List Statement → ℕ
 last_number [] = 0
 last_number (statement ∷ before) = kind_number statement
-
-number_is : (statement : Statement) → kinds_before (kind_of statement) + 1 ≡ kind_number statement
-number_is (Start location) = refl
-number_is (EntryOf Cell entry) = refl
-number_is (EntryOf Init entry) = refl
-number_is (EntryOf In entry) = refl
-number_is (EntryOf Out entry) = refl
-number_is (EntryOf InRow entry) = refl
-number_is (May location) = refl
-number_is (RowOf row) = refl
-number_is (Linked link) = refl
-number_is End = refl
 
 not_end : (statement : Statement) → kind_number statement ≤ 7 → is_kind kind.End (kind_of statement) ≡ false
 not_end End few = absurd (omega (arith, few))
@@ -112,7 +87,7 @@ pub in_order : (before : List Statement) (its : Kind) (number : ℕ) → kinds_b
     → follows (last_kind before) its ≡ true
 in_order [] its number is low few = refl
 in_order (statement ∷ before) its number is low few =
-    rw (no_later (kinds_before (kind_of statement)) (kinds_before its) (let own = number_is statement in omega (arith, own, is, low)), not_end statement few) refl
+    rw (no_later (kinds_before (kind_of statement)) (kinds_before its) (omega (arith, is, low)), not_end statement few) refl
   where
     no_later : (one other : ℕ) → one ≤ other → nat_le one other ≡ true
     no_later one other is = grind (arith, nat_tests)
@@ -122,7 +97,7 @@ pub row_number : (before : List Statement) → last_kind before ≡ Some kind.Ro
 row_number [] is = absurd cc
 row_number (statement ∷ before) is =
     let same : kind_of statement ≡ kind.Row = cc in
-    sym (number_is statement) ∙ ap (λ (its : Kind). kinds_before its + 1) same
+    ap (λ (its : Kind). kinds_before its + 1) same
 
 IsLower : ℕ → ℕ → Statement → Type 0
 IsLower kind address statement = (kind_number statement < kind) ⊎ ((kind_number statement ≡ kind) × (stand statement < address))

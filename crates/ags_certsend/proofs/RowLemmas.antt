@@ -33,7 +33,7 @@ use Rattle.ags_certtext.specs.Statement.{entries, has_address, value_at, row_ent
 use Rattle.ags_certtext.specs.declared.statements.RowLine.{RowLine}
 use Rattle.ags_certtext.specs.declared.statements.Statement.{Statement}
 use Rattle.ags_certtext.specs.declared.statements.Statement.TheVariants.{Start, Entry as EntryOf, Row as RowOf, Linked, End}
-use Rattle.ags_certtext.specs.declared.statements.Table.TheVariants.{Cell, At as InRow}
+use Rattle.ags_certtext.specs.declared.kinds.Table.TheVariants.{Cell, At as InRow}
 use Rattle.ags_certsend.specs.CertText.{entry_of, cell_statement, init_statement, input_statement, output_statement, place_statement, ascending, row_line_of, at_statement, link_statements, row_statements, has_links, text_version, version_with, statements_of}
 use Rattle.ags_certsend.proofs.GoodLemmas.{cell_below}
 use Rattle.ags_certsend.proofs.PassLemmas.{in_order, last_number, row_number, onto, NoFault, no_fault-append, onto-append, readings_faultless, AreLower, lower_none, lower_more, lower_kind, lower_last, apart, AreCellsOf, cells_none, cells_other, not_outside, start_stands, no_lines, ascending_passed}

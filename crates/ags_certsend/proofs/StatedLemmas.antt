@@ -20,14 +20,15 @@ use Rattle.ags_certtext.specs.Text.{start_of, IsLimit, IsLinkOf, rows_of, AreRow
 use Rattle.ags_certtext.specs.declared.statements.Entry.{Entry}
 use Rattle.ags_certtext.specs.declared.statements.Statement.{Statement}
 use Rattle.ags_certtext.specs.declared.statements.Statement.TheVariants.{Start, Entry as EntryOf, May, Row as RowOf, End}
-use Rattle.ags_certtext.specs.declared.statements.Table.{Table}
-use Rattle.ags_certtext.specs.declared.statements.Table.TheVariants.{Cell, Init, In, Out}
+use Rattle.ags_certtext.specs.declared.kinds.Table.{Table}
+use Rattle.ags_certtext.specs.declared.kinds.Table.TheVariants.{Cell, Init, In, Out}
 use Rattle.ags_certsend.specs.Section.{address_count, stated_at}
 use Rattle.ags_certsend.specs.declared.sections.Section.{Section}
 use Rattle.ags_certsend.specs.declared.sections.Section.TheVariants.{Cells, Starts, Inputs, Outputs, Places}
 use Rattle.ags_certsend.specs.CertText.{is_full, entry_of, limited, stating, start_entry, cell_statement, init_statement, input_statement, output_statement, place_statement, ascending, at_statement, link_statements, row_statements, statements_of}
 use Rattle.ags_certsend.proofs.ValueLemmas.{full_holds}
-use Rattle.ags_certsend.proofs.PassLemmas.{Chooses, apart, kind_number, table_number}
+use Rattle.ags_certsend.proofs.PassLemmas.{Chooses, apart, kind_number}
+use Rattle.ags_certtext.specs.Kind.{kinds_before, table_kind}
 use Rattle.ags_certsend.proofs.KindLemmas.{chooses_cell, chooses_init, chooses_in, chooses_out, chooses_may, limit_cases, start_cases, place_cases}
 
 -- ---- what a choice takes of other kinds: nothing
@@ -325,7 +326,7 @@ kind_of Outputs = 5
 kind_of Places = 6
 
 limit_makes : (table : Table) (address : ℕ) (limit : Value) (statement : Statement) → stating table (limited address limit) ≡ Some statement
-    → kind_number statement ≡ table_number table
+    → kind_number statement ≡ kinds_before (table_kind table) + 1
 limit_makes table address limit statement is = rw (← (limit_cases table address limit (is_full limit) statement is).1) refl
 
 makes : (cert : Stated) (section : Section) → Makes (stated_at section cert) (kind_of section)

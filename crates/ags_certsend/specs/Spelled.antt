@@ -5,7 +5,8 @@ use Rattle.ags_text.specs.Numeral.{octal4_text}
 use Rattle.ags_domain.specs.ValueText.{value_text}
 use Rattle.ags_domain.specs.declared.values.Value.{Value}
 use Rattle.ags_row.specs.declared.links.Link.{Link}
-use Rattle.ags_certtext.specs.Spelling.{flag_digits, table_name}
+use Rattle.ags_certtext.specs.Kind.{table_name}
+use Rattle.ags_certtext.specs.Spelling.{flag_digits}
 use Rattle.ags_certtext.specs.declared.statements.Entry.{Entry}
 use Rattle.ags_certtext.specs.declared.statements.RowLine.{RowLine}
 use Rattle.ags_certtext.specs.declared.statements.Statement.{Statement}

@@ -2,7 +2,7 @@
 
 ghost use Rattle.std.specs.Prelude.{Some};
 
-use ags_certtext::{Entry, RowLine, Statement, Table};
+use ags_certtext::{Entry, RowLine, Statement};
 use ags_domain::Value;
 use ags_row::Link;
 use ags_text::FourDigits;
@@ -60,26 +60,6 @@ impl fmt::Display for StatedValue {
             Some(value) => fmt::Display::fmt(value, f),
             None => f.write_str("RANGE 1 0"),
         }
-    }
-}
-
-/// A table, which prints as the keyword of its entries.
-#[derive(Clone, Copy)]
-struct SpelledTable(Table);
-
-impl fmt::Display for SpelledTable {
-    ghost use Rattle.ags_certtext.specs.Spelling.{table_name};
-
-    ghost output = { λ table. Some (table_name table.0) };
-
-    fn fmt<W: fmt::Write>(&self, f: &mut fmt::Formatter<W>) -> fmt::Result {
-        f.write_str(match self.0 {
-            Table::Cell => "CELL",
-            Table::Init => "INIT",
-            Table::In => "IN",
-            Table::Out => "OUT",
-            Table::At => "AT",
-        })
     }
 }
 
@@ -150,9 +130,8 @@ impl fmt::Display for Spelled {
                 write!(f, "START {place}")
             }
             Statement::Entry(table, entry) => {
-                let keyword = SpelledTable(table);
                 let entry = SpelledEntry(entry);
-                write!(f, "{keyword} {entry}")
+                write!(f, "{table} {entry}")
             }
             Statement::May(location) => {
                 let place = FourDigits(location);

@@ -10,4 +10,5 @@ pub mod FlagLemmas
 pub mod FrontLemmas
 pub mod FoundLemmas
 pub mod FlagFound
+pub mod KeywordLemmas
 pub mod StatementFound

@@ -1,10 +1,10 @@
 -- What each line is read as, over every text: the one statement that stands after its keyword, or none.
-use Rattle.std.proofs.Common.{◌≡◌, ℕ, cond, eqb, Bool, List, length, get_or, Option, ◌⊎◌, refl, sym, ap, ◌∙◌, inl, inr, arith}
+use Rattle.std.proofs.Common.{◌≡◌, ℕ, Bool, List, Option, ◌⊎◌, refl, sym, ap, ◌∙◌, inl, inr, arith}
 use Rattle.std.specs.Prelude.{ℤ}
 use Rattle.std.specs.List.{list_all}
 use Rattle.ags_text.specs.Field.{is_blank, AreBlanks, next_field, behind_field}
 use Rattle.ags_text.specs.Numeral.{Writes}
-use Rattle.ags_text.proofs.Deciding.{Decided, decide_bool, decide_list}
+use Rattle.ags_text.proofs.Deciding.{Decided, decide_bool}
 use Rattle.ags_domain.specs.declared.values.Value.{Value}
 use Rattle.ags_row.specs.declared.links.Link.{Link}
 use Rattle.ags_certtext.specs.declared.keywords.Keyword.{Keyword}
@@ -13,13 +13,13 @@ use Rattle.ags_certtext.specs.declared.statements.Entry.{Entry}
 use Rattle.ags_certtext.specs.declared.statements.RowLine.{RowLine}
 use Rattle.ags_certtext.specs.declared.statements.Statement.{Statement}
 use Rattle.ags_certtext.specs.declared.statements.Statement.TheVariants.{Start, Entry as EntryOf, May, Row, Linked, End}
-use Rattle.ags_certtext.specs.declared.statements.Table.TheVariants.{Cell, Init, In, Out, At}
 use Rattle.ags_certtext.specs.Spelling.{States}
 use Rattle.ags_certtext.specs.Front.{BeginsWithValue, BeginsWithNamed, IsPlace}
 use Rattle.ags_certtext.specs.Operand.{IsEntry, IsLinkText, AreRowFlags, IsRow, keyword_name, AreOperands}
 use Rattle.ags_certtext.proofs.FoundLemmas.{Only, OneFound, OnlyFront, written_found, offset_found, value_found, named_found}
 use Rattle.ags_certtext.proofs.FlagFound.{named_flags_found}
 use Rattle.ags_certtext.proofs.FrontLemmas.{no_word, no_word_name}
+use Rattle.ags_certtext.proofs.KeywordLemmas.{keyword_found}
 use Rattle.ags_certtext.proofs.StatementLemmas.{operands_state, state_operands}
 
 -- a text is nothing but blanks, or isn't
@@ -184,35 +184,6 @@ operands_found keyword.May text = made_found May (place_found text)
 operands_found keyword.Row text = made_found Row (row_found text)
 operands_found keyword.Link text = made_found Linked (link_found text)
 operands_found keyword.End text = end_found text
-
--- the keyword of a name, told by its first letter and, of IN and INIT, by its length
-abbrev keyword_by : (letter long : ℕ) → Keyword
-keyword_by letter long =
-    cond (eqb letter 83) keyword.Start (cond (eqb letter 67) (keyword.Entry Cell) (cond (eqb letter 79) (keyword.Entry Out) (cond (eqb letter 77) keyword.May
-    (cond (eqb letter 82) keyword.Row (cond (eqb letter 65) (keyword.Entry At) (cond (eqb letter 69) keyword.End
-    (cond (eqb letter 76) keyword.Link (cond (eqb long 2) (keyword.Entry In) (keyword.Entry Init)))))))))
-
-abbrev keyword_of : List ℕ → Keyword
-keyword_of name = keyword_by (get_or name 0 0) (length name)
-
-keyword_is : (its : Keyword) → keyword_of (keyword_name its) ≡ its
-keyword_is keyword.Start = refl
-keyword_is (keyword.Entry Cell) = refl
-keyword_is (keyword.Entry Init) = refl
-keyword_is (keyword.Entry In) = refl
-keyword_is (keyword.Entry Out) = refl
-keyword_is keyword.May = refl
-keyword_is keyword.Row = refl
-keyword_is keyword.Link = refl
-keyword_is (keyword.Entry At) = refl
-keyword_is keyword.End = refl
-
-keyword_found : (name : List ℕ) → OneFound Keyword (λ its. keyword_name its ≡ name)
-keyword_found name =
-    elim (decide_list (keyword_name (keyword_of name)) name) [
-      | inl is ↦ inl (record { it = keyword_of name; is = is; one = λ its named. sym (keyword_is its) ∙ ap keyword_of named })
-      | inr fails ↦ inr (λ its named. fails (ap (λ (t : List ℕ). keyword_name (keyword_of t)) (sym named) ∙ ap keyword_name (keyword_is its) ∙ named))
-    ]
 
 -- A line states one thing, or nothing.
 pub statement_found : (line : List ℕ) → OneFound Statement (States line)

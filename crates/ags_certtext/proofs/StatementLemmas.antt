@@ -17,11 +17,12 @@ use Rattle.ags_certtext.specs.declared.statements.Entry.{Entry}
 use Rattle.ags_certtext.specs.declared.statements.RowLine.{RowLine}
 use Rattle.ags_certtext.specs.declared.statements.Statement.{Statement}
 use Rattle.ags_certtext.specs.declared.statements.Statement.TheVariants.{Start, Entry as EntryOf, May, Row, Linked, End}
-use Rattle.ags_certtext.specs.declared.statements.Table.TheVariants.{Cell, Init, In, Out, At}
 use Rattle.ags_certtext.specs.Statement.{IsStatement}
-use Rattle.ags_certtext.specs.Spelling.{StatesPlace, StatesEntry, StatesRowBehind, StatesLink, States, table_name, flag_digits}
+use Rattle.ags_certtext.specs.Kind.{table_name}
+use Rattle.ags_certtext.specs.Spelling.{StatesPlace, StatesEntry, StatesRowBehind, StatesLink, States, flag_digits}
 use Rattle.ags_certtext.specs.Front.{AreAtFront, IsPlace}
 use Rattle.ags_certtext.specs.Operand.{IsEntry, IsRow, IsLinkText, keyword_name, AreOperands}
+use Rattle.ags_certtext.proofs.KeywordLemmas.{keyword_field, some_first}
 use Rattle.ags_certtext.proofs.FrontLemmas.{front_cut, cut_front, fields_append, cut_stands, value_fields, signed_field, flags_field}
 
 -- an entry is its parts, and so is a row
@@ -34,18 +35,6 @@ pub row_same : (row : RowLine) (location : ℕ) (a q : Option Value) (x v : List
 row_same row location a q x v place same_a same_q same_x same_v = let at : location ≡ row.location = cc in rw (at, same_a, same_q, same_x, same_v) refl
 
 -- ---- what stands after a keyword makes a statement
-
-keyword_field : (its : Keyword) → IsField (keyword_name its)
-keyword_field keyword.Start = record { some = omega arith; marks = refl }
-keyword_field (keyword.Entry Cell) = record { some = omega arith; marks = refl }
-keyword_field (keyword.Entry Init) = record { some = omega arith; marks = refl }
-keyword_field (keyword.Entry In) = record { some = omega arith; marks = refl }
-keyword_field (keyword.Entry Out) = record { some = omega arith; marks = refl }
-keyword_field (keyword.Entry At) = record { some = omega arith; marks = refl }
-keyword_field keyword.May = record { some = omega arith; marks = refl }
-keyword_field keyword.Row = record { some = omega arith; marks = refl }
-keyword_field keyword.Link = record { some = omega arith; marks = refl }
-keyword_field keyword.End = record { some = omega arith; marks = refl }
 
 place_states : (name line : List ℕ) (location : ℕ) → IsField name → next_field line ≡ name → IsPlace (behind_field line) location → StatesPlace name line location
 place_states name line location field named is = record {
@@ -242,18 +231,6 @@ pub made_only : {X : Type 0} {P : X → Type 0} {found : Option X} {statement : 
 made_only make only is = rw (only is.0 is.1, is.2) refl
 
 -- ---- a line that is skipped makes no statement
-
-some_first : (its : Keyword) → (keyword_name its ≡ [] → ⊥) × (get_or (keyword_name its) 0 0 ≡ 35 → ⊥)
-some_first keyword.Start = (λ is. cc, λ is. omega (arith, is))
-some_first (keyword.Entry Cell) = (λ is. cc, λ is. omega (arith, is))
-some_first (keyword.Entry Init) = (λ is. cc, λ is. omega (arith, is))
-some_first (keyword.Entry In) = (λ is. cc, λ is. omega (arith, is))
-some_first (keyword.Entry Out) = (λ is. cc, λ is. omega (arith, is))
-some_first keyword.May = (λ is. cc, λ is. omega (arith, is))
-some_first keyword.Row = (λ is. cc, λ is. omega (arith, is))
-some_first keyword.Link = (λ is. cc, λ is. omega (arith, is))
-some_first (keyword.Entry At) = (λ is. cc, λ is. omega (arith, is))
-some_first keyword.End = (λ is. cc, λ is. omega (arith, is))
 
 -- a line that begins with a number sign has it in its first field
 sign_first : (line : List ℕ) → get_or line 0 0 ≡ 35 → get_or (next_field line) 0 0 ≡ 35

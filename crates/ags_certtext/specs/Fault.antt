@@ -12,11 +12,11 @@ use Rattle.ags_certtext.specs.declared.cert_error.CertKind.TheVariants.{BadLine,
 use Rattle.ags_certtext.specs.declared.statements.RowLine.{RowLine}
 use Rattle.ags_certtext.specs.declared.statements.Statement.{Statement}
 use Rattle.ags_certtext.specs.declared.statements.Statement.TheVariants.{Start, Entry as EntryOf, May, Row, Linked, End}
-use Rattle.ags_certtext.specs.declared.statements.Table.{Table}
-use Rattle.ags_certtext.specs.declared.statements.Table.TheVariants.{Cell, Init, In, Out, At}
+use Rattle.ags_certtext.specs.declared.kinds.Table.{Table}
+use Rattle.ags_certtext.specs.declared.kinds.Table.TheVariants.{Cell, In, Out, At}
 use Rattle.ags_certtext.specs.declared.kinds.Kind.TheVariants as kind
 use Rattle.ags_certtext.specs.declared.statements.Entry.{Entry}
-use Rattle.ags_certtext.specs.Kind.{is_kind, kind_of, last_kind, stands_in_order, is_second_start}
+use Rattle.ags_certtext.specs.Kind.{is_kind, is_limited, kind_of, last_kind, stands_in_order, is_second_start}
 use Rattle.ags_certtext.specs.Statement.{may_place, row_line, entries, has_address, value_at, entries_before, row_links, is_within}
 use Rattle.ags_certtext.specs.Reading.{Reading}
 
@@ -54,19 +54,13 @@ rows_at statements location = filter (λ (row : RowLine). row.location == locati
 
 -- an entry of a table may stand at the address: of cells at one that isn't fixed, of registers at one of the machine's
 abbrev pub may_stand : Registers → Table → ℕ → Bool
-may_stand ports Cell address = not (is_fixed address)
-may_stand ports Init address = not (is_fixed address)
 may_stand ports In address = has_register ports.inputs address
 may_stand ports Out address = has_register ports.outputs address
-may_stand ports At address = not (is_fixed address)
+may_stand ports of_cells address = not (is_fixed address)
 
 -- what is stated of a cell, at the start or in a row, is not within the limit that is stated of it
 abbrev pub leaves_limit : Table → (value limit : Option Value) → Bool
-leaves_limit Cell value limit = false
-leaves_limit Init value limit = is_outside value limit
-leaves_limit In value limit = false
-leaves_limit Out value limit = false
-leaves_limit At value limit = is_outside value limit
+leaves_limit table value limit = is_limited table && is_outside value limit
 
 -- one of the registers at an entry's address holds its word once, and what the entry states doesn't hold 0
 abbrev pub is_unmet : List Port → Entry → Bool
@@ -74,19 +68,13 @@ is_unmet ports entry = list_any (λ (port : Port). port.address == entry.address
 
 -- the same of an entry of a table, where that is the one of input registers
 abbrev pub lacks_word : Registers → Table → Entry → Bool
-lacks_word ports Cell entry = false
-lacks_word ports Init entry = false
 lacks_word ports In entry = is_unmet ports.inputs entry
-lacks_word ports Out entry = false
-lacks_word ports At entry = false
+lacks_word ports _ entry = false
 
 -- a table has no room for a further entry where it has so many: a row has at most 64 cells
 abbrev pub is_full_with : (count : ℕ) → Table → Bool
-is_full_with count Cell = false
-is_full_with count Init = false
-is_full_with count In = false
-is_full_with count Out = false
 is_full_with count At = nat_le 64 count
+is_full_with count _ = false
 
 -- the fault of an entry of a table, given the statements before it
 abbrev pub entry_fault : Registers → List Statement → Table → Entry → Option CertKind

@@ -1,12 +1,12 @@
--- The kinds of statements, and the order in which they stand.
-use Rattle.std.specs.Prelude.{ℕ, Bool, true, false, not, List, [], ◌∷◌, Option, Some, None, is_some}
+-- The kinds of statements, the order in which they stand, and the tables.
+use Rattle.std.specs.Prelude.{ℕ, Bool, true, false, not, List, [], ◌∷◌, Option, Some, None, is_some, codes}
 use Rattle.ags_frame.specs.Order.{position_in, follows_in}
 use Rattle.ags_certtext.specs.declared.kinds.Kind.{Kind}
 use Rattle.ags_certtext.specs.declared.kinds.Kind.TheVariants as kind
 use Rattle.ags_certtext.specs.declared.statements.Statement.{Statement}
 use Rattle.ags_certtext.specs.declared.statements.Statement.TheVariants.{Start, Entry as EntryOf, May, Row, Linked, End}
-use Rattle.ags_certtext.specs.declared.statements.Table.{Table}
-use Rattle.ags_certtext.specs.declared.statements.Table.TheVariants.{Cell, Init, In, Out, At}
+use Rattle.ags_certtext.specs.declared.kinds.Table.{Table}
+use Rattle.ags_certtext.specs.declared.kinds.Table.TheVariants.{Cell, Init, In, Out, At}
 
 -- the kinds in their order
 abbrev pub kinds_in_order : List Kind
@@ -28,6 +28,34 @@ is_kind _ _ = false
 abbrev pub kinds_before : Kind → ℕ
 kinds_before its = position_in is_kind kinds_in_order its
 
+-- ---- the tables
+
+-- one table is another
+abbrev pub is_table : (one other : Table) → Bool
+is_table Cell Cell = true
+is_table Init Init = true
+is_table In In = true
+is_table Out Out = true
+is_table At At = true
+is_table _ _ = false
+
+-- the keyword of a table's entries
+abbrev pub table_name : Table → List ℕ
+table_name Cell = codes "CELL"
+table_name Init = codes "INIT"
+table_name In = codes "IN"
+table_name Out = codes "OUT"
+table_name At = codes "AT"
+
+-- What the entries of a table state of cells is held against the limits that are stated of them: of cells at the start, and of those of
+-- a row.
+abbrev pub is_limited : Table → Bool
+is_limited Cell = false
+is_limited Init = true
+is_limited In = false
+is_limited Out = false
+is_limited At = true
+
 -- the kind of a table's entries; those of a row's cells are of the row's kind
 abbrev pub table_kind : Table → Kind
 table_kind Cell = kind.Cell
@@ -35,6 +63,8 @@ table_kind Init = kind.Init
 table_kind In = kind.In
 table_kind Out = kind.Out
 table_kind At = kind.Row
+
+-- ---- statements
 
 -- the kind of a statement; a row's link is of the row's kind
 abbrev pub kind_of : Statement → Kind

@@ -10,7 +10,7 @@ use Rattle.ags_certtext.specs.declared.statements.Entry.{Entry}
 use Rattle.ags_certtext.specs.declared.statements.RowLine.{RowLine}
 use Rattle.ags_certtext.specs.declared.statements.Statement.{Statement}
 use Rattle.ags_certtext.specs.declared.statements.Statement.TheVariants.{Start, Entry as EntryOf, May, Row, Linked, End}
-use Rattle.ags_certtext.specs.Spelling.{table_name}
+use Rattle.ags_certtext.specs.Kind.{table_name}
 
 -- an address and a value, and nothing after them
 pub record IsEntry (text : List ℕ) (entry : Entry) : Type 0 where

@@ -15,8 +15,7 @@ use Rattle.ags_certtext.specs.declared.statements.Entry.{Entry}
 use Rattle.ags_certtext.specs.declared.statements.RowLine.{RowLine}
 use Rattle.ags_certtext.specs.declared.statements.Statement.{Statement}
 use Rattle.ags_certtext.specs.declared.statements.Statement.TheVariants.{Start, Entry as EntryOf, May, Row, Linked, End}
-use Rattle.ags_certtext.specs.declared.statements.Table.{Table}
-use Rattle.ags_certtext.specs.declared.statements.Table.TheVariants.{Cell, Init, In, Out, At}
+use Rattle.ags_certtext.specs.Kind.{table_name}
 
 -- ---- values
 
@@ -108,14 +107,6 @@ pub record StatesRowBehind (front : List (List ℕ)) (line : List ℕ) (row : Ro
 -- the line of a row has them after its keyword
 abbrev pub StatesRow : (line : List ℕ) → RowLine → Type 0
 StatesRow line row = StatesRowBehind (codes "ROW" ∷ []) line row
-
--- the keyword of a table's entries
-abbrev pub table_name : Table → List ℕ
-table_name Cell = codes "CELL"
-table_name Init = codes "INIT"
-table_name In = codes "IN"
-table_name Out = codes "OUT"
-table_name At = codes "AT"
 
 -- the line states this
 abbrev pub States : List ℕ → Statement → Type 0

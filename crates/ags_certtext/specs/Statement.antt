@@ -1,5 +1,5 @@
 -- What the statements of a certificate say together. Where statements stand before another they are told nearest first.
-use Rattle.std.specs.Prelude.{◌≡◌, ℕ, suc, zero, ◌<◌, Bool, true, false, not, ◌||◌, ◌&&◌, ◌==◌, List, [], ◌∷◌, length, Option, Some, None, if◌then◌else◌}
+use Rattle.std.specs.Prelude.{◌≡◌, ℕ, suc, zero, ◌<◌, Bool, true, not, ◌||◌, ◌&&◌, ◌==◌, List, [], ◌∷◌, length, Option, Some, None, if◌then◌else◌}
 use Rattle.std.specs.List.{list_any, filter_map}
 use Rattle.ags_domain.specs.Value.{value_held}
 use Rattle.ags_domain.specs.declared.values.Value.{Value}
@@ -9,8 +9,9 @@ use Rattle.ags_certtext.specs.declared.statements.Entry.{Entry}
 use Rattle.ags_certtext.specs.declared.statements.RowLine.{RowLine}
 use Rattle.ags_certtext.specs.declared.statements.Statement.{Statement}
 use Rattle.ags_certtext.specs.declared.statements.Statement.TheVariants.{Start, Entry as EntryOf, May, Row, Linked, End}
-use Rattle.ags_certtext.specs.declared.statements.Table.{Table}
-use Rattle.ags_certtext.specs.declared.statements.Table.TheVariants.{Cell, Init, In, Out, At}
+use Rattle.ags_certtext.specs.declared.kinds.Table.{Table}
+use Rattle.ags_certtext.specs.declared.kinds.Table.TheVariants.{At}
+use Rattle.ags_certtext.specs.Kind.{is_table}
 use Rattle.ags_certtext.specs.Spelling.{is_offset}
 
 -- the line of a row names a location, one index at least, and one indicator at least
@@ -34,15 +35,6 @@ IsStatement (May location) = location < 4096
 IsStatement (Row row) = IsRowLine row
 IsStatement (Linked link) = IsLinkLine link
 IsStatement End = Unit {0}
-
--- one table is another
-abbrev pub is_table : (one other : Table) → Bool
-is_table Cell Cell = true
-is_table Init Init = true
-is_table In In = true
-is_table Out Out = true
-is_table At At = true
-is_table _ _ = false
 
 -- what a statement enters in a table, where it does
 abbrev pub entry_in : Table → Statement → Option Entry

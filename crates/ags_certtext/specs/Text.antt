@@ -20,7 +20,7 @@ use Rattle.ags_certtext.specs.declared.statements.Entry.{Entry}
 use Rattle.ags_certtext.specs.declared.statements.RowLine.{RowLine}
 use Rattle.ags_certtext.specs.declared.statements.Statement.{Statement}
 use Rattle.ags_certtext.specs.declared.statements.Statement.TheVariants.{Start, Row as RowOf}
-use Rattle.ags_certtext.specs.declared.statements.Table.TheVariants.{Cell, Init, In, Out}
+use Rattle.ags_certtext.specs.declared.kinds.Table.TheVariants.{Cell, Init, In, Out}
 use Rattle.ags_certtext.specs.Statement.{may_place, entries, value_at, row_entries, row_links}
 use Rattle.ags_certtext.specs.Reading.{Reading, AreReadings}
 use Rattle.ags_certtext.specs.Fault.{reading_fault}

@@ -4,14 +4,14 @@ ghost use Rattle.std.specs.Prelude.{◌≡◌, IfSome, Some};
 ghost use Rattle.ags_certtext.specs.declared.keywords.Keyword.{Keyword};
 ghost use Rattle.ags_certtext.specs.Operand.{keyword_name};
 
-use crate::statements::Table;
+use crate::kinds::Table;
 
 /// The first field of a line.
 #[derive(Clone, Copy)]
 pub(crate) enum Keyword {
     /// START.
     Start,
-    /// That of a table: CELL, INIT, IN, OUT or AT.
+    /// That of a table.
     Entry(Table),
     /// MAY.
     May,
@@ -29,16 +29,11 @@ pub(crate) fn keyword_named(text: &[u8]) -> Option<Keyword>
     ensures only { (keyword : Keyword) → keyword_name keyword ≡ text.now → result ≡ Some keyword }
 {
     match text {
-        b"AT" => Some(Keyword::Entry(Table::At)),
+        b"START" => Some(Keyword::Start),
+        b"MAY" => Some(Keyword::May),
         b"ROW" => Some(Keyword::Row),
         b"LINK" => Some(Keyword::Link),
-        b"CELL" => Some(Keyword::Entry(Table::Cell)),
-        b"INIT" => Some(Keyword::Entry(Table::Init)),
-        b"IN" => Some(Keyword::Entry(Table::In)),
-        b"OUT" => Some(Keyword::Entry(Table::Out)),
-        b"MAY" => Some(Keyword::May),
-        b"START" => Some(Keyword::Start),
         b"END" => Some(Keyword::End),
-        _ => None,
+        _ => Table::named(text).map(Keyword::Entry),
     }
 }

@@ -20,7 +20,7 @@ mod values;
 mod word_fields;
 
 pub use cert_error::{CertError, CertKind};
-pub use kinds::Kind;
+pub use kinds::{Kind, Table};
 pub use laws::{
     first_line_has_one_reading, line_has_one_reading, row_fields_have_one_reading,
     spelled_statements_are_lawful,
@@ -29,5 +29,5 @@ pub use lines::{CertLines, read_first_line};
 pub use numbers::{read_address, read_word};
 pub use operands::read_row;
 pub use signed::read_signed;
-pub use statements::{Entry, RowLine, Statement, Table};
+pub use statements::{Entry, RowLine, Statement};
 pub use values::read_value;

@@ -1,5 +1,6 @@
 //! What the lines of a certificate state.
 
+use crate::kinds::Table;
 use ags_domain::Value;
 use ags_row::Link;
 
@@ -25,21 +26,6 @@ pub struct RowLine {
     pub x: [bool; 8],
     /// Whether the indicator may be clear, and whether it may be set.
     pub v: [bool; 2],
-}
-
-/// The tables of a certificate: what their entries say of the cell or the register at an address.
-#[derive(Clone, Copy, PartialEq, Eq)]
-pub enum Table {
-    /// What an erasable cell may hold.
-    Cell,
-    /// What an erasable cell may hold at the start.
-    Init,
-    /// What an input register may hold.
-    In,
-    /// What an output register may hold.
-    Out,
-    /// What a cell may hold in the row above.
-    At,
 }
 
 /// What a line states.

@@ -13,7 +13,7 @@ use Rattle.ags_certtext.specs.declared.statements.Entry.{Entry}
 use Rattle.ags_certtext.specs.declared.statements.RowLine.{RowLine}
 use Rattle.ags_certtext.specs.declared.statements.Statement.{Statement}
 use Rattle.ags_certtext.specs.declared.statements.Statement.TheVariants as cert
-use Rattle.ags_certtext.specs.declared.statements.Table.TheVariants as table
+use Rattle.ags_certtext.specs.declared.kinds.Table.TheVariants as table
 use Rattle.ags_certtext.specs.Statement.{IsRowLine}
 use Rattle.ags_certtext.proofs.FoundLemmas.{written_found}
 use Rattle.ags_certtext.proofs.FrontLemmas.{signed_field, value_fields}
@@ -86,15 +86,10 @@ module _ (line : List ℕ) where
 
   of_shared : (statement : Statement) (its : EditLine) → StatesInCert line statement → line_of statement ≡ Some its → States line its
   of_shared (cert.Entry table.Cell entry) its states same = let is : Cell entry ≡ its = cc in subst (States line) is states
-  of_shared (cert.Entry table.Init entry) its states same = absurd cc
-  of_shared (cert.Entry table.In entry) its states same = absurd cc
-  of_shared (cert.Entry table.Out entry) its states same = absurd cc
   of_shared (cert.Entry table.At entry) its states same = let is : At entry ≡ its = cc in subst (States line) is states
-  of_shared (cert.Start location) its states same = absurd cc
-  of_shared (cert.May location) its states same = absurd cc
-  of_shared (cert.Row row) its states same = absurd cc
   of_shared (cert.Linked link) its states same = let is : Linked link ≡ its = cc in subst (States line) is states
   of_shared cert.End its states same = let is : End ≡ its = cc in subst (States line) is states
+  of_shared _ its states same = absurd cc
 
   pub shared_states : (its : EditLine) → IsShared line its → States line its
   shared_states its is = of_shared is.0 its is.1 is.2
@@ -131,12 +126,7 @@ module _ (line : List ℕ) where
       differs (codes "AT") (entry_named (codes "AT") entry (record { some = omega arith; marks = refl }) states) (λ h. omega (arith, h)) (λ h. omega (arith, h))
   shared_named (cert.Linked link) made states is = differs (codes "LINK") (link_named link states) (λ h. omega (arith, h)) (λ h. omega (arith, h))
   shared_named cert.End made states is = differs (codes "END") (end_named states) (λ h. omega (arith, h)) (λ h. omega (arith, h))
-  shared_named (cert.Entry table.Init entry) made states is = absurd cc
-  shared_named (cert.Entry table.In entry) made states is = absurd cc
-  shared_named (cert.Entry table.Out entry) made states is = absurd cc
-  shared_named (cert.Start location) made states is = absurd cc
-  shared_named (cert.May location) made states is = absurd cc
-  shared_named (cert.Row row) made states is = absurd cc
+  shared_named _ made states is = absurd cc
 
   abbrev pub HasParts : EditLine → Type 0
   HasParts its = AreNamed its ⊎ (IsShared line its × HasNone)

@@ -6,7 +6,7 @@ use Rattle.ags_certtext.specs.Operand.{IsRow}
 use Rattle.ags_certtext.specs.Spelling.{States as StatesInCert}
 use Rattle.ags_certtext.specs.declared.statements.Statement.{Statement}
 use Rattle.ags_certtext.specs.declared.statements.Statement.TheVariants as cert
-use Rattle.ags_certtext.specs.declared.statements.Table.TheVariants as table
+use Rattle.ags_certtext.specs.declared.kinds.Table.TheVariants as table
 use Rattle.ags_edits.specs.declared.keywords.Keyword.{Keyword}
 use Rattle.ags_edits.specs.declared.keywords.Keyword.TheVariants as keyword
 use Rattle.ags_edits.specs.declared.statements.EditLine.{EditLine}

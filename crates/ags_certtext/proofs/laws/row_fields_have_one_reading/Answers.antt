@@ -1,4 +1,3 @@
-use Rattle.std.proofs.Common.{sym, ◌∙◌}
 use Rattle.ags_certtext.proofs.StatementFound.{some_row, one_row}
 use Rattle.ags_certtext.proofs.StatementLemmas.{row_states, row_stands}
 use Rattle.ags_certtext.proofs.laws.row_fields_have_one_reading.Goals as goal

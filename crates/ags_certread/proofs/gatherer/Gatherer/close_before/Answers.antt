@@ -1,5 +1,8 @@
 use Rattle.std.proofs.Common.{rules}
 use Rattle.ags_certread.proofs.gatherer.Gatherer.close_before.Goals as goal
 
-pub returns-in-Row : goal.returns-in-Row
-returns-in-Row c = search rules
+pub returns-in_default : goal.returns-in_default
+returns-in_default c = search rules
+
+pub returns-in-Entry-At-default : goal.returns-in-Entry-At-default
+returns-in-Entry-At-default c = search rules
