@@ -47,29 +47,29 @@ impl Building {
         }
     }
 
-    /// The bytes that came, and what `assemble` answers for them.
-    pub fn finish(self) -> (Vec<u8>, Result<Assembled, AssembleError>)
+    /// What `assemble` answers for the bytes that came, with these bytes where they are a source without a fault.
+    pub fn finish(self) -> Result<(Vec<u8>, Assembled), AssembleError>
         requires { length self.bytes ≤ source_limit }
-        ensures bytes { result.0.items ≡ self.bytes }
-        ensures assembled { IfOk result.1 (λ made. IsAssembled self.codes self.bytes made.cards.items made.symbols made.image) }
-        ensures defines { IfOk result.1 (λ made. Defines self.codes self.bytes (card_words made)) }
-        ensures image { IfOk result.1 (λ made. IsImageOf (placed_words (card_words made)) made.image) }
-        ensures refused { IfErr result.1 (IsRefused self.bytes) }
+        ensures bytes { IfOk result (λ source. source.0.items ≡ self.bytes) }
+        ensures assembled { IfOk result (λ source. IsAssembled self.codes self.bytes source.1.cards.items source.1.symbols source.1.image) }
+        ensures defines { IfOk result (λ source. Defines self.codes self.bytes (card_words source.1)) }
+        ensures image { IfOk result (λ source. IsImageOf (placed_words (card_words source.1)) source.1.image) }
+        ensures refused { IfErr result (IsRefused self.bytes) }
         ensures faultless { (words : CardWords) → Defines self.codes self.bytes words
-            → IsOkAnd result.1 (λ made. made.cards.items ≡ placed_cards (card_lines self.bytes) words) ⊎ IsErrOf result.1 AssembleError.NoMemory }
+            → IsOkAnd result (λ source. source.1.cards.items ≡ placed_cards (card_lines self.bytes) words) ⊎ IsErrOf result AssembleError.NoMemory }
         ensures faulty { (error : SourceError) → IsFaulty self.bytes error
-            → IsErrOf result.1 (AssembleError.Source error) ⊎ IsErrOf result.1 AssembleError.NoMemory }
-        ensures one_each { IfOk result.1 (λ made. length made.cards.items ≡ length (card_lines self.bytes)) }
-        ensures within { IfOk result.1 (λ made. All IsInMemory made.cards.items) }
-        ensures spans { IfOk result.1 (λ made. AreSpans 0 (length self.bytes) made.cards.items) }
+            → IsErrOf result (AssembleError.Source error) ⊎ IsErrOf result AssembleError.NoMemory }
+        ensures one_each { IfOk result (λ source. length source.1.cards.items ≡ length (card_lines self.bytes)) }
+        ensures within { IfOk result (λ source. All IsInMemory source.1.cards.items) }
+        ensures spans { IfOk result (λ source. AreSpans 0 (length self.bytes) source.1.cards.items) }
     {
         let Building {
             alloc,
             codes,
             bytes,
         } = self;
-        let answer = assemble(alloc, &bytes, &codes);
-        (bytes, answer)
+        let made = assemble(alloc, &bytes, &codes)?;
+        Ok((bytes, made))
     }
 }
 

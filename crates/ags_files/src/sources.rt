@@ -47,9 +47,8 @@ fn finish_source<'a>(
     ensures { ReadsBytes (source_reading machine.now) building.bytes result }
 {
     let _codes = &machine.codes;
-    let (bytes, answer) = building.finish();
-    match answer {
-        Ok(made) => Ok(SourceFile { bytes, made }),
+    match building.finish() {
+        Ok((bytes, made)) => Ok(SourceFile { bytes, made }),
         Err(AssembleError::Source(error)) => Err(Unloaded::Refused(error)),
         Err(AssembleError::NoMemory) => Err(Unloaded::NoMemory),
     }

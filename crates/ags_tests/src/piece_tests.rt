@@ -17,13 +17,13 @@ fn whole(rt: &impl Abort, alloc: Global, source: &[u8]) -> Result<Assembled, Ass
     assemble(alloc, source, &Codes::standard())
 }
 
-/// The same of a source that is cut in two there, with its bytes.
+/// The same of a source that is cut in two there, with its bytes where it has no fault.
 fn in_two(
     rt: &impl Abort,
     alloc: Global,
     source: &[u8],
     cut: usize,
-) -> (Vec<u8>, Result<Assembled, AssembleError>) {
+) -> Result<(Vec<u8>, Assembled), AssembleError> {
     assert!(rt; cut <= source.len() && source.len() <= SOURCE_LIMIT);
     let mut building = Building::new(alloc, &Codes::standard());
     building.take(&source[..cut]).expect(rt, "memory");
@@ -50,14 +50,15 @@ fn is_same_source(one: &Assembled, other: &Assembled) -> bool {
         .all(|(card, twin)| is_same_card(card, twin))
 }
 
-/// Expects the answer of the whole text, and its bytes, wherever it is cut.
+/// Expects the answer of the whole text, and its bytes where it has no fault, wherever it is cut.
 fn expect_same_in_two(rt: &impl Abort, alloc: Global, source: &[u8]) {
     let wanted = whole(rt, alloc, source);
     for cut in 0..source.len() + 1 {
-        let (bytes, answer) = in_two(rt, alloc, source, cut);
-        assert!(rt; bytes.as_slice() == source);
-        match (&answer, &wanted) {
-            (Ok(made), Ok(other)) => assert!(rt; is_same_source(made, other)),
+        match (&in_two(rt, alloc, source, cut), &wanted) {
+            (Ok((bytes, made)), Ok(other)) => {
+                assert!(rt; bytes.as_slice() == source);
+                assert!(rt; is_same_source(made, other));
+            }
             (Err(AssembleError::Source(error)), Err(AssembleError::Source(other))) => {
                 assert!(rt; error == other);
             }
