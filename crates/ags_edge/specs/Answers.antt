@@ -34,8 +34,8 @@ abbrev pub looked_for : (unread held : Option (List ℕ)) → Option (List ℕ)
 looked_for (Some name) held = Some name
 looked_for None held = held
 
--- what is kept of the piece that was put last: all of it where it was taken whole, or nothing
+-- What is kept of the piece that was put last: all of it, which was taken whole, or nothing. A piece that was taken in part is not kept.
 abbrev pub KeepsPiece : (kept : List ℕ) (piece : List ℕ) (answer : PutDone) → Type 0
-KeepsPiece kept piece (put.Took count) = count ≡ length piece → (kept ≡ piece) ⊎ (kept ≡ [])
+KeepsPiece kept piece (put.Took count) = ((count ≡ length piece) × (kept ≡ piece)) ⊎ (kept ≡ [])
 KeepsPiece kept piece put.Failed = kept ≡ []
 KeepsPiece kept piece put.NoMemory = kept ≡ []

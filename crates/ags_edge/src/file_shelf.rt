@@ -1,6 +1,6 @@
 //! Files as a shelf.
 
-ghost use Rattle.std.specs.Prelude.{◌≡◌, ◌≢◌, ◌+◌, ◌-◌, ◌^◌, ◌<◌, ◌≤◌, None, Some, Ok, IfOk, IfErr, OnErr, IfSome, length, min};
+ghost use Rattle.std.specs.Prelude.{◌≡◌, ◌≢◌, ◌+◌, ◌-◌, ◌^◌, ◌<◌, ◌≤◌, None, Some, Ok, IfOk, IfErr, OnErr, IfSome, IsSomeAnd, length, min};
 ghost use Rattle.std.specs.Io.KnownBytes.{ReadConsumes};
 ghost use Rattle.std.specs.IoError.{error_kind};
 ghost use Rattle.std.specs.Option.{option_map};
@@ -241,7 +241,8 @@ impl<R: Files> Shelf for FileShelf<'_, R> {
         // The name that is kept for a message is that of the file that couldn't be read last.
         ensures unread { result ≡ Pull.Failed → IfSome self.new.unread (λ unread. string_bytes unread ≡ name.now) }
         ensures unread_stays { result ≢ Pull.Failed → self.new.unread ≡ self.old.unread }
-        // And the reason that is kept beside it is the last one too.
+        // And the reason that is kept beside it is one that makes a failure.
+        ensures reason { result ≡ Pull.Failed → IsSomeAnd self.new.reason (λ reason. (reason ≢ ErrorKind.NotFound) × (reason ≢ ErrorKind.OutOfMemory)) }
         ensures reason_stays { result ≢ Pull.Failed → self.new.reason ≡ self.old.reason }
         // Bytes and an end are those of a file of that name, and what is known of it bears them out.
         ensures open { StaysOpen self.new.held name.now from (count_of result) }

@@ -1,6 +1,6 @@
 //! Standard output as a sink.
 
-ghost use Rattle.std.specs.Prelude.{◌≡◌, ◌≢◌, ◌<◌, ◌≤◌, [], true, false, None, Ok, IfOk, IfErr, length, ◌^◌};
+ghost use Rattle.std.specs.Prelude.{◌≡◌, ◌≢◌, ◌<◌, ◌≤◌, [], true, false, None, Ok, IfOk, IfErr, IfSome, is_some, length, ◌^◌};
 ghost use Rattle.std.specs.Io.Buffered.{writer_buffer, writer_contents, writer_inner};
 ghost use Rattle.std.specs.Io.KnownBytes.{Keeps};
 ghost use Rattle.std.specs.IoError.{error_kind};
@@ -63,7 +63,8 @@ impl<W: Write + Drop> OutSink<W> {
         })
     }
 
-    /// The piece that was put last, where it was taken whole, is text, and there was memory to keep it; else nothing.
+    /// What is kept of the piece that was put last, where it is text: all of it where it was taken whole and there was memory to keep it,
+    /// else nothing.
     pub fn last_piece(&self) -> &str
         ensures text { IsUtf8 self.now.last.items → result.now ≡ self.now.last.items }
     {
@@ -106,6 +107,9 @@ impl<W: Write + Drop> Sink for OutSink<W> {
         ensures failed { result ≡ PutDone.Failed → Rose self.old.faults self.new.faults }
         ensures faults { HasCause self.old.faults self.new.faults (is_failed_put result) }
         ensures last { KeepsPiece self.new.last.items piece.now result }
+        // The reason that is kept is that of the last failure; there is none where the writer took nothing and named no error.
+        ensures reason { result ≡ PutDone.Failed → IfSome self.new.reason (λ reason. reason ≢ ErrorKind.OutOfMemory) }
+        ensures reason_stays { result ≢ PutDone.Failed → self.new.reason ≡ self.old.reason }
     {
         let written = self.out.write(piece);
         let reason = reason_of(&written);
@@ -131,6 +135,8 @@ impl<W: Write + Drop> HeldSink for OutSink<W> {
         ensures counted { self.new.faults < 2 ^ 64 }
         ensures failed { result ≡ false → Rose self.old.faults self.new.faults }
         ensures clean { result ≡ true → self.new.faults ≡ self.old.faults }
+        ensures reason { result ≡ false → is_some self.new.reason ≡ true }
+        ensures reason_stays { result ≡ true → self.new.reason ≡ self.old.reason }
     {
         let faults = self.faults;
         let flushed = self.out.flush();
