@@ -19,8 +19,7 @@ fn read_scales<'a>(
     rows: u32,
     bytes: &[u8],
 ) -> Result<Scales, Unloaded<'a, ScaleError>>
-    requires few { rows ≤ 20000 }
-    requires short { length bytes.now ≤ scales_limit }
+    requires { length bytes.now ≤ scales_limit }
     ensures { ReadsBytes (scales_reading machine.now rows) bytes.now result }
 {
     match ags_tags::read(alloc, bytes, machine, rows) {
@@ -30,7 +29,7 @@ fn read_scales<'a>(
     }
 }
 
-/// Loads the text of scales of a name, for a machine and a certificate of so many rows, which are 20,000 at most.
+/// Loads the text of scales of a name, for a machine and a certificate of so many rows.
 pub fn load_scales<'a, S: Shelf>(
     alloc: Global,
     machine: &Machine,
@@ -38,7 +37,6 @@ pub fn load_scales<'a, S: Shelf>(
     name: &'a str,
     shelf: &mut S,
 ) -> Result<Scales, Unloaded<'a, ScaleError>>
-    requires { rows ≤ 20000 }
     ensures same { S.told shelf.new ≡ S.told shelf.old }
     ensures loads { ReadsFile (scales_reading machine.now rows) (S.told shelf.old name.entry.now) name.entry.now result }
     ensures faults { HasCause (S.faults shelf.old) (S.faults shelf.new) (is_read_fault result) }

@@ -17,8 +17,7 @@ fn read_times<'a>(
     rows: u32,
     bytes: &[u8],
 ) -> Result<Budget, Unloaded<'a, BudgetError>>
-    requires few { rows ≤ 20000 }
-    requires short { length bytes.now ≤ times_limit }
+    requires { length bytes.now ≤ times_limit }
     ensures { ReadsBytes (times_reading rows) bytes.now result }
 {
     match ags_times::read(alloc, bytes, rows) {
@@ -28,14 +27,13 @@ fn read_times<'a>(
     }
 }
 
-/// Loads the text of times of a name, for a certificate of so many rows, which are 20,000 at most.
+/// Loads the text of times of a name, for a certificate of so many rows.
 pub fn load_times<'a, S: Shelf>(
     alloc: Global,
     rows: u32,
     name: &'a str,
     shelf: &mut S,
 ) -> Result<Budget, Unloaded<'a, BudgetError>>
-    requires { rows ≤ 20000 }
     ensures same { S.told shelf.new ≡ S.told shelf.old }
     ensures loads { ReadsFile (times_reading rows) (S.told shelf.old name.entry.now) name.entry.now result }
     ensures faults { HasCause (S.faults shelf.old) (S.faults shelf.new) (is_read_fault result) }

@@ -105,7 +105,6 @@ pub(crate) fn load_times<'a, S: Shelf>(
     name: &'a str,
     shelf: &mut S,
 ) -> Result<Budget, Unloaded<'a, Refusal>>
-    requires { rows ≤ 20000 }
     ensures same { S.told shelf.new ≡ S.told shelf.old }
     ensures loads { LoadsFile program (S.told shelf.old) (file.Times rows) name.entry.now (result_map_both (λ budget. budget) (end_of program line_of status_of) result) }
     ensures ready { IfOk result (λ budget. length budget ≡ rows) }
@@ -123,7 +122,6 @@ pub(crate) fn load_scales<'a, S: Shelf>(
     name: &'a str,
     shelf: &mut S,
 ) -> Result<Scales, Unloaded<'a, Refusal>>
-    requires { rows ≤ 20000 }
     ensures same { S.told shelf.new ≡ S.told shelf.old }
     ensures loads { LoadsFile program (S.told shelf.old) (file.ScaleTags machine.now rows) name.entry.now (result_map_both (λ scales. scales) (end_of program line_of status_of) result) }
     ensures ready { IfOk result (λ scales. length scales.rows ≡ rows) }

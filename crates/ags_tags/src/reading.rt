@@ -31,8 +31,7 @@ fn error_of(error: TextError<ScaleKind>) -> ScaleError
 /// its first fault (docs/SCALES.md, Faults). A line's number counts every line, skipped ones too; where END is missing it is the line
 /// after the last. On one line the fault of the least number comes. `NoMemory` may come at any text, and says nothing of it.
 pub fn read(alloc: Global, bytes: &[u8], machine: &Machine, rows: u32) -> Result<Scales, ScaleError>
-    requires few { rows ≤ 20000 }
-    requires short { length bytes.now ≤ scales_limit }
+    requires { length bytes.now ≤ scales_limit }
     // The text is one of scales without a fault, and these are its tags; or its first fault is this one.
     ensures read { IfOk result (λ scales. IsScalesOf machine.now.ports rows bytes.now scales) }
     ensures refused { IfErr result (IsRefused machine.now.ports rows bytes.now) }

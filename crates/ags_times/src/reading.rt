@@ -29,8 +29,7 @@ fn error_of(error: TextError<BudgetKind>) -> BudgetError
 /// fault (docs/TIMES.md, Faults). A line's number counts every line, skipped ones too; where END is missing it is the line after the
 /// last. On one line the fault of the least number comes. `NoMemory` may come at any text, and says nothing of it.
 pub fn read(alloc: Global, bytes: &[u8], rows: u32) -> Result<Budget, BudgetError>
-    requires few { rows ≤ 20000 }
-    requires short { length bytes.now ≤ 4194304 }
+    requires { length bytes.now ≤ 4194304 }
     // The text is one of times without a fault, and these are its bounds; or its first fault is this one.
     ensures read { IfOk result (λ budget. IsBudgetOf rows bytes.now budget) }
     ensures refused { IfErr result (IsRefused rows bytes.now) }
