@@ -12,3 +12,4 @@ pub mod FoundLemmas
 pub mod FlagFound
 pub mod KeywordLemmas
 pub mod StatementFound
+pub mod LeastLemmas

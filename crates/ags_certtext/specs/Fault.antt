@@ -1,4 +1,5 @@
--- The fault of a line of a certificate, given the registers and the lines before it.
+-- The fault of a statement of a certificate, given the registers, the version and the statements before it, and the fault of a line's
+-- reading.
 use Rattle.std.specs.Prelude.{ℕ, Bool, true, false, not, ◌||◌, ◌&&◌, ◌==◌, nat_le, List, length, Option, Some, None}
 use Rattle.std.specs.List.{list_any, filter, filter_map}
 use Rattle.ags_domain.specs.Value.{value_held}

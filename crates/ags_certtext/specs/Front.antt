@@ -109,7 +109,7 @@ pub record BeginsWithFlags (count name : ℕ) (text : List ℕ) (flags : List Bo
   pub named : next_field text ≡ name ∷ []
   pub flags_are : AreFlags count (next_field (behind_field text)) flags
 
--- a number of so many octal digits, and nothing after it
+-- a number of four octal digits, and nothing after it
 pub record IsPlace (text : List ℕ) (location : ℕ) : Type 0 where
   pub location_is : Writes 8 4 (next_field text) location
   pub ends : AreBlanks (behind_field text)

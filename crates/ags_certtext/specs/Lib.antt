@@ -5,6 +5,7 @@ pub mod Reading
 pub mod Statement
 pub mod Kind
 pub mod Fault
+pub mod Condition
 pub mod Text
 -- what stands below
 pub mod Front

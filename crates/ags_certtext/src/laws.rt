@@ -2,10 +2,13 @@
 
 ghost use Rattle.std.specs.Prelude.{◌≡◌, ◌⊎◌, ℕ, List};
 ghost use Rattle.ags_text.specs.Field.{AreFields};
+ghost use Rattle.ags_ports.specs.Port.{Registers};
 ghost use Rattle.ags_frame.specs.Line.{Spells};
 ghost use Rattle.ags_certtext.specs.declared.statements.Statement.{Statement};
 ghost use Rattle.ags_certtext.specs.Reading.{Reading, IsFirstReading, IsReading};
 ghost use Rattle.ags_certtext.specs.declared.statements.RowLine.{RowLine};
+ghost use Rattle.ags_certtext.specs.Condition.{least_fault};
+ghost use Rattle.ags_certtext.specs.Fault.{fault_in};
 ghost use Rattle.ags_certtext.specs.Front.{AreAtFront};
 ghost use Rattle.ags_certtext.specs.Operand.{IsRow};
 ghost use Rattle.ags_certtext.specs.Spelling.{States, StatesRowBehind};
@@ -26,6 +29,13 @@ pub fn line_has_one_reading()
 /// A statement that a line spells has addresses and locations below 4096, and a row has an index and an indicator.
 pub fn spelled_statements_are_lawful()
     ensures { (line : List ℕ) (statement : Statement) → Spells States line statement → IsStatement statement }
+{}
+
+/// Of several faults of a statement the one of the least number is told: the first kind, by their numbers, whose condition the statement
+/// meets after those before it. There is none where it meets none.
+pub fn least_fault_is_told()
+    ensures { (ports : Registers) (version : ℕ) (before : List Statement) (statement : Statement)
+        → fault_in ports version before statement ≡ least_fault ports version before statement }
 {}
 
 /// A text's fields state one row, or none. What `read_row` reads after some fields of a line is the row that the line states after them.

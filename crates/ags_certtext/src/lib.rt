@@ -22,8 +22,8 @@ mod word_fields;
 pub use cert_error::{CertError, CertKind};
 pub use kinds::{Kind, Table};
 pub use laws::{
-    first_line_has_one_reading, line_has_one_reading, row_fields_have_one_reading,
-    spelled_statements_are_lawful,
+    first_line_has_one_reading, least_fault_is_told, line_has_one_reading,
+    row_fields_have_one_reading, spelled_statements_are_lawful,
 };
 pub use lines::{CertLines, read_first_line};
 pub use numbers::{read_address, read_word};
