@@ -38,7 +38,8 @@ abbrev pub all_fit : List Parts → Bool
 all_fit numbers = list_all (λ number. is_some (decimal_word number)) numbers
 
 -- The words of a card at its place, by the table of codes: of an order its code, its index and the address that its operand comes
--- to, of a DEC the words nearest to its values, of an OCT its own. A word is 0 where its card has a fault.
+-- to, of a DEC the words nearest to its values, of an OCT its own. A symbol that isn't defined counts as 0 in the address, and a DEC's
+-- word is 0 where it doesn't fit.
 abbrev pub words_at : List ℕ → List Entry → ℕ → Body → List ℕ
 words_at codes S at Comment = []
 words_at codes S at (Order order terms indexed) = order_word codes order indexed (unsigned_abs (operand S at terms)) ∷ []

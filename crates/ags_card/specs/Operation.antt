@@ -68,7 +68,7 @@ takes_one op.Dec = false
 takes_one op.Oct = false
 takes_one op.End = false
 
--- whether it gives its card's symbol a value, and so needs one
+-- whether its operand is the value of its card's symbol, so that the card must have one
 abbrev pub gives_value : Operation → Bool
 gives_value (op.OfOrder order) = false
 gives_value op.Org = false

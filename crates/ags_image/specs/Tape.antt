@@ -34,7 +34,7 @@ pub record AreWordsInOrder (image : List (Option ℕ)) (words : List PlacedWord)
 
 -- ---- as it is read
 
--- what a line puts at a place always says something
+-- digits put a word at a place, and other bytes have no form
 abbrev pub put : Option PlacedWord → Option (Option PlacedWord)
 put None = None
 put (Some placed) = Some (Some placed)

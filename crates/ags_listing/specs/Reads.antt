@@ -14,7 +14,7 @@ use Rattle.ags_listing.specs.declared.list_error.ListError.TheVariants.{BadLine,
 abbrev pub is_digit : ℕ → Bool
 is_digit b = nat_lt 47 b && nat_lt b 58
 
--- a column is blank: spaces alone
+-- a byte is a space
 abbrev pub is_space : ℕ → Bool
 is_space b = b == 32
 

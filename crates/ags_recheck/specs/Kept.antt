@@ -39,7 +39,8 @@ module _ (machine : Machine) (image : List (Option ℕ)) (stated : Stated) where
     pub whole : length items ≡ length stated.rows
     pub kept : AreItemsKept items
 
-  -- These are the rows before an edit put the new one at a position; the set of each of the others has only locations of its posts.
+  -- These are the rows before an edit put the new one at a position; where the set of another row has one of two locations, that row
+  -- has a post there.
   pub record IsBeforeEdit (edited one other : ℕ) (before : List (Row Value)) (new : Row Value) (items : List Item) : Type 0 where
     pub whole : length before ≡ length stated.rows
     pub new_stands : (row : Row Value) → edited < length stated.rows → slice_index_or stated.rows edited row ≡ row → row ≡ new

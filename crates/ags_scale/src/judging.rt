@@ -78,8 +78,9 @@ fn answer<L: Ledger>(
 /// Whether scales are accepted that were read for a machine and a certificate's number of rows (docs/SCALES.md): the verdict's refusal
 /// where the certificate isn't accepted; or that no row holds the start with raw tags; or else the first case in the verdict's order
 /// whose tags mix, or are taken by no row that covers a post. The scales agree just where they are accepted. Where they are, and the
-/// certificate is one for the machine's registers, no tagged run over a run from a start faults, and sums, shifts and products stand for
-/// what their scales say. It takes no memory, and at most twice as many steps as the certificate has cases.
+/// certificate is one for the machine's registers, no tagged run over a run from a start faults, and sums, differences and what ALS, LRS
+/// and MPY leave without overflow stand for what their scales say. It takes no memory, and at most twice as many steps as the certificate
+/// has cases.
 pub fn judge<L: Ledger>(
     machine: &Machine,
     image: &Image,

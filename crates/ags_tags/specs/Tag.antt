@@ -32,7 +32,7 @@ output_tag scales address = tag_at scales.outputs address
 abbrev pub any_tags : RowTags
 any_tags = record { a = Any; q = Any }
 
--- the tags of the row with a number, from 1; of one that isn't there nothing is known
+-- the tags of the row with a number, from 1, and for 0 those of the first; where there are fewer rows nothing is known
 abbrev pub row_tags_at : List RowTags → ℕ → RowTags
 row_tags_at rows number = get_or rows (number - 1) any_tags
 

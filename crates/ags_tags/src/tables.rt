@@ -130,7 +130,7 @@ impl Scales {
         self.outputs.tag(address)
     }
 
-    /// The tags of the row with a number, from 1; any where there is no such row.
+    /// The tags of the row with a number, from 1, which are those of the first row for 0 too; any where there are fewer rows.
     pub fn row(&self, number: u32) -> RowTags
         ensures { result ≡ tags_of_row self.now number }
     {

@@ -35,7 +35,7 @@ impl Budget {
         Budget { stated }
     }
 
-    /// The bound of the row with a number, from 1; 0 where there is no such row.
+    /// The bound of the row with a number, from 1, which is that of the first row for 0 too; 0 where there are fewer rows.
     pub fn bound(&self, number: u32) -> u32
         ensures bound { result ≡ bound_of self.now number }
         ensures most { result ≤ 20000 }

@@ -374,7 +374,7 @@ abbrev pub JudgesScales : Call → Type 0
 JudgesScales = JudgesWith text_of_scales
 
 -- The scales are kept: no tagged run over a run of the certificate faults, so that no sum, store or output ever has two unlike tags meet,
--- and each sum, shift and product stands for what its scales say. The line says that the scales agree.
+-- and each sum and difference, and what ALS, LRS and MPY leave, stands for what its scales say. The line says that the scales agree.
 abbrev pub IsTaggedOn : Machine → (source certificate scales text : List ℕ) → Type 0
 IsTaggedOn = IsKeptWith text_of_scales (λ machine image cert declared. KeepsScales value_meaning machine image (certificate_of cert) declared)
     (λ machine cert declared cases line. line ≡ scaled_line (Agree (length cert.rows) cases))

@@ -29,8 +29,8 @@ use ags_steps::Steps;
 use ags_word::Word;
 use std::sync::ledger::Ledger;
 
-/// The posts of a case, or the first reason why the checker stops at it. The case is a word of the row's code, an index and an
-/// indicator of the row. Where there are posts, the step of the machine from each state of the case follows them
+/// The posts of a case, or the first reason why the checker stops at it. The case is told by a word, an index and an indicator; the
+/// checker asks of those that the row has. Where there are posts, the step of the machine from each state of the case follows them
 /// (docs/CHECKER.md, What an order leaves). Each post goes to a location of the memory. The call is one step of the counter, also
 /// where it stops.
 pub fn posts<D: Domain, L: Ledger>(
