@@ -1,6 +1,7 @@
 #!/usr/bin/env bash
-# Runs each command of ags once for each of its allocations, with that allocation refused: the status is 11, and the output is a prefix
-# of what the command prints. It takes the path of a built program and wants a C compiler; it is no part of the gate.
+# Runs eight commands of ags once for each of their allocations, with that allocation refused: the status is 11, and the output is a
+# prefix of what the command prints; or, where only standard error wanted the memory, the whole answer is there. It takes the path of a
+# built program and wants a C compiler; it is no part of the gate.
 set -u
 program=$(realpath "${1:?the path of a built program}") || exit 2
 here=$(cd "$(dirname "$(readlink -f "${BASH_SOURCE[0]}")")" && pwd) || exit 2
