@@ -66,7 +66,7 @@ counted() {
 announce() {
   local minutes processors
   processors=$(nproc) || return
-  at_once=$(awk '/^MemAvailable:/ { print int($2 / 3000000) }' /proc/meminfo) || return
+  at_once=$(LC_ALL=C free -k | awk '/^Mem:/ { print int($7 / 3000000) }') || return
   if [ "$at_once" -gt $((processors * 3 / 2)) ]; then at_once=$((processors * 3 / 2)); fi
   if [ "$at_once" -lt 1 ]; then at_once=1; fi
   if [ "$at_once" -lt "$processors" ]; then processors=$at_once; fi
