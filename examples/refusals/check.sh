@@ -58,7 +58,7 @@ refuses 02-StartUncovered 'REFUSED 2 StartUncovered' \
 
 refuses 03-CodeUnknown 'REFUSED 3 CodeUnknown ROW 5' \
   'row 5:' '  03-CodeUnknown.cert:8: ROW 0017 A ANY Q ANY X 0 V 0' \
-  'card at 0017:' '  none: no card has a word there, so what stands there is what the row says' \
+  'card at 0017:' '  none: no card has a word there, so what stands there is what the row says by an AT line, or else the CELL line' \
   'CELL line of 0017:' '  none: the cell may hold every word'
 
 refuses 04-NoOrder 'REFUSED 4 NoOrder ROW 3 WORD 000000' \
