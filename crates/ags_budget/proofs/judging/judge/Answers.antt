@@ -1,3 +1,4 @@
+use Rattle.std.proofs.Common.{rules}
 use Rattle.ags_certtype.specs.Cert.{certificate_of}
 use Rattle.ags_budget.proofs.judging.judge.Goals as goal
 
@@ -12,3 +13,6 @@ returns-in-Ok-clause-kept g c = λ rows cases greatest is suits.
     c.in-Ok.ensures.timed
     (c.check.ensures.safe c.in-Certified.rows c.in-Certified.cases c.in-Certified.is suits)
     c.bounds_are_times.ensures
+
+pub returns-in-Refused-clause-timed : goal.returns-in-Refused-clause-timed
+returns-in-Refused-clause-timed g c = search rules

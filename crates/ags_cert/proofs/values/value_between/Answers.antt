@@ -1,4 +1,4 @@
-use Rattle.std.proofs.Common.{Some, [], sym, ◌∙◌}
+use Rattle.std.proofs.Common.{Some, [], sym, ◌∙◌, rules}
 use Rattle.ags_cert.proofs.LongestLemmas.{part_whole, part_begins, told_stands, no_word_behind, none_left, some_left}
 use Rattle.ags_cert.proofs.values.value_between.Goals as goal
 
@@ -23,3 +23,6 @@ returns-else-is_empty-clause-only c = λ value is.
     let whole = part_whole c.args.line.now c.args.from c.args.behind c.requires.ordered in
     absurd (some_left c.in-Some.rest.now c.if-is_empty.ensures
     (c.in-Some.ensures.only (Some value) [] (part_begins c.args.line.now _ c.args.from c.args.behind value whole is) no_word_behind).1)
+
+pub returns-else-is_empty-clause-found : goal.returns-else-is_empty-clause-found
+returns-else-is_empty-clause-found c = search rules

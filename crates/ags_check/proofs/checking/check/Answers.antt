@@ -1,4 +1,4 @@
-use Rattle.std.proofs.Common.{sym, subst, length}
+use Rattle.std.proofs.Common.{sym, subst, length, rules}
 use Rattle.ags_domain.specs.Value.{value_meaning}
 use Rattle.ags_domain.specs.declared.values.Value.{Value}
 use Rattle.ags_verdict.specs.Verdict.{IsVerdict}
@@ -42,3 +42,6 @@ returns-clause-refused g c = λ refusal.
           (c.refusal_tells_the_first_fault.ensures.told c.args.machine.now c.args.image.now cert told.0 c.machine_is_made_of_tables.ensures
           c.get-first.ensures.image told.1)),
     )
+
+pub returns-clause-verdict : goal.returns-clause-verdict
+returns-clause-verdict g c = search rules

@@ -1,3 +1,4 @@
+use Rattle.std.proofs.Common.{rules}
 use Rattle.ags_process.proofs.EndedLemmas.{rose_kept, unwritten_rose}
 use Rattle.ags_process.proofs.running.run_over.Goals as goal
 
@@ -12,3 +13,9 @@ returns-clause-unwritten g c = λ not_written.
 pub returns-clause-write_fault : goal.returns-clause-write_fault
 returns-clause-write_fault g c = λ is.
     rose_kept _ _ _ (c.answer-status.ensures.write_fault is) c.finish-written.ensures.faults_stay c.finish-written.ensures.counted
+
+pub returns-clause-content : goal.returns-clause-content
+returns-clause-content g c = search rules
+
+pub returns-clause-written : goal.returns-clause-written
+returns-clause-written g c = search rules

@@ -1,4 +1,4 @@
-use Rattle.std.proofs.Common.{ℕ, List, ap, subst, ◌∙◌}
+use Rattle.std.proofs.Common.{ℕ, List, ap, subst, ◌∙◌, rules}
 use Rattle.std.specs.Prelude.{Some, None}
 use Rattle.ags_domain.specs.Value.{value_meaning}
 use Rattle.ags_domain.specs.declared.values.Value.{Value}
@@ -30,3 +30,6 @@ returns-in-None-clause-kept g c =
     subst (λ (l : Limiting Value). IsCode value_meaning c.args.image.now l c.args.row.now None) c.limits.ensures.limits c.in-None.ensures in
     row_kept_none c.args.machine.now c.args.image.now c.args.cert.now c.args.row.now (c.code_has_the_word_of_each_state.ensures.one) is_code
     c.clear.new.self c.clear.ensures
+
+pub cases_noted-requires-clause-empty : goal.cases_noted-requires-clause-empty
+cases_noted-requires-clause-empty g c = search rules

@@ -10,3 +10,6 @@ returns-then-within-clause-q g c = search rules
 pub returns-else-within-clause-all : goal.returns-else-within-clause-all
 unfolding cell_limit input_limit output_limit is_named cell_value post_value
 returns-else-within-clause-all g c = search rules
+
+pub returns-then-within-clause-location : goal.returns-then-within-clause-location
+returns-then-within-clause-location g c = search rules

@@ -25,3 +25,6 @@ loop-row-preserved g c = (
   steps_further g.D.Domain.meaning c.args.image.now c.args.limits.now c.args.rows.now c.loop-row.row-index c.args.steps.now c.loop-row.steps c.walk_row_at.new.steps
       c.row-item.result c.row-item.result c.loop-row-test.true c.row-item.is c.loop-row.invariant.3 c.walk_row_at.ensures.steps,
 )
+
+pub loop-row-init : goal.loop-row-init
+loop-row-init g c = search rules
