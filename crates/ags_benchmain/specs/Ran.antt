@@ -22,13 +22,13 @@ IsUnbegun old new counts = (new ≡ old) × (counts.faults_now ≡ counts.faults
 abbrev pub RanThree : Told → (words : List (List ℕ)) → (old new : Option (List ℕ)) → Status → Counts → Type 0
 RanThree told words old new status counts = RunsThree told words old new status counts ⊎ ((status ≡ NoMemory) × IsUnbegun old new counts)
 
--- The bench came to a status, and then the sink was finished: what it held was written, and the run ends with that status; or it wasn't,
--- the sink failed once more, and the run ends with the status of that.
+-- The bench came to a status, and then the sink was finished: what it held was written without a further fault, and the run ends with
+-- that status; or it wasn't, the sink failed once more, and the run ends with the status of that.
 pub record EndsThree (told : Told) (words : List (List ℕ)) (old new : Option (List ℕ)) (result : Status) (counts : Counts) (Written : Type 0) : Type 0 where
   pub status : Status
   pub failures : ℕ
   pub ran : RanThree told words old new status (record counts { sink_faults_now = failures })
-  pub ended : ((result ≡ status) × Written) ⊎ ((result ≡ WriteFault) × Rose failures counts.sink_faults_now)
+  pub ended : ((result ≡ status) × (counts.sink_faults_now ≡ failures) × Written) ⊎ ((result ≡ WriteFault) × Rose failures counts.sink_faults_now)
 
 -- the second of words, where there are so many
 abbrev pub second_word : List (List ℕ) → Option (List ℕ)

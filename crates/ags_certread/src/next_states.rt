@@ -1,6 +1,6 @@
 //! What comes of one line, and of the end of the text.
 
-ghost use Rattle.std.specs.Prelude.{◌≡◌, ◌+◌, ◌-◌, ◌^◌, ◌<◌, min, List, ℕ, IfOk, IfErr, OnOk};
+ghost use Rattle.std.specs.Prelude.{◌≡◌, ◌+◌, ◌-◌, ◌^◌, ◌<◌, min, List, ℕ, IfOk, IfErr, OnOk, IsErrOf};
 ghost use Rattle.ags_ports.specs.Port.{Registers};
 ghost use Rattle.ags_certtext.specs.Text.{IsCertOf, IsRefused};
 ghost use Rattle.ags_certread.specs.Before.{IsOfStatements};
@@ -113,6 +113,7 @@ impl EndedLines {
         ensures taken { OnOk result (GoesOn self.old.state self.old line.now self.new) }
         ensures ports { self.new.ports ≡ self.old.ports }
         ensures spent { IfErr result (λ _. self.new.state ≡ State.Spent) }
+        ensures stays_spent { self.old.state ≡ State.Spent → self.new.state ≡ State.Spent }
     {
         if !self.are_open() {
             return Ok(());
@@ -157,6 +158,7 @@ impl EndedLines {
     pub(crate) fn finish(self) -> Result<Cert, CertError>
         ensures read { IfOk result (λ cert. (text : List ℕ) → HasRead self.state self text → IsCertOf self.ports text cert) }
         ensures refused { IfErr result (λ error. (text : List ℕ) → HasRead self.state self text → IsRefused self.ports text error) }
+        ensures spent { self.state ≡ State.Spent → IsErrOf result CertError.NoMemory }
     {
         let EndedLines {
             alloc,

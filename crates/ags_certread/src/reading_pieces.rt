@@ -1,6 +1,6 @@
 //! The reader of certificates that come in pieces.
 
-ghost use Rattle.std.specs.Prelude.{◌≡◌, ◌≤◌, ℕ, List, [], ◌∷◌, ◌++◌, IfOk, IfErr, OnOk, length};
+ghost use Rattle.std.specs.Prelude.{◌≡◌, ◌≤◌, ℕ, List, [], ◌∷◌, ◌++◌, IfOk, IfErr, OnOk, IsErrOf, length};
 ghost use Rattle.std.proofs.Common.{refl, ◌∙◌};
 ghost use Rattle.ags_outside.specs.Taken.{TookMore};
 ghost use Rattle.ags_text.specs.Line.{HasNoFeed};
@@ -89,12 +89,13 @@ impl CertReader {
     }
 
     /// The certificate that the bytes taken state for the registers, or its first fault: what `read` answers for these bytes. A reader
-    /// for which memory was wanting took no bytes, and nothing is said of its answer.
+    /// for which memory was wanting answers just that.
     pub fn finish(self) -> Result<Cert, CertError>
         ensures read { IfOk result (λ cert. (text : List ℕ) → took_cert self text → length text ≤ certificate_limit
             → IsCertOf self.ports text cert) }
         ensures refused { IfErr result (λ error. (text : List ℕ) → took_cert self text → length text ≤ certificate_limit
             → IsRefused self.ports text error) }
+        ensures spent { self.state ≡ State.Spent → IsErrOf result CertError.NoMemory }
     {
         let CertReader { rest, lines } = self;
         let line = strip_return(rest.as_slice());

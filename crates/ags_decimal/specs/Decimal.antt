@@ -1,5 +1,5 @@
 -- A decimal and its word: the decimal's value, rounded to the nearest whole number by one division of whole numbers.
-use Rattle.std.specs.Prelude.{ℕ, ◌+◌, ◌*◌, ◌/◌, ◌<◌, ◌≤◌, ◌^◌, Bool, ℤ, pos, negsuc, ◌-ℤ◌, ◌≤ℤ◌, neg_ℤ, Option, if◌then◌else◌}
+use Rattle.std.specs.Prelude.{ℕ, ◌+◌, ◌*◌, ◌/◌, ◌<◌, ◌≤◌, ◌^◌, Bool, false, ℤ, pos, negsuc, ◌-ℤ◌, ◌≤ℤ◌, neg_ℤ, Option, if◌then◌else◌}
 use Rattle.ags_word.specs.Word.{word_of_value}
 
 -- A decimal: the number that its digits write, without a sign and without the point; the power of ten that it is times;
@@ -10,6 +10,10 @@ pub record Parts : Type 0 where
   pub digits : ℕ
   pub power : ℤ
   pub scale : ℤ
+
+-- the number 0, at the scale that a number has where none is written
+abbrev pub zero : Parts
+zero = record { negative = false; digits = 0; power = pos 0; scale = pos 17 }
 
 -- ten digits at most, a power from -12 to 12 and a scale from -30 to 60
 pub record IsWithinLimits (parts : Parts) : Type 0 where

@@ -35,6 +35,10 @@ impl Model for Decimal {
 }
 
 impl Default for Decimal {
+    ghost use Rattle.ags_decimal.specs.Decimal.{zero};
+
+    ghost is_default = { λ d. d ≡ zero };
+
     /// The number 0, with the scale that a number has where none is written.
     fn default() -> Decimal {
         Decimal {

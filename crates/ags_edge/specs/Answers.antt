@@ -39,3 +39,9 @@ abbrev pub KeepsPiece : (kept : List ℕ) (piece : List ℕ) (answer : PutDone) 
 KeepsPiece kept piece (put.Took count) = ((count ≡ length piece) × (kept ≡ piece)) ⊎ (kept ≡ [])
 KeepsPiece kept piece put.Failed = kept ≡ []
 KeepsPiece kept piece put.NoMemory = kept ≡ []
+
+-- a sink's count of faults after an answer: one more where it failed, up to the last value of a counter
+abbrev pub put_faults_after : ℕ → PutDone → ℕ
+put_faults_after before (put.Took count) = before
+put_faults_after before put.Failed = min (before + 1) (2 ^ 64 - 1)
+put_faults_after before put.NoMemory = before

@@ -1,11 +1,11 @@
 //! Standard output as a sink.
 
 ghost use Rattle.std.specs.Prelude.{◌≡◌, ◌≢◌, ◌<◌, ◌≤◌, [], true, false, None, Ok, IfOk, IfErr, IfSome, is_some, length, ◌^◌};
-ghost use Rattle.std.specs.Io.Buffered.{writer_buffer, writer_contents, writer_inner};
+ghost use Rattle.std.specs.Io.Buffered.{writer_buffer, writer_capacity, writer_contents, writer_inner};
 ghost use Rattle.std.specs.Io.KnownBytes.{Keeps};
 ghost use Rattle.std.specs.IoError.{error_kind};
 ghost use Rattle.std.specs.Str.{IsUtf8};
-ghost use Rattle.ags_edge.specs.Answers.{KeepsPiece, PutAppends};
+ghost use Rattle.ags_edge.specs.Answers.{KeepsPiece, PutAppends, put_faults_after};
 ghost use Rattle.ags_outside.specs.Count.{HasCause, Rose};
 ghost use Rattle.ags_outside.specs.Sink.{TookWithin, is_failed_put};
 
@@ -49,6 +49,7 @@ impl<W: Write + Drop> OutSink<W> {
     pub fn new(alloc: Global, writer: W) -> io::Result<OutSink<W>>
         ensures writer { IfOk result (λ sink. writer_inner sink.out ≡ writer) }
         ensures empty { IfOk result (λ sink. writer_buffer sink.out ≡ []) }
+        ensures room { IfOk result (λ sink. writer_capacity sink.out ≡ 65536) }
         ensures faults { IfOk result (λ sink. sink.faults ≡ 0) }
         ensures last { IfOk result (λ sink. sink.last.items ≡ []) }
         ensures reason { IfOk result (λ sink. sink.reason ≡ None) }
@@ -67,6 +68,7 @@ impl<W: Write + Drop> OutSink<W> {
     /// else nothing.
     pub fn last_piece(&self) -> &str
         ensures text { IsUtf8 self.now.last.items → result.now ≡ self.now.last.items }
+        ensures no_text { (IsUtf8 self.now.last.items → ⊥) → result.now ≡ [] }
     {
         match str::from_utf8(&self.last) {
             Ok(text) => text,
@@ -106,6 +108,7 @@ impl<W: Write + Drop> Sink for OutSink<W> {
         ensures bytes { PutAppends (writer_contents W.contents self.old.out) (writer_contents W.contents self.new.out) piece.now result }
         ensures failed { result ≡ PutDone.Failed → Rose self.old.faults self.new.faults }
         ensures faults { HasCause self.old.faults self.new.faults (is_failed_put result) }
+        ensures counted { self.new.faults ≡ put_faults_after self.old.faults result }
         ensures last { KeepsPiece self.new.last.items piece.now result }
         // The reason that is kept is that of the last failure; there is none where the writer took nothing and named no error.
         ensures reason { result ≡ PutDone.Failed → IfSome self.new.reason (λ reason. reason ≢ ErrorKind.OutOfMemory) }

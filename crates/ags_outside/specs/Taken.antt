@@ -20,6 +20,12 @@ pub record TookFile {T : Type 0} (took : T → List ℕ → Type 0) (told : Told
   pub tells : FetchTells told limit (Ok bytes)
   pub more : TookMore took old new bytes
 
+-- it took at most so many bytes
+pub record TookAtMost {T : Type 0} (took : T → List ℕ → Type 0) (limit : ℕ) (old new : T) : Type 0 where
+  pub bytes : List ℕ
+  pub within : length bytes ≤ limit
+  pub more : TookMore took old new bytes
+
 -- of a piece all was taken but what is left
 pub record TakenSoFar {T : Type 0} (took : T → List ℕ → Type 0) (old new : T) (piece left : List ℕ) : Type 0 where
   pub done : List ℕ

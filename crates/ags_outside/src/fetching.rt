@@ -4,7 +4,7 @@ ghost use Rattle.std.specs.Prelude.{◌≡◌, ◌+◌, ◌≤◌, min, length, 
 ghost use Rattle.std.specs.Result.{result_map_both};
 ghost use Rattle.ags_outside.specs.Count.{HasCause, Rose};
 ghost use Rattle.ags_outside.specs.Fetch.{FetchTells, is_absence, is_read_fault};
-ghost use Rattle.ags_outside.specs.Taken.{TookFile};
+ghost use Rattle.ags_outside.specs.Taken.{TookFile, TookAtMost};
 
 use crate::{Pull, Shelf, Taker};
 use std::alloc::Global;
@@ -53,6 +53,7 @@ pub fn fetch_into<S: Shelf, T: Taker>(
     ensures same { S.told shelf.new ≡ S.told shelf.old }
     ensures took { IfOk result (λ _. TookFile T.took (S.told shelf.old name.now) limit taker.old taker.new) }
     ensures stays { OnOk result (T.stays taker.old taker.new) }
+    ensures handed { IsErrOf result FetchError.TooLong → TookAtMost T.took limit taker.old taker.new }
     ensures tells { IfErr result (λ error. FetchTells (S.told shelf.old name.now) limit (Err error)) }
     ensures absent { IsErrOf result FetchError.Absent → Rose (S.absences shelf.old) (S.absences shelf.new) }
     ensures read_fault { IsErrOf result FetchError.ReadFault → Rose (S.faults shelf.old) (S.faults shelf.new) }

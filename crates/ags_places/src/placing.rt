@@ -1,6 +1,6 @@
 //! What a card does at its place (docs/SOURCE.md, Places).
 
-ghost use Rattle.std.specs.Prelude.{◌≡◌, ◌+◌, ◌≤◌, ◌++◌, pos, None, Some, OnOk, IfOk, IfErr};
+ghost use Rattle.std.specs.Prelude.{◌≡◌, ◌+◌, ◌≤◌, ◌++◌, pos, None, Some, OnOk, OnErr, IfOk, IfErr};
 ghost use Rattle.std.specs.Option.{option_or};
 ghost use Rattle.ags_symbol.specs.Symbol.{IsValue, sum_of};
 ghost use Rattle.ags_places.specs.Effect.{IsEffect, IsUnplaced};
@@ -166,6 +166,7 @@ fn define_symbol(
     ensures defined { OnOk result (symbols.new ≡ symbols.old ++ pair_of symbol value number) }
     ensures once { OnOk result (twice symbols.old symbol ≡ None) }
     ensures unplaced { IfErr result (IsUnplaced (twice symbols.old symbol)) }
+    ensures unchanged { OnErr result (symbols.new ≡ symbols.old) }
 {
     let Some(name) = symbol else {
         return Ok(());
@@ -209,6 +210,7 @@ pub fn place_card(
     ensures next { IfOk result (λ next. next ≡ place_after symbols.old place card.now.body) }
     ensures small { IfOk result (λ next. next ≤ 4096) }
     ensures unplaced { IfErr result (IsUnplaced (place_fault_at symbols.old place card.now)) }
+    ensures unchanged { OnErr result (symbols.new ≡ symbols.old) }
 {
     let effect = match effect_of(symbols, place, &card.body) {
         Ok(effect) => effect,

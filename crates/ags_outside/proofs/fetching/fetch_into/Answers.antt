@@ -1,4 +1,4 @@
-use Rattle.std.proofs.Common.{◌≡◌, ◌≤◌, length, arith, refl, drop, ◌∙◌, length-append, length-drop, length-take}
+use Rattle.std.proofs.Common.{◌≡◌, ◌≤◌, length, arith, refl, drop, ◌∙◌, length-append, length-drop, length-take, rules}
 use Rattle.std.proofs.lemmas.List.{take-append-le}
 use Rattle.ags_outside.proofs.SoFar.{fetched_more}
 use Rattle.ags_outside.proofs.fetching.fetch_into.Goals as goal
@@ -20,3 +20,14 @@ pulls-preserved g c =
       faults_stay = c.in-Got.ensures.faults.clean refl ∙ c.pulls.invariant.faults_stay;
       absences_stay = c.in-Got.ensures.absences.clean refl ∙ c.pulls.invariant.absences_stay;
     }
+
+pub returns-in-Absent-clause-absences : goal.returns-in-Absent-clause-absences
+returns-in-Absent-clause-absences g c = search rules
+
+pub returns-in-Failed-clause-took : goal.returns-in-Failed-clause-took
+returns-in-Failed-clause-took g c = search rules
+
+pub returns-then-count-left-clause-handed : goal.returns-then-count-left-clause-handed
+returns-then-count-left-clause-handed g c = λ _.
+    let so = c.pulls.invariant.so_far in
+    record { bytes = so.bytes; within = omega (arith, so.many, c.pulls.invariant.within); more = so.more }
