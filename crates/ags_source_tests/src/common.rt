@@ -1,24 +1,13 @@
 //! What several tests make, what they look at, and what they assert.
 
-use ags_outside::SteadyShelf;
 use ags_places::Placed;
 use ags_word::Word;
-use std::alloc::Global;
 use std::fmt::Debug;
 use std::process::Abort;
 
 /// The word of a number.
 pub(crate) fn cell(rt: &impl Abort, number: u32) -> Word {
     Word::of(number).expect(rt, "the number of a word")
-}
-
-/// A shelf to which these files were added, one after the other.
-pub(crate) fn shelf_of(rt: &impl Abort, alloc: Global, files: &[(&str, &[u8])]) -> SteadyShelf {
-    let mut shelf = SteadyShelf::new(alloc);
-    for file in files {
-        assert!(rt; shelf.add(file.0, file.1).is_ok());
-    }
-    shelf
 }
 
 /// The span of a card, the place of its first word, and how many words it has.

@@ -1,6 +1,5 @@
-//! Tests of words and numerals, of shelves, sinks and the walk along the files of a command, of the source language and of
-//! what is made of a source, over what their crates make public. They stand in a crate of their own, so that the proofs of
-//! those crates aren't done a second time for them.
+//! Tests of words and numerals, of the source language and of what is made of a source, over what their crates make public.
+//! They stand in a crate of their own, so that the proofs of those crates aren't done a second time for them.
 #![tactic(auto)]
 
 #[cfg(test)]
@@ -14,8 +13,6 @@ mod compare_tests;
 #[cfg(test)]
 mod decimal_tests;
 #[cfg(test)]
-mod edge_tests;
-#[cfg(test)]
 mod fix_up_tests;
 #[cfg(test)]
 mod image_tests;
@@ -24,11 +21,7 @@ mod isa_tests;
 #[cfg(test)]
 mod listing_tests;
 #[cfg(test)]
-mod outside_tests;
-#[cfg(test)]
 mod places_tests;
-#[cfg(test)]
-mod plan_tests;
 #[cfg(test)]
 mod symbol_tests;
 #[cfg(test)]

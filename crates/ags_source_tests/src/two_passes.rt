@@ -1,5 +1,5 @@
 //! The plain answer of an assembly, as docs/SOURCE.md says it: all lines are read, then all cards placed, then all words made over
-//! all symbols. It looks at each card as often as it is asked for, and is slow.
+//! all symbols. It reads each line as often as its card is asked for, and is slow.
 
 use ags_asm::{SourceError, SourceKind, WordFault};
 use ags_card::{Body, Card, read_card};
@@ -12,18 +12,21 @@ use ags_word::Word;
 use std::alloc::Global;
 use std::process::Abort;
 
-/// The cards of a source up to and with the first END, or the first line that is none.
-fn read_all(rt: &impl Abort, alloc: Global, source: &[u8]) -> Result<Vec<Card>, SourceError> {
-    let mut cards = Vec::new(alloc);
+/// The lines of a source up to and with the first END, each of which is a card; or the first line that is none.
+fn read_all<'a>(
+    rt: &impl Abort,
+    alloc: Global,
+    source: &'a [u8],
+) -> Result<Vec<&'a [u8]>, SourceError> {
+    let mut lines = Vec::new(alloc);
     let mut number = 0u32;
     for line in Lines::of(source) {
         number = number.saturating_add(1);
+        assert!(rt; lines.push(line.bytes).is_ok());
         match read_card(line.bytes) {
             Ok(card) => {
-                let last = is_end(&card.body);
-                assert!(rt; cards.push(card).is_ok());
-                if last {
-                    return Ok(cards);
+                if is_end(&card.body) {
+                    return Ok(lines);
                 }
             }
             Err(fault) => {
@@ -32,24 +35,29 @@ fn read_all(rt: &impl Abort, alloc: Global, source: &[u8]) -> Result<Vec<Card>, 
             }
         }
     }
-    Ok(cards)
+    Ok(lines)
+}
+
+/// The card of a line that is one.
+fn card_of(rt: &impl Abort, line: &[u8]) -> Card {
+    read_card(line).ok().expect(rt, "a line that is a card")
 }
 
 /// The places of the cards, and the symbols; or the first card that can't be placed.
 fn place_each(
     rt: &impl Abort,
     alloc: Global,
-    cards: &[Card],
+    lines: &[&[u8]],
 ) -> Result<(Vec<u16>, Symbols), SourceError> {
     let mut symbols = Symbols::new(alloc);
     let mut places = Vec::new(alloc);
     let mut at = 0u16;
     let mut number = 0u32;
-    for card in cards {
+    for line in lines {
         number = number.saturating_add(1);
         assert!(rt; places.push(at).is_ok());
         assert!(rt; at <= 4096);
-        match place_card(&mut symbols, at, number, card) {
+        match place_card(&mut symbols, at, number, &card_of(rt, line)) {
             Ok(next) => at = next,
             Err(Unplaced::Fault(fault)) => {
                 let kind = SourceKind::Place(fault);
@@ -152,13 +160,14 @@ pub(crate) fn assemble_in_two_passes(
     alloc: Global,
     source: &[u8],
 ) -> Result<Vec<Words>, SourceError> {
-    let cards = read_all(rt, alloc, source)?;
-    let (places, symbols) = place_each(rt, alloc, &cards)?;
+    let lines = read_all(rt, alloc, source)?;
+    let (places, symbols) = place_each(rt, alloc, &lines)?;
     let mut taken: Vec<Taken> = Vec::new(alloc);
     let mut made = Vec::new(alloc);
     let mut number = 0u32;
-    for (card, at) in cards.iter().zip(&places) {
+    for (line, at) in lines.iter().zip(&places) {
         number = number.saturating_add(1);
+        let card = card_of(rt, line);
         let words = match words_of(rt, alloc, &symbols, *at, &card.body) {
             Ok(words) => words,
             Err(fault) => return Err(mismade(number, fault)),

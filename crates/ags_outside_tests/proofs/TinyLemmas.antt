@@ -2,7 +2,7 @@
 use Rattle.std.proofs.Common.{◌≡◌, ℕ, ◌<◌, ◌≤◌, List, [], ◌∷◌, length, get_or, map, Result, Ok, Err, Option, Some, None, refl, subst, inl, inr, arith}
 use Rattle.ags_plan.specs.Loading.{Loads, LoadsFile}
 use Rattle.ags_plan.specs.Plan.{Do, Read, End}
-use Rattle.ags_source_tests.specs.Tiny.{TinyKind, Text, TinyValue, tiny}
+use Rattle.ags_outside_tests.specs.Tiny.{TinyKind, Text, TinyValue, tiny}
 use Rattle.ags_plan.specs.Walk.{Told}
 
 -- a list of two elements is these

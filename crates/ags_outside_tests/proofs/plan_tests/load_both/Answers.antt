@@ -3,10 +3,10 @@ use Rattle.std.proofs.lemmas.Result.{err_from_is_err_and}
 use Rattle.std.specs.Result.{result_map_both}
 use Rattle.ags_plan.specs.Loading.{end_of}
 use Rattle.ags_plan.specs.Plan.{Do, Read}
-use Rattle.ags_source_tests.specs.Tiny.{Key, Text, tiny}
+use Rattle.ags_outside_tests.specs.Tiny.{Key, Text, tiny}
 use Rattle.ags_plan.proofs.LoadingLemmas.{loads_on, loads_stop}
-use Rattle.ags_source_tests.proofs.TinyLemmas.{loads_as_before, text_loads}
-use Rattle.ags_source_tests.proofs.plan_tests.load_both.Goals as goal
+use Rattle.ags_outside_tests.proofs.TinyLemmas.{loads_as_before, text_loads}
+use Rattle.ags_outside_tests.proofs.plan_tests.load_both.Goals as goal
 
 pub returns-in_err-load_key-clause-loads : goal.returns-in_err-load_key-clause-loads
 returns-in_err-load_key-clause-loads g c =

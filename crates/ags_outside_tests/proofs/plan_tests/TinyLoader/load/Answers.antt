@@ -1,6 +1,6 @@
 use Rattle.std.specs.String.{string_bytes}
-use Rattle.ags_source_tests.proofs.TinyLemmas.{two_items}
-use Rattle.ags_source_tests.proofs.plan_tests.TinyLoader.load.Goals as goal
+use Rattle.ags_outside_tests.proofs.TinyLemmas.{two_items}
+use Rattle.ags_outside_tests.proofs.plan_tests.TinyLoader.load.Goals as goal
 
 pub returns-in-len2-clause-loads : goal.returns-in-len2-clause-loads
 returns-in-len2-clause-loads g c =

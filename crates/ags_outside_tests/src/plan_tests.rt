@@ -5,7 +5,7 @@ ghost use Rattle.std.specs.Prelude.{◌≡◌, [], ◌∷◌, codes};
 ghost use Rattle.std.specs.Result.{result_map_both};
 ghost use Rattle.ags_outside.specs.Count.{HasCause};
 ghost use Rattle.ags_plan.specs.Loading.{Loads, LoadsFile, end_of, is_absence, is_read_fault};
-ghost use Rattle.ags_source_tests.specs.Tiny as small;
+ghost use Rattle.ags_outside_tests.specs.Tiny as small;
 
 use crate::common::{expect_same, shelf_of};
 use ags_outside::{SendError, Shelf, Sink, SteadyShelf, SteadySink, send};
