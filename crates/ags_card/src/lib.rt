@@ -24,3 +24,8 @@ pub use reading_laws::{
     cards_keep_to_their_form, each_line_is_a_card_or_has_a_fault, lines_spell_what_is_read,
 };
 pub use terms::{Atom, MOST_TERMS, Term, Terms};
+
+// No clause can name a constant, so the number of each that is handed out is proved here.
+const _: () = prove!(MOST_CONSTANTS == 64);
+
+const _: () = prove!(MOST_TERMS == 64);

@@ -26,3 +26,6 @@ pub use cert_readers::CertReader;
 pub use laws::{first_version_has_no_links, read_certificates_suit, text_has_one_meaning};
 pub use open_rows::{add_cell, has_cell};
 pub use reading::{CERT_LIMIT, read};
+
+// No clause can name a constant, so the number of each that is handed out is proved here.
+const _: () = prove!(CERT_LIMIT == 67_108_864);

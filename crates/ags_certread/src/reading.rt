@@ -14,9 +14,6 @@ use std::alloc::Global;
 /// The most bytes of a certificate's text.
 pub const CERT_LIMIT: usize = 67_108_864;
 
-// No clause can name the constant, so what it is stands here.
-const _: () = prove!(CERT_LIMIT == 67_108_864);
-
 /// Reads a certificate of at most 67,108,864 bytes for a machine's registers: the certificate that its lines state, or its first fault
 /// (docs/CERTIFICATE.md, Faults). A line's number counts every line, skipped ones too; where END is missing it is the line after the
 /// last. On one line the fault of the least number comes. `NoMemory` may come at any text, and says nothing of it. It is a reader of

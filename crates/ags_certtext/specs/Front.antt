@@ -24,6 +24,10 @@ AreAtFront (field ∷ fields) text rest = (next_field text ≡ field) × AreAtFr
 abbrev pub BeginsWithWord : List ℕ → Type 0
 BeginsWithWord text = (word : ℕ) × Writes 8 6 (next_field text) word
 
+-- after the words of a set no further word stands
+abbrev pub EndsItsWords : (text rest : List ℕ) → Type 0
+EndsItsWords text rest = next_field text ≡ codes "WORDS" → BeginsWithWord rest → ⊥
+
 -- a value is stated by the fields at the front of a text
 pub record BeginsWithValue (text : List ℕ) (value : Option Value) (rest : List ℕ) : Type 0 where
   pub taken : List (List ℕ)

@@ -3,7 +3,7 @@
 ghost use Rattle.std.specs.Prelude.{◌≡◌, ℕ, true, List, Option, IfSome, IsSomeAnd};
 ghost use Rattle.ags_word.specs.Word.{fits};
 ghost use Rattle.ags_domain.specs.declared.values.Value.{Value};
-ghost use Rattle.ags_certtext.specs.Front.{BeginsWithWord, BeginsWithEnds, BeginsWithValue, IsEveryWord, IsValueBetween, IsInForm};
+ghost use Rattle.ags_certtext.specs.Front.{BeginsWithWord, BeginsWithEnds, BeginsWithValue, EndsItsWords, IsEveryWord, IsValueBetween, IsInForm};
 
 use crate::ends::read_end;
 use crate::forms::{Form, form_named};
@@ -48,7 +48,8 @@ fn read_range(text: &[u8]) -> Option<(Option<Value>, &[u8])>
 /// The value of this form that stands at the front of a text, and what stands after it.
 fn read_form(form: Form, text: &[u8]) -> Option<(Option<Value>, &[u8])>
     ensures found { IfSome result (λ front. IsInForm form text.now front.0 front.1.now) }
-    ensures only { (value : Option Value) (rest : List ℕ) → IsInForm form text.now value rest → (BeginsWithWord rest → ⊥)
+    ensures ends { IfSome result (λ front. form ≡ Form.Listed → BeginsWithWord front.1.now → ⊥) }
+    ensures only { (value : Option Value) (rest : List ℕ) → IsInForm form text.now value rest → (form ≡ Form.Listed → BeginsWithWord rest → ⊥)
         → IsSomeAnd result (λ front. (front.0 ≡ value) × (front.1.now ≡ rest)) }
 {
     match form {
@@ -59,10 +60,11 @@ fn read_form(form: Form, text: &[u8]) -> Option<(Option<Value>, &[u8])>
 }
 
 /// The value that the fields at the front of a text state, and what stands after them (docs/CERTIFICATE.md, Values). There is no value
-/// in it where it is a range whose least is above its greatest; and nothing is told where a further word stands after the words of a set.
+/// in it where it is a range whose least is above its greatest; and nothing is told where the words after `WORDS` make no set.
 pub fn read_value(text: &[u8]) -> Option<(Option<Value>, &[u8])>
     ensures found { IfSome result (λ front. BeginsWithValue text.now front.0 front.1.now) }
-    ensures only { (value : Option Value) (rest : List ℕ) → BeginsWithValue text.now value rest → (BeginsWithWord rest → ⊥)
+    ensures ends { IfSome result (λ front. EndsItsWords text.now front.1.now) }
+    ensures only { (value : Option Value) (rest : List ℕ) → BeginsWithValue text.now value rest → EndsItsWords text.now rest
         → IsSomeAnd result (λ front. (front.0 ≡ value) × (front.1.now ≡ rest)) }
 {
     let (name, behind) = split_field(text);

@@ -19,10 +19,11 @@ fn set_front<'a>(words: &[Word], behind: &'a [u8]) -> Option<(Option<Value>, &'a
     Some((Some(Value::Words(set)), behind))
 }
 
-/// The word set that the fields at the front of a text state, and what stands after them: as many fields as are words, and
-/// no more than a word set has.
+/// The word set that the fields at the front of a text state, and what stands after them: all fields up to the first that is no
+/// word. It is none where these are more than a word set has.
 pub(crate) fn read_words(text: &[u8]) -> Option<(Option<Value>, &[u8])>
     ensures found { IfSome result (λ front. BeginsWithWords text.now front.0 front.1.now) }
+    ensures ends { IfSome result (λ front. BeginsWithWord front.1.now → ⊥) }
     ensures only { (value : Option Value) (rest : List ℕ) → BeginsWithWords text.now value rest → (BeginsWithWord rest → ⊥)
         → IsSomeAnd result (λ front. (front.0 ≡ value) × (front.1.now ≡ rest)) }
 {
@@ -36,5 +37,9 @@ pub(crate) fn read_words(text: &[u8]) -> Option<(Option<Value>, &[u8])>
         words[count] = word;
         rest = behind;
     }
-    set_front(&words, rest)
+    let (further, _) = split_field(rest);
+    match read_word(further) {
+        None => set_front(&words, rest),
+        Some(_word) => None,
+    }
 }

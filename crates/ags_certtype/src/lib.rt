@@ -13,3 +13,8 @@ pub mod laws;
 
 pub use certs::{Cert, CertParts, MOST_ROWS, MOST_ROWS_AT_ONE};
 pub use edit_errors::EditError;
+
+// No clause can name a constant, so the number of each that is handed out is proved here.
+const _: () = prove!(MOST_ROWS == 20_000);
+
+const _: () = prove!(MOST_ROWS_AT_ONE == 512);

@@ -30,3 +30,6 @@ pub use ranges::Range;
 pub use values::Value;
 pub use word_lists::MOST_WORDS;
 pub use word_sets::WordSet;
+
+// No clause can name a constant, so the number of each that is handed out is proved here.
+const _: () = prove!(MOST_WORDS == 16);

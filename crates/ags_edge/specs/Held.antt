@@ -26,12 +26,12 @@ pub record IsBroughtTo {F : Type 0} (position : F → Option ℕ) (contents : F 
   pub place : position opened ≡ Some 0 → position there ≡ Some from
   pub kept : Keeps (contents opened) (contents there)
 
--- the file stood at the place: it was held there, or it was opened and brought there
-abbrev pub StoodAt : {F : Type 0} → (position : F → Option ℕ) (contents : F → Option (List ℕ)) (before : Option (OpenFile F)) (from : ℕ) (there : F) → Type 0
-StoodAt {F} position contents before from there =
-    IsSomeAnd before (λ held. (held.at ≡ from) × (held.file ≡ there)) ⊎ ((opened : F) × IsBroughtTo position contents opened from there)
+-- the file of that name stood at the place: it was held there, or it was opened and brought there
+abbrev pub StoodAt : {F : Type 0} → (position : F → Option ℕ) (contents : F → Option (List ℕ)) (before : Option (OpenFile F)) (name : List ℕ) (from : ℕ) (there : F) → Type 0
+StoodAt {F} position contents before name from there =
+    IsSomeAnd before (λ held. (string_bytes held.name ≡ name) × (held.at ≡ from) × (held.file ≡ there)) ⊎ ((opened : F) × IsBroughtTo position contents opened from there)
 
 -- bytes that were given are those that a file had left which stood at the place, held or newly opened; it stays open
-abbrev pub ReadsWhatStood : {F : Type 0} → (remaining : F → Option (List ℕ)) (position : F → Option ℕ) (contents : F → Option (List ℕ)) (before now : Option (OpenFile F)) (from : ℕ) (into : List ℕ) (count : Option ℕ) → Type 0
-ReadsWhatStood {F} remaining position contents before now from into count =
-    IfSome count (λ given. IsSomeAnd now (λ new. (there : F) × StoodAt position contents before from there × Consumes (remaining there) (remaining new.file) (take given into)))
+abbrev pub ReadsWhatStood : {F : Type 0} → (remaining : F → Option (List ℕ)) (position : F → Option ℕ) (contents : F → Option (List ℕ)) (before now : Option (OpenFile F)) (name : List ℕ) (from : ℕ) (into : List ℕ) (count : Option ℕ) → Type 0
+ReadsWhatStood {F} remaining position contents before now name from into count =
+    IfSome count (λ given. IsSomeAnd now (λ new. (there : F) × StoodAt position contents before name from there × Consumes (remaining there) (remaining new.file) (take given into)))

@@ -93,7 +93,7 @@ fn file_at<R: Files>(
     ensures name { IfOk result (λ file. string_bytes file.name ≡ name.now) }
     ensures place { IfOk result (λ file. file.at ≡ from) }
     ensures kept { IfSome held (λ file. file.at ≡ from → string_bytes file.name ≡ name.now → result ≡ Ok file) }
-    ensures stood { IfOk result (λ file. StoodAt R.File.stream_position R.File.stream_bytes held from file.file) }
+    ensures stood { IfOk result (λ file. StoodAt R.File.stream_position R.File.stream_bytes held name.now from file.file) }
 {
     match held {
         Some(file) if file.at == from && file.name.as_str() == name => Ok(file),
@@ -193,7 +193,7 @@ impl<'a, R: Files> FileShelf<'a, R> {
         ensures open { StaysOpen self.new.held name.now from (result_ok result) }
         ensures end { 0 < length into.old → IsAtItsEnd R.File.remaining self.new.held (result_ok result) }
         ensures bytes { ReadsOn R.File.remaining self.old.held self.new.held name.now from into.new (result_ok result) }
-        ensures source { ReadsWhatStood R.File.remaining R.File.stream_position R.File.stream_bytes self.old.held self.new.held from into.new (result_ok result) }
+        ensures source { ReadsWhatStood R.File.remaining R.File.stream_position R.File.stream_bytes self.old.held self.new.held name.now from into.new (result_ok result) }
         ensures closed { OnErr result (self.new.held ≡ None) }
         ensures unread { self.new.unread ≡ self.old.unread }
         ensures reason { self.new.reason ≡ self.old.reason }
@@ -249,7 +249,7 @@ impl<R: Files> Shelf for FileShelf<'_, R> {
         ensures end { IsAtItsEnd R.File.remaining self.new.held (count_of result) }
         ensures bytes { ReadsOn R.File.remaining self.old.held self.new.held name.now from into.new (count_of result) }
         // The first bytes of a file that was opened are those of what was opened, at the place that it was brought to.
-        ensures source { ReadsWhatStood R.File.remaining R.File.stream_position R.File.stream_bytes self.old.held self.new.held from into.new (count_of result) }
+        ensures source { ReadsWhatStood R.File.remaining R.File.stream_position R.File.stream_bytes self.old.held self.new.held name.now from into.new (count_of result) }
     {
         let read = self.read_on(name, from, into);
         let reason = reason_of(&read);

@@ -1,6 +1,6 @@
 //! Sinks that hold back what they took.
 
-ghost use Rattle.std.specs.Prelude.{◌≡◌, ◌<◌, ◌≤◌, ◌^◌, true, false};
+ghost use Rattle.std.specs.Prelude.{◌≡◌, ◌<◌, ◌≤◌, ◌+◌, ◌^◌, true, false};
 ghost use Rattle.ags_outside.specs.Count.{Rose};
 
 use ags_outside::Sink;
@@ -18,5 +18,6 @@ pub trait HeldSink: Sink {
         ensures faults_stay { Self.faults self.old ≤ Self.faults self.new }
         ensures counted { Self.faults self.new < 2 ^ 64 }
         ensures failed { result ≡ false → Rose (Self.faults self.old) (Self.faults self.new) }
+        ensures once { result ≡ false → Self.faults self.new ≤ Self.faults self.old + 1 }
         ensures clean { result ≡ true → Self.faults self.new ≡ Self.faults self.old };
 }

@@ -1,6 +1,6 @@
 //! Standard output as a sink.
 
-ghost use Rattle.std.specs.Prelude.{◌≡◌, ◌≢◌, ◌<◌, ◌≤◌, [], true, false, None, Ok, IfOk, IfErr, IfSome, is_some, length, ◌^◌};
+ghost use Rattle.std.specs.Prelude.{◌≡◌, ◌≢◌, ◌<◌, ◌≤◌, ◌+◌, [], true, false, None, Ok, IfOk, IfErr, IfSome, is_some, length, ◌^◌};
 ghost use Rattle.std.specs.Io.Buffered.{writer_buffer, writer_capacity, writer_contents, writer_inner};
 ghost use Rattle.std.specs.Io.KnownBytes.{Keeps};
 ghost use Rattle.std.specs.IoError.{error_kind};
@@ -137,6 +137,7 @@ impl<W: Write + Drop> HeldSink for OutSink<W> {
         ensures faults_stay { self.old.faults ≤ self.new.faults }
         ensures counted { self.new.faults < 2 ^ 64 }
         ensures failed { result ≡ false → Rose self.old.faults self.new.faults }
+        ensures once { result ≡ false → self.new.faults ≤ self.old.faults + 1 }
         ensures clean { result ≡ true → self.new.faults ≡ self.old.faults }
         ensures reason { result ≡ false → is_some self.new.reason ≡ true }
         ensures reason_stays { result ≡ true → self.new.reason ≡ self.old.reason }

@@ -19,3 +19,8 @@ pub use edits::Edit;
 pub use edits_errors::{EditsError, EditsKind};
 pub use reading::{EDITS_LIMIT, MOST_EDITS, read};
 pub use statements::{EditLine, RowEdit, WordEdit};
+
+// No clause can name a constant, so the number of each that is handed out is proved here.
+const _: () = prove!(EDITS_LIMIT == 4_194_304);
+
+const _: () = prove!(MOST_EDITS == 10_000);

@@ -13,9 +13,6 @@ use std::alloc::Global;
 /// The most bytes of a text of edits.
 pub const EDITS_LIMIT: usize = 4_194_304;
 
-// No clause can name the constant, so what it is stands here.
-const _: () = prove!(EDITS_LIMIT == 4_194_304);
-
 /// The most edits of a text.
 pub const MOST_EDITS: usize = 10_000;
 

@@ -30,3 +30,6 @@ pub use word_line_laws::{
     columns_put_words_of_the_memory, each_text_is_read_or_has_a_fault, printed_columns_are_read,
     read_text_has_no_fault, text_is_cut_at_feeds,
 };
+
+// No clause can name a constant, so the number of each that is handed out is proved here.
+const _: () = prove!(TAPE_LIMIT == 134_217_728);

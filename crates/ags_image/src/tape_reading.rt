@@ -15,9 +15,6 @@ use thiserror::Error;
 /// How many bytes a tape may have, at most.
 pub const TAPE_LIMIT: usize = 134_217_728;
 
-// No clause can name the constant, so what it is stands here.
-const _: () = prove!(TAPE_LIMIT == 134_217_728);
-
 /// Why a tape has no image: the first fault in it, or want of memory.
 #[derive(Clone, Copy, Debug, PartialEq, Eq, Error)]
 pub enum TapeError {

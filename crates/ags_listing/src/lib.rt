@@ -16,3 +16,6 @@ pub use laws::{
 pub use list_error::ListError;
 pub use reading::{LISTING_LIMIT, read};
 pub use writing::send_listing;
+
+// No clause can name a constant, so the number of each that is handed out is proved here.
+const _: () = prove!(LISTING_LIMIT == 134_217_728);

@@ -13,9 +13,6 @@ use std::alloc::Global;
 /// How many bytes a listing may have, at most.
 pub const LISTING_LIMIT: usize = 134_217_728;
 
-// No clause can name the constant, so what it is stands here.
-const _: () = prove!(LISTING_LIMIT == 134_217_728);
-
 /// The same error of a listing.
 fn list_error(error: ReadError) -> ListError
     ensures { result ≡ list_error error }

@@ -16,3 +16,6 @@ mod values;
 pub use keys::Key;
 pub use mach_error::MachError;
 pub use reading::{MACHINE_LIMIT, read};
+
+// No clause can name a constant, so the number of each that is handed out is proved here.
+const _: () = prove!(MACHINE_LIMIT == 65_536);

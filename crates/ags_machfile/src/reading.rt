@@ -20,9 +20,6 @@ use toml::Table;
 /// How many bytes a machine file has at most.
 pub const MACHINE_LIMIT: usize = 65_536;
 
-// No clause can name the constant, so what it is stands here.
-const _: () = prove!(MACHINE_LIMIT == 65_536);
-
 /// The machine of a file of at most 65,536 bytes, or the first test that it fails (docs/MACHINE.md, Machine files). Codes,
 /// times, registers and addresses that the file doesn't give are those of the standard machine. `NoMemory` may come at
 /// any file, and says nothing of it.

@@ -51,6 +51,26 @@ fn file_is_read_on_and_opened_anew(rt: HostRuntime) {
     expect_zeros(&rt, &mut shelf, 2);
 }
 
+#[test]
+fn another_file_is_opened_at_its_start(rt: HostRuntime) {
+    let mut shelf = FileShelf::new(&rt, rt.alloc());
+    // the first, which is empty, is held when the second is asked for
+    expect_pull(&rt, &mut shelf, "/dev/null", Pull::End);
+    expect_zeros(&rt, &mut shelf, 0);
+}
+
+#[test]
+fn file_is_opened_at_the_place_that_is_asked_for(rt: HostRuntime) {
+    let mut shelf = FileShelf::new(&rt, rt.alloc());
+    let mut first = [0u8; 5];
+    let mut second = [0u8; 2];
+    // a file that begins with the name of the system
+    assert!(rt; shelf.pull("/proc/version", 0, &mut first) == Pull::Got(5));
+    assert!(rt; shelf.pull("/proc/version", 3, &mut second) == Pull::Got(2));
+    assert!(rt; first[3..] == second[..]);
+    assert!(rt; first[3] != first[4]);
+}
+
 /// Expects that a line is taken, and whether it is written at the end.
 fn expect_written<W: Write + Drop>(rt: &impl Abort, out: &mut OutSink<W>, written: bool) {
     assert!(rt; out.put(b"A LINE\n") == PutDone::Took(7));

@@ -17,3 +17,6 @@ pub use placed::{Placed, count_of, place_of_word};
 pub use placing::{Unplaced, place_card};
 pub use reading::{SOURCE_LIMIT, is_end};
 pub use source_error::{AssembleError, PlaceFault, SourceError, SourceKind, WordFault};
+
+// No clause can name a constant, so the number of each that is handed out is proved here.
+const _: () = prove!(SOURCE_LIMIT == 4_194_304);

@@ -8,9 +8,6 @@ use ags_card::Body;
 /// The most bytes of a source.
 pub const SOURCE_LIMIT: usize = 4_194_304;
 
-// No clause can name the constant, so what it is stands here.
-const _: () = prove!(SOURCE_LIMIT == 4_194_304);
-
 /// Whether a card ends the source.
 pub fn is_end(body: &Body) -> bool
     ensures { result ≡ is_end body.now }

@@ -20,3 +20,6 @@ pub use events::{Done, Event, Phase, Stored};
 pub use machines::Machine;
 pub use registers::{MOST_REGISTERS, Port, Ports};
 pub use time_tables::Times;
+
+// No clause can name a constant, so the number of each that is handed out is proved here.
+const _: () = prove!(MOST_REGISTERS == 32);

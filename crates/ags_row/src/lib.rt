@@ -18,3 +18,6 @@ pub use limits::Limits;
 pub use links::{Link, is_link};
 pub use posts::Post;
 pub use rows::{MOST_CELLS, Row, RowParts};
+
+// No clause can name a constant, so the number of each that is handed out is proved here.
+const _: () = prove!(MOST_CELLS == 64);

@@ -23,3 +23,10 @@ pub use lines::{is_skipped_line, line_command};
 pub use operands::count_operand;
 pub use script_errors::{ScriptError, ScriptKind};
 pub use scripts::{SCRIPT_LIMIT, Script, read};
+
+// No clause can name a constant, so the number of each that is handed out is proved here.
+const _: () = prove!(SCRIPT_LIMIT == 4_194_304);
+
+const _: () = prove!(STEP_LIMIT == 100_000_000);
+
+const _: () = prove!(CYCLE_STEPS == 20_000);

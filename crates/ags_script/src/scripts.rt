@@ -17,9 +17,6 @@ use std::marker::Model;
 /// The most bytes of a script.
 pub const SCRIPT_LIMIT: usize = 4_194_304;
 
-// No clause can name the constant, so what it is stands here.
-const _: () = prove!(SCRIPT_LIMIT == 4_194_304);
-
 /// A script that was read: the list of its commands.
 #[derive(Drop)]
 pub struct Script {

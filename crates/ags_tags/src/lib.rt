@@ -23,3 +23,6 @@ pub use scale_errors::{ScaleError, ScaleKind};
 pub use statements::{Entry, RowEntry, ScaleLine, Table};
 pub use tables::Scales;
 pub use tags::{RowTag, RowTags, Tag};
+
+// No clause can name a constant, so the number of each that is handed out is proved here.
+const _: () = prove!(SCALES_LIMIT == 4_194_304);

@@ -14,9 +14,6 @@ use std::alloc::Global;
 /// The most bytes of a text of scales.
 pub const SCALES_LIMIT: usize = 4_194_304;
 
-// No clause can name the constant, so what it is stands here.
-const _: () = prove!(SCALES_LIMIT == 4_194_304);
-
 /// The latest version of texts of scales.
 const LATEST_VERSION: u32 = 1;
 

@@ -30,3 +30,6 @@ pub use numerals::{decimal7, numeral_writes, octal4, octal6, read_decimal, read_
 pub use piece_laws::lines_end_in_pieces;
 pub use pieces::split_at_feed;
 pub use seven_digits::SevenDigits;
+
+// No clause can name a constant, so the number of each that is handed out is proved here.
+const _: () = prove!(MOST_LINE_BYTES == 512);

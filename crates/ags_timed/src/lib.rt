@@ -10,3 +10,6 @@ mod watchers;
 
 pub use timed_runs::{CYCLE_MICROS, run_for, run_steps};
 pub use watchers::Watcher;
+
+// No clause can name a constant, so the number of each that is handed out is proved here.
+const _: () = prove!(CYCLE_MICROS == 20_000);

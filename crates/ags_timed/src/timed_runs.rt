@@ -18,9 +18,6 @@ use ags_ports::{Done, Event, Machine, Phase};
 /// The time of one cycle of the timer, in microseconds. No run is asked for more.
 pub const CYCLE_MICROS: u64 = 20_000;
 
-// No clause can name the constant, so what it is stands here.
-const _: () = prove!(CYCLE_MICROS == 20_000);
-
 /// Steps while orders run and the time of those that ran is less than this many microseconds, and answers that time. The
 /// last order may pass the limit by up to 999 microseconds. A step that halts takes no time. The watcher is told of each
 /// step (docs/MACHINE.md, Times).

@@ -16,3 +16,6 @@ pub use budget_errors::{BudgetError, BudgetKind};
 pub use budgets::Budget;
 pub use lines::{RowBound, TimesLine};
 pub use reading::{TIMES_LIMIT, read};
+
+// No clause can name a constant, so the number of each that is handed out is proved here.
+const _: () = prove!(TIMES_LIMIT == 4_194_304);

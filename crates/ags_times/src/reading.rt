@@ -12,9 +12,6 @@ use std::alloc::Global;
 /// The most bytes of a text of times.
 pub const TIMES_LIMIT: usize = 4_194_304;
 
-// No clause can name the constant, so what it is stands here.
-const _: () = prove!(TIMES_LIMIT == 4_194_304);
-
 /// The latest version of texts of times.
 const LATEST_VERSION: u32 = 1;
 

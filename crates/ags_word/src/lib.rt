@@ -18,3 +18,8 @@ pub use longs::Long;
 pub use memory::{ERASABLE, LOCATIONS};
 pub use six_digits::SixDigits;
 pub use words::Word;
+
+// No clause can name a constant, so the number of each that is handed out is proved here.
+const _: () = prove!(LOCATIONS == 4096);
+
+const _: () = prove!(ERASABLE == 2048);
