@@ -60,15 +60,18 @@ fn another_file_is_opened_at_its_start(rt: HostRuntime) {
 }
 
 #[test]
-fn file_is_opened_at_the_place_that_is_asked_for(rt: HostRuntime) {
+fn file_is_opened_at_the_place_that_is_asked_for(rt: HostRuntime) -> Result<(), Fail> {
+    let mut file = fs::create(&rt, "letters")?;
+    file.write_all(b"ABCDE")?;
     let mut shelf = FileShelf::new(&rt, rt.alloc());
-    let mut first = [0u8; 5];
-    let mut second = [0u8; 2];
-    // a file that begins with the name of the system
-    assert!(rt; shelf.pull("/proc/version", 0, &mut first) == Pull::Got(5));
-    assert!(rt; shelf.pull("/proc/version", 3, &mut second) == Pull::Got(2));
-    assert!(rt; first[3..] == second[..]);
-    assert!(rt; first[3] != first[4]);
+    let mut whole = [0u8; 5];
+    let mut rest = [0u8; 2];
+    // after the first pull it stands at its end, so that the second opens it anew
+    assert!(rt; shelf.pull("letters", 0, &mut whole) == Pull::Got(5));
+    assert!(rt; whole == *b"ABCDE");
+    assert!(rt; shelf.pull("letters", 3, &mut rest) == Pull::Got(2));
+    assert!(rt; rest == *b"DE");
+    Ok(())
 }
 
 /// Expects that a line is taken, and whether it is written at the end.

@@ -59,3 +59,8 @@ is_read_fault _ = false
 abbrev pub is_absence : {T R : Type 0} → Result T (Unloaded R) → Bool
 is_absence (Err (Absent name)) = true
 is_absence _ = false
+
+-- whether a loader found that a file is longer than its limit
+abbrev pub is_too_long : {T R : Type 0} → Result T (Unloaded R) → Bool
+is_too_long (Err (TooLong name limit)) = true
+is_too_long _ = false

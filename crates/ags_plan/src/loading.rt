@@ -1,10 +1,10 @@
 //! The files of a command line, one at a time.
 
-ghost use Rattle.std.specs.Prelude.{◌≡◌, ◌≤◌, length, Err, IfOk, IfErr, OnOk};
+ghost use Rattle.std.specs.Prelude.{◌≡◌, ◌≤◌, length, true, Err, IfOk, IfErr, OnOk};
 ghost use Rattle.std.specs.Result.{result_map_both};
 ghost use Rattle.ags_outside.specs.Count.{HasCause};
 ghost use Rattle.ags_outside.specs.Taken.{TookAtMost};
-ghost use Rattle.ags_plan.specs.Loading.{FetchesFile, TakesFile, is_absence, is_read_fault};
+ghost use Rattle.ags_plan.specs.Loading.{FetchesFile, TakesFile, is_absence, is_read_fault, is_too_long};
 
 use crate::unloaded::Unloaded;
 use ags_outside::{FetchError, Shelf, Taker, fetch_into};
@@ -22,7 +22,7 @@ pub fn fetch_file_into<'a, S: Shelf, T: Taker, R: Drop>(
     ensures took { IfOk result (λ _. TakesFile T.took (S.told shelf.old name.entry.now) limit taker.old taker.new) }
     ensures stays { OnOk result (T.stays taker.old taker.new) }
     // Of a file that is too long no piece is handed on with which it passes the limit.
-    ensures handed { IfErr result (λ why. why ≡ Unloaded.TooLong name.entry limit → TookAtMost T.took limit taker.old taker.new) }
+    ensures handed { is_too_long result ≡ true → TookAtMost T.took limit taker.old taker.new }
     ensures fetches { IfErr result (λ why. FetchesFile (S.told shelf.old name.entry.now) name.entry.now limit (Err why)) }
     ensures faults { HasCause (S.faults shelf.old) (S.faults shelf.new) (is_read_fault result) }
     ensures absences { HasCause (S.absences shelf.old) (S.absences shelf.new) (is_absence result) }
