@@ -43,7 +43,7 @@ impl<'a, S: Serving> RowTest for Covering<'a, S> {
 }
 
 /// The number of a row that covers a post of a base row, where a further condition holds of that number, and nothing where there is
-/// no such row. Rows are counted from 1; those at the post's location alone are looked at. It takes no memory.
+/// no such row. Which of several isn't said. Rows are counted from 1. It takes no memory.
 pub fn covering_row<S: Serving>(
     cert: &Cert,
     base: &Row<Value>,

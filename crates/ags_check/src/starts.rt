@@ -158,7 +158,7 @@ impl<'a, S: Serving> RowTest for Starting<'a, S> {
 }
 
 /// The number of a row that holds all that may stand at the start, where a further condition holds of that number, and nothing where
-/// there is no such row. Rows are counted from 1; those at the start's location alone are looked at. It takes no memory.
+/// there is no such row. Which of several isn't said. Rows are counted from 1. It takes no memory.
 pub fn start_row<S: Serving>(image: &Image, cert: &Cert, serving: &S) -> Option<u32>
     ensures { IsFound (IsStartRow value_meaning image.now (certificate_of cert.now) (S.serves serving.now)) cert.now.rows result }
 {

@@ -1,6 +1,6 @@
 //! Standard output as a sink.
 
-ghost use Rattle.std.specs.Prelude.{◌≡◌, ◌≢◌, ◌<◌, ◌≤◌, ◌+◌, [], true, false, None, Ok, IfOk, IfErr, IfSome, is_some, length, ◌^◌};
+ghost use Rattle.std.specs.Prelude.{◌≡◌, ◌≢◌, ◌<◌, ◌≤◌, ◌+◌, [], true, false, None, Ok, IfOk, IfErr, IsSomeAnd, is_some, length, ◌^◌};
 ghost use Rattle.std.specs.Io.Buffered.{writer_buffer, writer_capacity, writer_contents, writer_inner};
 ghost use Rattle.std.specs.Io.KnownBytes.{Keeps};
 ghost use Rattle.std.specs.IoError.{error_kind};
@@ -110,8 +110,8 @@ impl<W: Write + Drop> Sink for OutSink<W> {
         ensures faults { HasCause self.old.faults self.new.faults (is_failed_put result) }
         ensures counted { self.new.faults ≡ put_faults_after self.old.faults result }
         ensures last { KeepsPiece self.new.last.items piece.now result }
-        // The reason that is kept is that of the last failure; there is none where the writer took nothing and named no error.
-        ensures reason { result ≡ PutDone.Failed → IfSome self.new.reason (λ reason. reason ≢ ErrorKind.OutOfMemory) }
+        // The reason that is kept is that of the last failure, also where the writer took nothing and named no error.
+        ensures reason { result ≡ PutDone.Failed → IsSomeAnd self.new.reason (λ reason. reason ≢ ErrorKind.OutOfMemory) }
         ensures reason_stays { result ≢ PutDone.Failed → self.new.reason ≡ self.old.reason }
     {
         let written = self.out.write(piece);
@@ -120,7 +120,7 @@ impl<W: Write + Drop> Sink for OutSink<W> {
         self.keep_last(piece, answer);
         if answer == PutDone::Failed {
             self.faults = self.faults.saturating_add(1);
-            self.reason = reason;
+            self.reason = Some(reason.unwrap_or(ErrorKind::WriteZero));
         }
         answer
     }
@@ -141,6 +141,7 @@ impl<W: Write + Drop> HeldSink for OutSink<W> {
         ensures clean { result ≡ true → self.new.faults ≡ self.old.faults }
         ensures reason { result ≡ false → is_some self.new.reason ≡ true }
         ensures reason_stays { result ≡ true → self.new.reason ≡ self.old.reason }
+        ensures last { self.new.last.items ≡ self.old.last.items }
     {
         let faults = self.faults;
         let flushed = self.out.flush();

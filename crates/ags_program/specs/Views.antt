@@ -1,6 +1,7 @@
 -- What clauses see of the program's own values.
 use Rattle.std.specs.Prelude.{◌≡◌, ℕ, All, List, length}
 use Rattle.ags_asm.specs.Source.{card_words}
+use Rattle.ags_asm.specs.declared.assembling.Assembled.{Assembled}
 use Rattle.ags_files.specs.declared.sources.SourceFile.{SourceFile}
 pub use Rattle.ags_files.specs.Source.{HasImage, IsSourceRead}
 use Rattle.ags_edits.specs.Text.{IsLawful}
@@ -47,6 +48,10 @@ work_of (loaded.PlayScript machine made script) = work.PlayScript machine (card_
 abbrev pub IsReadSource : SourceFile → Type 0
 IsReadSource source = (order_codes : List ℕ) × IsSourceRead order_codes source.bytes.items source.made
 
+-- what was made of a source that was read by some table of codes
+abbrev pub IsReadMade : Assembled → Type 0
+IsReadMade made = (order_codes : List ℕ) × (bytes : List ℕ) × IsSourceRead order_codes bytes made
+
 -- what is so of what stands with the verdict of a pair: a script is one for its machine, a budget has a bound for each of its rows,
 -- scales have tags for each, and edits are of the memory
 abbrev pub IsSequelReady : ReadPair → Sequel → Type 0
@@ -61,9 +66,9 @@ IsSequelReady pair (loaded_sequel.EditsBehind edits) = All IsLawful edits.items
 abbrev pub IsReady : Work → Type 0
 IsReady loaded.NoForm = Unit {0}
 IsReady (loaded.WriteText text source) = IsReadSource source
-IsReady (loaded.CompareImages made listed) = HasImage made
+IsReady (loaded.CompareImages made listed) = IsReadMade made
 IsReady (loaded.JudgePair pair sequel) = IsReadSource pair.source × IsSequelReady pair sequel
-IsReady (loaded.PlayScript machine made script) = HasImage made × IsReadFor machine script
+IsReady (loaded.PlayScript machine made script) = IsReadMade made × IsReadFor machine script
 
 -- the line of a refusal
 abbrev pub line_of : Refusal → List ℕ

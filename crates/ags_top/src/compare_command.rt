@@ -9,7 +9,7 @@ ghost use Rattle.ags_plan.specs.Plan.{WorkAt};
 ghost use Rattle.ags_plan.specs.Saying.{Says};
 ghost use Rattle.ags_program.specs.Program.{program};
 ghost use Rattle.ags_program.specs.Text.{compared_line, word_column};
-ghost use Rattle.ags_program.specs.Views.{HasImage};
+ghost use Rattle.ags_program.specs.Views.{IsReadMade};
 ghost use Rattle.ags_program.specs.Work as work;
 
 use crate::sending::send_line;
@@ -91,7 +91,7 @@ pub(crate) fn compare_images<K: Sink>(
     listed: &Image,
     out: &mut K,
 ) -> Result<Status, SendError>
-    requires { HasImage made.now }
+    requires { IsReadMade made.now }
     ensures says { Says program (WorkAt (work.CompareImages (card_words made.now) listed.now)) (K.told out.old) (K.told out.new) result }
     ensures faults { HasCause (K.faults out.old) (K.faults out.new) (is_write_fault result) }
 {

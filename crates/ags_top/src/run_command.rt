@@ -7,7 +7,7 @@ ghost use Rattle.ags_plan.specs.Plan.{WorkAt};
 ghost use Rattle.ags_plan.specs.Saying.{Says};
 ghost use Rattle.ags_script.specs.Script.{IsReadFor};
 ghost use Rattle.ags_program.specs.Program.{program};
-ghost use Rattle.ags_program.specs.Views.{HasImage};
+ghost use Rattle.ags_program.specs.Views.{IsReadMade};
 ghost use Rattle.ags_program.specs.Work as work;
 
 use ags_asm::Assembled;
@@ -26,7 +26,7 @@ pub(crate) fn play_script<K: Sink>(
     script: &Script,
     out: &mut K,
 ) -> Result<Status, SendError>
-    requires image { HasImage made.now }
+    requires made { IsReadMade made.now }
     requires script { IsReadFor machine.now script.now }
     ensures says { Says program (WorkAt (work.PlayScript machine.now (card_words made.now) script.now)) (K.told out.old) (K.told out.new) result }
     ensures faults { HasCause (K.faults out.old) (K.faults out.new) (is_write_fault result) }

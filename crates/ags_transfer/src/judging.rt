@@ -1,6 +1,6 @@
 //! The posts of a case: its word is read, and the order that it names is judged.
 
-ghost use Rattle.std.specs.Prelude.{◌≡◌, ◌≢◌, ◌<◌, ◌+◌, None, IfOk, Ok};
+ghost use Rattle.std.specs.Prelude.{◌≡◌, ◌≢◌, ◌<◌, ◌+◌, None, IfOk, OnErr, Ok};
 ghost use Rattle.ags_isa.specs.declared.orders.Order.TheVariants.{Tmi};
 ghost use Rattle.ags_ports.specs.declared.events.Event.TheVariants.{Step};
 ghost use Rattle.ags_ports.specs.declared.events.Done.{Done};
@@ -64,8 +64,8 @@ pub fn posts<D: Domain, L: Ledger>(
     }
 }
 
-/// The same posts, put into a pair at hand that has no second one, so that none is moved. Where the checker stops, nothing is said of
-/// the pair.
+/// The same posts, put into a pair at hand that has no second one, so that none is moved. Where the checker stops, the pair is
+/// unchanged.
 pub fn put_posts<D: Domain, L: Ledger>(
     machine: &Machine,
     image: &Image,
@@ -81,6 +81,7 @@ pub fn put_posts<D: Domain, L: Ledger>(
     requires no_second { pair.old.second ≡ None }
     ensures posts { IsPostsOfCase D.meaning (case_of machine.now image.now limits.now base.now word x v) (outcome_of result pair.new) }
     ensures below { IfOk (outcome_of result pair.new) GoWithin }
+    ensures stopped { OnErr result (pair.new ≡ pair.old) }
     ensures step { steps.new ≡ steps.old + 1 }
 {
     steps.tick();
@@ -102,7 +103,8 @@ impl<'a, D: Domain> Case<'a, D> {
     fn put_posts(&self, pair: &mut PostPair<D>) -> Result<(), Stop<D>>
         requires index { self.now.index < 8 }
         requires no_second { pair.old.second ≡ None }
-        ensures { IsPostsOfCase D.meaning self.now (outcome_of result pair.new) }
+        ensures posts { IsPostsOfCase D.meaning self.now (outcome_of result pair.new) }
+        ensures stopped { OnErr result (pair.new ≡ pair.old) }
     {
         match decode(&self.machine.codes, self.word) {
             Some(decoded) => {
@@ -118,7 +120,8 @@ impl<'a, D: Domain> Case<'a, D> {
         requires acts_on { e < 4096 }
         requires address { y < 4096 }
         requires no_second { pair.old.second ≡ None }
-        ensures { IsPosts D.meaning self.now order e y (outcome_of result pair.new) }
+        ensures posts { IsPosts D.meaning self.now order e y (outcome_of result pair.new) }
+        ensures stopped { OnErr result (pair.new ≡ pair.old) }
     {
         match order {
             Order::Tmi => {
@@ -135,7 +138,8 @@ impl<'a, D: Domain> Case<'a, D> {
         requires address { y < 4096 }
         requires one { order ≢ Tmi }
         requires no_second { pair.old.second ≡ None }
-        ensures { IsPosts D.meaning self.now order e y (outcome_of result pair.new) }
+        ensures posts { IsPosts D.meaning self.now order e y (outcome_of result pair.new) }
+        ensures stopped { OnErr result (pair.new ≡ pair.old) }
     {
         let mut post = self.moves_on();
         match self.change(order, e, y, &mut post) {

@@ -30,7 +30,7 @@ returns-clause-loads g c =
     c.in_ok-listed.listed c.in_ok-listed.ensures.loads
 
 pub returns-clause-ready : goal.returns-clause-ready
-returns-clause-ready g c = c.in_ok-source.ensures.ready.1.image
+returns-clause-ready g c = (c.in_ok-source.ensures.ready.0, c.in_ok-source.source.bytes.items, c.in_ok-source.ensures.ready.1)
 
 pub returns-in_err-listed-clause-faults : goal.returns-in_err-listed-clause-faults
 returns-in_err-listed-clause-faults g c =

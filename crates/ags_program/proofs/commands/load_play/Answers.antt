@@ -31,7 +31,7 @@ returns-clause-loads g c =
 
 pub returns-clause-ready : goal.returns-clause-ready
 returns-clause-ready g c =
-    (c.in_ok-source.ensures.ready.1.image, c.in_ok-script.ensures.ready)
+    ((c.in_ok-source.ensures.ready.0, c.in_ok-source.source.bytes.items, c.in_ok-source.ensures.ready.1), c.in_ok-script.ensures.ready)
 
 pub returns-in_err-script-clause-faults : goal.returns-in_err-script-clause-faults
 returns-in_err-script-clause-faults g c =
