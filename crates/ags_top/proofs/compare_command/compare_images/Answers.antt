@@ -8,9 +8,9 @@ pub returns-in_err-send_line-clause-says : goal.returns-in_err-send_line-clause-
 returns-in_err-send_line-clause-says g c =
     let p = err_from_is_err_and c.from_residual.result c.from_residual.ensures.1 in
     rw p.1 (inl (comparison_said_in_part c.args.made.now c.args.listed.now (g.K.Sink.told c.args.out.now) (g.K.Sink.told c.send_line.new.out)
-    c.requires.1.1.image c.compare-compared.result c.compare-compared.ensures (c.in_err-send_line.ensures.front (compared_line c.compare-compared.result) c.compared_line.ensures)))
+    c.requires.2.image c.compare-compared.result c.compare-compared.ensures (c.in_err-send_line.ensures.front (compared_line c.compare-compared.result) c.compared_line.ensures)))
 
 pub returns-clause-says : goal.returns-clause-says
 returns-clause-says g c =
     rw c.compared_status.ensures (comparison_said c.args.made.now c.args.listed.now (g.K.Sink.told c.args.out.now) (g.K.Sink.told c.send_line.new.out)
-    c.requires.1.1.image c.compare-compared.result c.compare-compared.ensures (c.in_ok-send_line.ensures.sent (compared_line c.compare-compared.result) c.compared_line.ensures))
+    c.requires.2.image c.compare-compared.result c.compare-compared.ensures (c.in_ok-send_line.ensures.sent (compared_line c.compare-compared.result) c.compared_line.ensures))

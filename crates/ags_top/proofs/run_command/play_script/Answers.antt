@@ -4,16 +4,16 @@ use Rattle.ags_top.proofs.run_command.play_script.Goals as goal
 
 pub returns-in-Ok-clause-says : goal.returns-in-Ok-clause-says
 returns-in-Ok-clause-says g c =
-    play_said c.args.machine.now c.args.made.now c.args.script.now (g.K.Sink.told c.args.out.now) (g.K.Sink.told c.play.new.out) c.requires.made.1.1.image c.in-Ok.field-0 c.in-Ok.ensures.played
+    play_said c.args.machine.now c.args.made.now c.args.script.now (g.K.Sink.told c.args.out.now) (g.K.Sink.told c.play.new.out) c.requires.made.2.image c.in-Ok.field-0 c.in-Ok.ensures.played
 
 pub returns-in-Err-WriteFault-clause-says : goal.returns-in-Err-WriteFault-clause-says
 returns-in-Err-WriteFault-clause-says g c =
-    inl (play_said_in_part c.args.machine.now c.args.made.now c.args.script.now (g.K.Sink.told c.args.out.now) (g.K.Sink.told c.play.new.out) c.requires.made.1.1.image
+    inl (play_said_in_part c.args.machine.now c.args.made.now c.args.script.now (g.K.Sink.told c.args.out.now) (g.K.Sink.told c.play.new.out) c.requires.made.2.image
     (rw c.in-Err-WriteFault.field-0-is at c.in-Err-WriteFault.ensures.unplayed))
 
 pub returns-in-Err-NoMemory-clause-says : goal.returns-in-Err-NoMemory-clause-says
 returns-in-Err-NoMemory-clause-says g c =
-    inl (play_said_in_part c.args.machine.now c.args.made.now c.args.script.now (g.K.Sink.told c.args.out.now) (g.K.Sink.told c.play.new.out) c.requires.made.1.1.image
+    inl (play_said_in_part c.args.machine.now c.args.made.now c.args.script.now (g.K.Sink.told c.args.out.now) (g.K.Sink.told c.play.new.out) c.requires.made.2.image
     (rw c.in-Err-NoMemory.field-0-is at c.in-Err-NoMemory.ensures.unplayed))
 
 pub unreachable-requires : goal.unreachable-requires
