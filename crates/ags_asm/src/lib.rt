@@ -23,3 +23,6 @@ pub use laws::{
     owner_is_the_nearest_earlier_card, source_defines_each_place_once,
     source_defines_words_of_the_memory, source_means_one_thing,
 };
+
+// No clause can name a constant, so the number that is handed out is proved here.
+const _: () = prove!(SOURCE_LIMIT == 4_194_304);

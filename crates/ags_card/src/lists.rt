@@ -1,7 +1,8 @@
 //! The constants of DEC and OCT: lists of them.
 
-ghost use Rattle.std.specs.Prelude.{◌≡◌, ◌≤◌, ◌==◌, [], ◌∷◌, length, position, take, Some, None, OnOk, IfOk, IfErr};
+ghost use Rattle.std.specs.Prelude.{◌≡◌, ◌≤◌, ◌==◌, [], ◌∷◌, length, position, take, Some, None, OnOk, OnErr, IfOk, IfErr};
 ghost use Rattle.std.specs.List.{position_or_len};
+ghost use Rattle.ags_decimal.specs.Decimal.{zero};
 ghost use Rattle.ags_decimal.specs.Reading as decimal;
 ghost use Rattle.ags_card.specs.Constant.{AreConstants};
 ghost use Rattle.ags_card.specs.Reading.{list_reading, octal_reading};
@@ -103,7 +104,9 @@ impl OctList {
     }
 
     /// The one word 0.
-    pub(crate) fn zero() -> OctList {
+    pub(crate) fn zero() -> OctList
+        ensures { result ≡ 0 ∷ [] }
+    {
         OctList {
             words: [Word::ZERO; MOST_CONSTANTS],
             count: 1,
@@ -115,6 +118,7 @@ impl OctList {
         requires { length operand.now ≤ 120 }
         ensures read { OnOk result (list_reading octal_reading [] operand.now ≡ Some self.new) }
         ensures fault { IfErr result (λ fault. (list_reading octal_reading [] operand.now ≡ None) × (fault ≡ CardFault.BadOctal)) }
+        ensures zero { OnErr result (self.new ≡ 0 ∷ []) }
     {
         match read_words(operand, &mut self.words) {
             Ok(count) => {
@@ -164,7 +168,9 @@ impl DecList {
     }
 
     /// The one number 0.
-    pub(crate) fn zero() -> DecList {
+    pub(crate) fn zero() -> DecList
+        ensures { result ≡ zero ∷ [] }
+    {
         let mut items: ArrayVec<Decimal, MOST_CONSTANTS> = ArrayVec::new();
         items.push(Decimal::default());
         DecList { items }
@@ -175,6 +181,7 @@ impl DecList {
         requires { length operand.now ≤ 120 }
         ensures read { OnOk result (list_reading decimal.reading [] operand.now ≡ Some self.new) }
         ensures fault { IfErr result (λ fault. (list_reading decimal.reading [] operand.now ≡ None) × (fault ≡ CardFault.BadDecimal)) }
+        ensures zero { OnErr result (self.new ≡ zero ∷ []) }
     {
         self.items.clear();
         match read_decimals(operand, &mut self.items) {

@@ -1,6 +1,6 @@
 //! The terms of an expression.
 
-ghost use Rattle.std.specs.Prelude.{◌≡◌, ◌≤◌, length, Some, None, OnOk, IfErr};
+ghost use Rattle.std.specs.Prelude.{◌≡◌, ◌≤◌, length, Some, None, OnOk, OnErr, IfErr};
 ghost use Rattle.ags_card.specs.Reading.{expression_reading};
 ghost use Rattle.ags_card.specs.Term.{AreTerms, zero_terms};
 
@@ -66,6 +66,7 @@ impl Terms {
         requires { length text.now ≤ 120 }
         ensures read { OnOk result (expression_reading text.now ≡ Some self.new) }
         ensures fault { IfErr result (λ fault. (expression_reading text.now ≡ None) × (fault ≡ CardFault.BadExpression)) }
+        ensures zero { OnErr result (self.new ≡ zero_terms) }
     {
         self.items.clear();
         match read_expression(text, &mut self.items) {

@@ -15,3 +15,10 @@ pub use ags_certtext::{CertError, CertKind};
 pub use ags_certtype::laws::numbers_are_of_the_rows_at_a_location;
 pub use ags_certtype::{Cert, CertParts, EditError, MOST_ROWS, MOST_ROWS_AT_ONE};
 pub use values::read_value;
+
+// No clause can name a constant, so the number of each that is handed out is proved here.
+const _: () = prove!(CERT_LIMIT == 67_108_864);
+
+const _: () = prove!(MOST_ROWS == 20_000);
+
+const _: () = prove!(MOST_ROWS_AT_ONE == 512);

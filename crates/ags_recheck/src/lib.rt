@@ -1,8 +1,9 @@
 //! The book of a program and its certificate while they are edited (docs/EDITS.md): after each edit it tells the verdict
-//! that a check from nothing would tell, and judges again those rows alone that the edit can concern. It keeps of each
-//! row what comes of it and the locations of its posts, in room that it takes when it is made. It stands on `ags_check`
-//! for what is checked, on `ags_certtype` for edits of a certificate, and on `ags_verdict` for which rows a row is judged
-//! by. `read`, which reads a text of edits, stands in `ags_edits` and is handed on here.
+//! that a check from nothing would tell, in fewer steps: after that of a row, of the new row's cases and of the rows that
+//! lead to its old or its new location. It keeps of each row what comes of it and the locations of its posts, in room
+//! that it takes when it is made. It stands on `ags_check` for what is checked, on `ags_certtype` for edits of a
+//! certificate, and on `ags_verdict` for which rows a row is judged by. `read`, which reads a text of edits, stands in
+//! `ags_edits` and is handed on here.
 #![tactic(auto)]
 
 mod books;
@@ -17,3 +18,8 @@ mod telling;
 pub use ags_edits::{EDITS_LIMIT, Edit, EditsError, EditsKind, MOST_EDITS, read};
 pub use books::Book;
 pub use telling::Told;
+
+// No clause can name a constant, so the number of each that is handed out is proved here.
+const _: () = prove!(EDITS_LIMIT == 4_194_304);
+
+const _: () = prove!(MOST_EDITS == 10_000);

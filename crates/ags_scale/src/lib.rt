@@ -18,3 +18,6 @@ mod texts;
 pub use ags_tags::{RowTag, RowTags, SCALES_LIMIT, ScaleError, ScaleKind, Scales, Tag, read};
 pub use answers::{Meeting, Scaled, TagFault};
 pub use judging::judge;
+
+// No clause can name a constant, so the number of each that is handed out is proved here.
+const _: () = prove!(SCALES_LIMIT == 4_194_304);
