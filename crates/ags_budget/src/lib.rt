@@ -16,5 +16,5 @@ pub use ags_times::{Budget, BudgetError, BudgetKind, TIMES_LIMIT, read};
 pub use answers::{LateCase, Timed};
 pub use judging::judge;
 
-// No clause can name a constant, so the number of each that is handed out is proved here.
+// No clause can name a constant, so the number that is handed out is proved here.
 const _: () = prove!(TIMES_LIMIT == 4_194_304);

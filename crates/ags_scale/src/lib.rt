@@ -19,5 +19,5 @@ pub use ags_tags::{RowTag, RowTags, SCALES_LIMIT, ScaleError, ScaleKind, Scales,
 pub use answers::{Meeting, Scaled, TagFault};
 pub use judging::judge;
 
-// No clause can name a constant, so the number of each that is handed out is proved here.
+// No clause can name a constant, so the number that is handed out is proved here.
 const _: () = prove!(SCALES_LIMIT == 4_194_304);
