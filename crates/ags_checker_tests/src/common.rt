@@ -1,7 +1,11 @@
 //! What several tests make, and what they assert.
 
-use ags_domain::{Range, Value};
+use ags_certtype::{Cert, CertParts};
+use ags_domain::{Domain, Range, Value};
+use ags_image::Image;
+use ags_row::{At, Limits, Link, Post, Row, RowParts, covers};
 use ags_word::Word;
+use std::alloc::Global;
 use std::fmt::Debug;
 use std::process::Abort;
 
@@ -10,9 +14,110 @@ pub(crate) fn word(rt: &impl Abort, number: u32) -> Word {
     Word::of(number).expect(rt, "the number of a word")
 }
 
+/// The range of two values.
+pub(crate) fn range(rt: &impl Abort, ends: (i32, i32)) -> Range {
+    Range::of(ends.0, ends.1).expect(rt, "the ends of a range")
+}
+
 /// The value that is a range of two values.
-pub(crate) fn range(rt: &impl Abort, least: i32, greatest: i32) -> Value {
-    Value::Range(Range::of(least, greatest).expect(rt, "the ends of a range"))
+pub(crate) fn value(rt: &impl Abort, ends: (i32, i32)) -> Value {
+    Value::Range(range(rt, ends))
+}
+
+/// The same, where the ends are told.
+pub(crate) fn value_if(rt: &impl Abort, ends: Option<(i32, i32)>) -> Option<Value> {
+    match ends {
+        Some(ends) => Some(value(rt, ends)),
+        None => None,
+    }
+}
+
+/// An image of some words, which stand from a place on.
+pub(crate) fn image_of(rt: &impl Abort, alloc: Global, from: u16, words: &[u32]) -> Image {
+    let mut image = Image::new(alloc).expect(rt, "memory for an image");
+    let mut place = from;
+    for number in words {
+        assert!(rt; place < 4095);
+        image.set(place, word(rt, *number));
+        place += 1;
+    }
+    image
+}
+
+/// Limits that hold each word.
+pub(crate) fn full_limits<D: Domain>(rt: &impl Abort, alloc: Global) -> Limits<D> {
+    Limits::new(alloc).expect(rt, "memory for limits")
+}
+
+/// Adds a cell, with what it may hold, to those that a row names.
+pub(crate) fn add_cell(rt: &impl Abort, cells: &mut Vec<At<Value>>, address: u16, value: Value) {
+    assert!(rt; cells.push(At { address, value }).is_ok());
+}
+
+/// The parts of a row where A and Q may hold any word, with index 0 and some indicators.
+pub(crate) fn open_parts(location: u16, v: [bool; 2], at: Vec<At<Value>>) -> RowParts<Value> {
+    RowParts {
+        location,
+        a: Value::full(),
+        q: Value::full(),
+        x: [true, false, false, false, false, false, false, false],
+        v,
+        at,
+        link: None,
+    }
+}
+
+/// The row of parts that make one.
+pub(crate) fn row_of<D: Domain>(rt: &impl Abort, parts: RowParts<D>) -> Row<D> {
+    Row::of(parts).expect(rt, "the parts of a row")
+}
+
+/// A row at each of some locations, where A and Q may hold any word, with index 0, some indicators and, where told, a link.
+pub(crate) fn open_rows(
+    rt: &impl Abort,
+    alloc: Global,
+    locations: &[u16],
+    v: [bool; 2],
+    link: Option<Link>,
+) -> Vec<Row<Value>> {
+    let mut rows = Vec::new(alloc);
+    for location in locations {
+        let mut parts = open_parts(*location, v, Vec::new(alloc));
+        parts.link = link;
+        assert!(rt; rows.push(row_of(rt, parts)).is_ok());
+    }
+    rows
+}
+
+/// A certificate of some rows under some limits, with what is stated of the cell 0020 at the start; it starts at 4000.
+pub(crate) fn certificate(
+    rt: &impl Abort,
+    alloc: Global,
+    limits: Limits<Value>,
+    stated: Option<Value>,
+    rows: Vec<Row<Value>>,
+) -> Cert {
+    let mut init = vec![in alloc; None; 2048].expect(rt, "memory for the start");
+    init[0o20] = stated;
+    let parts = CertParts {
+        start: 0o4000,
+        limits,
+        init,
+        rows,
+    };
+    let made = Cert::of(alloc, parts).expect(rt, "memory for a certificate");
+    made.expect(rt, "the parts of a certificate")
+}
+
+/// Whether a row covers a post of another, where each cell may hold any word.
+pub(crate) fn is_covered_by(
+    rt: &impl Abort,
+    alloc: Global,
+    target: &Row<Value>,
+    base: &Row<Value>,
+    post: &Post<Value>,
+) -> bool {
+    covers(target, base, post, &full_limits(rt, alloc))
 }
 
 /// Asserts that what is told is what is wanted.

@@ -3,14 +3,14 @@
 
 ghost use Rattle.std.specs.Prelude.{◌≡◌, ◌<◌};
 
-use crate::common::{expect_same, range, word};
+use crate::common::{certificate, expect_same, full_limits, image_of, open_rows, value, word};
 use ags_certread::{CERT_LIMIT, read};
-use ags_certtype::{Cert, CertParts};
+use ags_certtype::Cert;
 use ags_check::{Accepting, Refusal, RowFault, Verdict, check, refusal_of};
 use ags_domain::{Domain, Operands, Value};
 use ags_image::Image;
 use ags_ports::{Machine, Ports};
-use ags_row::{Limits, Row, RowParts};
+use ags_row::{Limits, Row};
 use ags_steps::Steps;
 use ags_transfer::{PostPair, Stop, posts};
 use ags_walk::{Judge, OneCase, walk_rows};
@@ -162,49 +162,19 @@ fn expect_judged(
     expect_same(rt, &judged.cases, &cases);
 }
 
-/// An image of some words, which stand from 4000 octal on.
-fn image_of(rt: &impl Abort, alloc: Global, words: &[u32]) -> Image {
-    let mut image = Image::new(alloc).expect(rt, "memory for an image");
-    let mut place: u16 = 0o4000;
-    for number in words {
-        assert!(rt; place < 4095);
-        image.set(place, word(rt, *number));
-        place += 1;
-    }
-    image
+/// The limits of the rows: the cell 20 octal and the output register 6001 hold 0 to 5, the cell 22 octal 0 to 15.
+fn limits(rt: &impl Abort, alloc: Global) -> Limits<Value> {
+    let mut limits = full_limits(rt, alloc);
+    limits.set_cell(0o20, value(rt, (0, 5)));
+    limits.set_cell(0o22, value(rt, (0, 15)));
+    limits.set_output(0o6001, value(rt, (0, 5)));
+    limits
 }
 
-/// A row where A and Q may hold any word, with index 0 and both indicators: two cases a word.
-fn row(rt: &impl Abort, alloc: Global, location: u16) -> Row<Value> {
-    Row::of(RowParts {
-        location,
-        a: Value::full(),
-        q: Value::full(),
-        x: [true, false, false, false, false, false, false, false],
-        v: [true, true],
-        at: Vec::new(alloc),
-        link: None,
-    })
-    .expect(rt, "the parts of a row")
-}
-
-/// A certificate with rows at 4000 octal and at one other location; the cell 20 octal and the output register 6001 hold 0 to 5.
+/// A certificate with rows at 4000 octal and at one other location, with index 0 and both indicators: two cases a word.
 fn two_rows(rt: &impl Abort, alloc: Global, second: u16) -> Cert {
-    let mut limits: Limits<Value> = Limits::new(alloc).expect(rt, "memory for limits");
-    limits.set_cell(0o20, range(rt, 0, 5));
-    limits.set_cell(0o22, range(rt, 0, 15));
-    limits.set_output(0o6001, range(rt, 0, 5));
-    let mut rows = Vec::new(alloc);
-    assert!(rt; rows.push(row(rt, alloc, 0o4000)).is_ok());
-    assert!(rt; rows.push(row(rt, alloc, second)).is_ok());
-    let parts = CertParts {
-        start: 0o4000,
-        limits,
-        init: vec![in alloc; None; 2048].expect(rt, "memory for the start"),
-        rows,
-    };
-    let made = Cert::of(alloc, parts).expect(rt, "memory for a certificate");
-    made.expect(rt, "the parts of a certificate")
+    let rows = open_rows(rt, alloc, &[0o4000, second], [true, true], None);
+    certificate(rt, alloc, limits(rt, alloc), None, rows)
 }
 
 /// Asserts what is refused in the second of two rows, where the first goes to it, and how many cases were judged: both of the first row,
@@ -219,7 +189,7 @@ fn expect_refused(
 ) {
     assert!(rt; second < 4096);
     let words = [0o400000 + u32::from(second), number];
-    let image = image_of(rt, alloc, &words);
+    let image = image_of(rt, alloc, 0o4000, &words);
     let cert = two_rows(rt, alloc, second);
     expect_judged(rt, &image, &cert, &Err(refusal), cases);
 }
@@ -361,14 +331,18 @@ ROW 0022 A RANGE -1000 1000 Q ANY X 0 V 0\n\
 AT 0022 WORDS 404004 404012\n\
 END\n";
 
+/// The deck's certificate as it is read.
+fn deck_cert(rt: &impl Abort, alloc: Global) -> Cert {
+    assert!(rt; DECK_CERT.len() <= CERT_LIMIT);
+    match read(alloc, DECK_CERT, &Ports::standard()) {
+        Ok(cert) => cert,
+        Err(_) => panic!(rt; "no certificate"),
+    }
+}
+
 #[test]
 fn each_case_of_the_deck_is_judged_once(rt: HostRuntime) {
     let alloc = rt.alloc();
-    assert!(rt; DECK_CERT.len() <= CERT_LIMIT);
-    let read = read(alloc, DECK_CERT, &Ports::standard());
-    let Ok(cert) = read else {
-        panic!(rt; "no certificate");
-    };
-    let image = image_of(&rt, alloc, &DECK);
-    expect_judged(&rt, &image, &cert, &Ok(32), 32);
+    let image = image_of(&rt, alloc, 0o4000, &DECK);
+    expect_judged(&rt, &image, &deck_cert(&rt, alloc), &Ok(32), 32);
 }

@@ -1,15 +1,10 @@
 //! Rows that were worked out outside the crate, one table for each subject.
 
-use crate::common::{expect_same, word};
+use crate::common::{expect_same, range, value, value_if, word};
 use ags_domain::{Domain, Operands, Range, Value, WordSet};
 use ags_word::Word;
 use std::alloc::Global;
 use std::process::Abort;
-
-/// The range of two values.
-fn range(rt: &impl Abort, ends: (i32, i32)) -> Range {
-    Range::of(ends.0, ends.1).expect(rt, "the ends of a range")
-}
 
 /// An operation with a count, or without one.
 #[derive(Clone, Copy)]
@@ -26,25 +21,26 @@ enum Operation {
     Over,
 }
 
+/// The count of an operation, which is 0 where it has none.
+fn count_of(operation: Operation) -> u32 {
+    match operation {
+        Operation::Als(count) | Operation::Lls(count) | Operation::Lrs(count) => count,
+        _ => 0,
+    }
+}
+
 /// The answer of an operation over a domain.
 fn answer<D: Domain>(rt: &impl Abort, operation: Operation, a: &D, m: &D) -> Result<D, Operands> {
+    let count = count_of(operation);
+    assert!(rt; count < 64);
     match operation {
         Operation::Add => a.add(m),
         Operation::Sub => a.sub(m),
         Operation::Com => a.com(),
         Operation::Abs => a.abs(),
-        Operation::Als(count) => {
-            assert!(rt; count < 64);
-            a.als(count)
-        }
-        Operation::Lls(count) => {
-            assert!(rt; count < 64);
-            a.lls_high(count)
-        }
-        Operation::Lrs(count) => {
-            assert!(rt; count < 64);
-            Ok(a.lrs_high(count))
-        }
+        Operation::Als(_) => a.als(count),
+        Operation::Lls(_) => a.lls_high(count),
+        Operation::Lrs(_) => Ok(a.lrs_high(count)),
         Operation::High => a.mul_high(m),
         Operation::Round => a.mul_round(m),
         Operation::Over => a.quotient(m),
@@ -123,11 +119,6 @@ const INTERVALS_OF_VALUES: [Interval; 2] = [
         (-2000, 2001),
     ),
 ];
-
-/// The value that is a range of two values.
-fn value(rt: &impl Abort, ends: (i32, i32)) -> Value {
-    Value::Range(range(rt, ends))
-}
 
 /// Expects the ends of what an operation on two values leaves.
 fn expect_value(rt: &impl Abort, operation: Operation, a: Value, m: Value, ends: Value) {
@@ -247,18 +238,22 @@ fn pair(rt: &impl Abort, first: u32, second: u32) -> Value {
     Value::of_word(word(rt, first)).join(&Value::of_word(word(rt, second)))
 }
 
+/// The set of a value's words, if they are few.
+fn set_of(value: &Value) -> Option<Value> {
+    match value.few() {
+        Some(words) => Some(Value::Words(words)),
+        None => None,
+    }
+}
+
 #[test]
 fn joins(rt: HostRuntime) {
     let sixteen = value(&rt, (-8, 7));
     let more = value(&rt, (-8, 8));
-    expect_same(&rt, &more.few().map(Value::Words), &None);
+    expect_same(&rt, &set_of(&more), &None);
     let ends = pair(&rt, 7, 0o777770);
-    expect_same(
-        &rt,
-        &sixteen.few().map(Value::Words),
-        &Some(sixteen.join(&ends)),
-    );
-    expect_same(&rt, &Some(sixteen.join(&pair(&rt, 8, 7))), &Some(more));
+    expect_same(&rt, &set_of(&sixteen), &Some(sixteen.join(&ends)));
+    expect_same(&rt, &sixteen.join(&pair(&rt, 8, 7)), &more);
 }
 
 /// Expects whether a value is within another.
@@ -300,14 +295,6 @@ const RANGE_PARTS: [(i32, i32, Option<(i32, i32)>); 8] = [
 fn range_if(rt: &impl Abort, ends: Option<(i32, i32)>) -> Option<Range> {
     match ends {
         Some(ends) => Some(range(rt, ends)),
-        None => None,
-    }
-}
-
-/// The same as a value.
-fn value_if(rt: &impl Abort, ends: Option<(i32, i32)>) -> Option<Value> {
-    match ends {
-        Some(ends) => Some(value(rt, ends)),
         None => None,
     }
 }
@@ -417,26 +404,33 @@ fn walked(operation: Operation, a: i64, m: i64) -> Option<(i64, i64)> {
     Some((least, greatest))
 }
 
+/// The least and the greatest value of a range.
+fn ends_of(hull: Range) -> (i64, i64) {
+    (
+        i64::from(hull.least().value()),
+        i64::from(hull.greatest().value()),
+    )
+}
+
+/// Asserts that an operation overflows at some operands, by whole numbers.
+fn expect_overflowing(rt: &impl Abort, operation: Operation, words: Operands) {
+    let left = left_in_a(
+        operation,
+        i64::from(words.a.value()),
+        i64::from(words.q.number()),
+        i64::from(words.m.value()),
+    );
+    assert!(rt; left.is_none());
+}
+
 /// The ends of an operation's answer, or nothing where it tells operands, which then overflow.
 fn told(rt: &impl Abort, operation: Operation, a: i32, m: i32) -> Option<(i64, i64)> {
-    match answer(
-        rt,
-        operation,
-        &range(rt, (a, a.wrapping_add(6))),
-        &range(rt, (m, m.wrapping_add(6))),
-    ) {
-        Ok(hull) => Some((
-            i64::from(hull.least().value()),
-            i64::from(hull.greatest().value()),
-        )),
+    let first = range(rt, (a, a.wrapping_add(6)));
+    let second = range(rt, (m, m.wrapping_add(6)));
+    match answer(rt, operation, &first, &second) {
+        Ok(hull) => Some(ends_of(hull)),
         Err(words) => {
-            let left = left_in_a(
-                operation,
-                i64::from(words.a.value()),
-                i64::from(words.q.number()),
-                i64::from(words.m.value()),
-            );
-            assert!(rt; left.is_none());
+            expect_overflowing(rt, operation, words);
             None
         }
     }

@@ -1,7 +1,7 @@
 //! What an order leaves of the link of A to a cell, and what TMI tells of the linked cell.
 
-use crate::common::{expect_same, range};
-use crate::transfer_tests::{alone, full_limits, judged_in_row, limits};
+use crate::common::{expect_same, full_limits, row_of, value};
+use crate::transfer_tests::{alone, judged_in_row, limits};
 use ags_domain::Value;
 use ags_posts::{PostPair, Stop};
 use ags_row::{At, Limits, Link, Post, Row, RowParts};
@@ -18,17 +18,31 @@ fn linked_row(
 ) -> Row<Value> {
     let parts = RowParts {
         location,
-        a: range(rt, ends.0, ends.1),
-        q: range(rt, 5, 6),
+        a: value(rt, ends),
+        q: value(rt, (5, 6)),
         x: [false, false, true, false, false, false, false, false],
         v: [true, false],
         at: Vec::new(alloc),
         link: Some(link),
     };
-    Row::of(parts).expect(rt, "the parts of a row")
+    row_of(rt, parts)
 }
 
-/// The posts at 4000 of a word, where A may hold the words between two values, with a link, under limits of some cells.
+/// The posts of a word in a row with a link, where A may hold the words between two values.
+fn posts_in(
+    rt: &impl Abort,
+    alloc: Global,
+    limits: &Limits<Value>,
+    location: u16,
+    ends: (i32, i32),
+    link: Link,
+    number: u32,
+) -> Result<PostPair<Value>, Stop<Value>> {
+    let base = linked_row(rt, alloc, location, ends, link);
+    judged_in_row(rt, alloc, limits, &base, number, 2, false)
+}
+
+/// The same at 4000, under limits of some cells.
 fn posts_at(
     rt: &impl Abort,
     alloc: Global,
@@ -37,16 +51,8 @@ fn posts_at(
     named: bool,
     number: u32,
 ) -> Result<PostPair<Value>, Stop<Value>> {
-    let base = linked_row(rt, alloc, 0o4000, ends, link);
-    judged_in_row(
-        rt,
-        alloc,
-        &limits(rt, alloc, named),
-        &base,
-        number,
-        2,
-        false,
-    )
+    let limits = limits(rt, alloc, named);
+    posts_in(rt, alloc, &limits, 0o4000, ends, link, number)
 }
 
 /// The link of the one post of an answer.
@@ -196,8 +202,8 @@ fn way(rt: &impl Abort, link: Link, way: Way) -> Post<Value> {
     let (next, a, cell) = way;
     Post {
         next,
-        a: range(rt, a.0, a.1),
-        q: range(rt, 5, 6),
+        a: value(rt, a),
+        q: value(rt, (5, 6)),
         x: 2,
         v0: true,
         v1: false,
@@ -205,7 +211,7 @@ fn way(rt: &impl Abort, link: Link, way: Way) -> Post<Value> {
         code: None,
         narrowed: Some(At {
             address: link.address,
-            value: range(rt, cell.0, cell.1),
+            value: value(rt, cell),
         }),
         link: Some(link),
     }
@@ -272,9 +278,8 @@ fn run_from_linked_cell(
         address: 0o20,
         offset,
     };
-    let base = linked_row(rt, alloc, 0o20, (1, 3), link);
-    let any: Limits<Value> = full_limits(rt, alloc);
-    judged_in_row(rt, alloc, &any, &base, 0o460030, 2, false)
+    let limits = full_limits(rt, alloc);
+    posts_in(rt, alloc, &limits, 0o20, (1, 3), link, 0o460030)
 }
 
 // The cell holds the order's own word, whose value is -106472.

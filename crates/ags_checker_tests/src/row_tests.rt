@@ -1,64 +1,42 @@
 //! Rows that were worked out outside the crate.
 
-use crate::common::expect_same;
-use ags_domain::{Domain, Range, Value, WordSet};
-use ags_row::{At, Limits, Link, Post, Row, RowParts, cell_of, covers};
+use crate::common::{
+    add_cell, expect_same, full_limits, is_covered_by, open_parts, range, row_of, value, word,
+};
+use ags_domain::{Domain, Value, WordSet};
+use ags_row::{At, Limits, Link, Post, Row, RowParts, cell_of};
 use ags_word::Word;
 use std::alloc::Global;
 use std::process::Abort;
-
-/// The range of two values.
-fn range(rt: &impl Abort, least: i32, greatest: i32) -> Range {
-    Range::of(least, greatest).expect(rt, "the ends of a range")
-}
-
-/// The value that is a range of two values.
-fn value(rt: &impl Abort, least: i32, greatest: i32) -> Value {
-    Value::Range(range(rt, least, greatest))
-}
 
 /// The parts of a row at 4000 octal where all may stand with index 0 and a clear indicator, and that names these cells.
 fn parts(rt: &impl Abort, alloc: Global, cells: &[(u16, i32, i32)]) -> RowParts<Value> {
     let mut at = Vec::new(alloc);
     for (address, least, greatest) in cells {
-        let cell = At {
-            address: *address,
-            value: value(rt, *least, *greatest),
-        };
-        assert!(rt; at.push(cell).is_ok());
+        add_cell(rt, &mut at, *address, value(rt, (*least, *greatest)));
     }
-    RowParts {
-        location: 0o4000,
-        a: Value::full(),
-        q: Value::full(),
-        x: [true, false, false, false, false, false, false, false],
-        v: [true, false],
-        at,
-        link: None,
-    }
+    open_parts(0o4000, [true, false], at)
 }
 
 /// A row of parts that make one.
 fn row(rt: &impl Abort, alloc: Global, cells: &[(u16, i32, i32)]) -> Row<Value> {
-    Row::of(parts(rt, alloc, cells)).expect(rt, "the parts of a row")
+    row_of(rt, parts(rt, alloc, cells))
 }
 
 /// A row that names so many cells, if there is one.
 fn row_of_many(rt: &impl Abort, alloc: Global, count: u16) -> Option<Row<Value>> {
-    let mut many = parts(rt, alloc, &[]);
+    let mut at = Vec::new(alloc);
     for address in 0..count {
-        let value = Value::full();
-        assert!(rt; many.at.push(At { address, value }).is_ok());
+        add_cell(rt, &mut at, address, Value::full());
     }
-    Row::of(many)
+    Row::of(open_parts(0o4000, [true, false], at))
 }
 
 /// A row with a link of A to a cell, if there is one.
-fn linked_row(rt: &impl Abort, alloc: Global, address: u16, offset: i32) -> Option<Row<Value>> {
-    Row::of(RowParts {
-        link: Some(Link { address, offset }),
-        ..parts(rt, alloc, &[])
-    })
+fn linked_row(alloc: Global, address: u16, offset: i32) -> Option<Row<Value>> {
+    let mut linked = open_parts(0o4000, [true, false], Vec::new(alloc));
+    linked.link = Some(Link { address, offset });
+    Row::of(linked)
 }
 
 /// Three cells that ascend.
@@ -116,7 +94,7 @@ const LINKS: [(u16, i32, bool); 7] = [
 #[test]
 fn links_that_may_stand_in_a_row(rt: HostRuntime) {
     for (address, offset, stands) in &LINKS {
-        let made = linked_row(&rt, rt.alloc(), *address, *offset);
+        let made = linked_row(rt.alloc(), *address, *offset);
         expect_same(&rt, &made.is_some(), stands);
     }
 }
@@ -129,7 +107,15 @@ fn are_full<D: Domain>(limits: &Limits<D>, outside: Word) -> bool {
         && !limits.may(0o4000)
 }
 
-/// Whether the limits that are set don't hold a word, and those beside them do.
+/// Sets a limit of each kind, and names a place.
+fn set_limits<D: Domain>(limits: &mut Limits<D>, set: D) {
+    limits.set_cell(0o20, set);
+    limits.set_input(0o2001, set);
+    limits.set_output(0o6001, set);
+    limits.name_place(0o4000);
+}
+
+/// Whether the limits that are set don't hold a word, and those beside them do, and no place but one is named.
 fn are_set<D: Domain>(limits: &Limits<D>, outside: Word) -> bool {
     !limits.cell(0o20).holds(outside)
         && limits.cell(0o21).holds(outside)
@@ -137,22 +123,16 @@ fn are_set<D: Domain>(limits: &Limits<D>, outside: Word) -> bool {
         && limits.input(0o2002).holds(outside)
         && !limits.output(0o6001).holds(outside)
         && limits.output(0o6002).holds(outside)
+        && limits.may(0o4000)
+        && !limits.may(0o4001)
 }
 
 /// Each limit of a domain is full and is then set, and no place but one is named.
 fn limits_of<D: Domain>(rt: &impl Abort, alloc: Global, set: D, outside: Word) -> Limits<D> {
-    let mut limits: Limits<D> = Limits::new(alloc).expect(rt, "memory for limits");
+    let mut limits = full_limits(rt, alloc);
     assert!(rt; are_full(&limits, outside));
-    limits.set_cell(0o20, set);
-    limits.set_input(0o2001, set);
-    limits.set_output(0o6001, set);
-    limits.name_place(0o4000);
+    set_limits(&mut limits, set);
     assert!(rt; are_set(&limits, outside));
-    expect_same(
-        rt,
-        &(limits.may(0o4000), limits.may(0o4001)),
-        &(true, false),
-    );
     limits
 }
 
@@ -170,26 +150,28 @@ fn assert_cell(
 
 /// Asserts what the cells of a row may hold.
 fn assert_cells(rt: &impl Abort, base: &Row<Value>, limits: &Limits<Value>) {
-    assert_cell(rt, base, limits, 0, value(rt, 0, 3));
-    assert_cell(rt, base, limits, 0o17, value(rt, 1, 2));
-    assert_cell(rt, base, limits, 0o3777, value(rt, 4, 4));
+    assert_cell(rt, base, limits, 0, value(rt, (0, 3)));
+    assert_cell(rt, base, limits, 0o17, value(rt, (1, 2)));
+    assert_cell(rt, base, limits, 0o3777, value(rt, (4, 4)));
     assert_cell(rt, base, limits, 0o16, Value::full());
-    assert_cell(rt, base, limits, 0o20, value(rt, -5, 5));
+    assert_cell(rt, base, limits, 0o20, value(rt, (-5, 5)));
 }
 
 #[test]
 fn limits_and_cells(rt: HostRuntime) {
     let alloc = rt.alloc();
-    let outside = Word::of(6).expect(&rt, "a word");
-    let _ = limits_of(&rt, alloc, range(&rt, -5, 5), outside);
-    let limits = limits_of(&rt, alloc, value(&rt, -5, 5), outside);
-    let base = row(&rt, alloc, &[(0, 0, 3), (0o17, 1, 2), (0o3777, 4, 4)]);
-    assert_cells(&rt, &base, &limits);
+    let outside = word(&rt, 6);
+    let _ = limits_of(&rt, alloc, range(&rt, (-5, 5)), outside);
+    assert_cells(
+        &rt,
+        &row(&rt, alloc, &[(0, 0, 3), (0o17, 1, 2), (0o3777, 4, 4)]),
+        &limits_of(&rt, alloc, value(&rt, (-5, 5)), outside),
+    );
 }
 
 /// A word that an order may be.
 fn order_word(rt: &impl Abort) -> Word {
-    Word::of(0o100020).expect(rt, "a word")
+    word(rt, 0o100020)
 }
 
 /// A post that goes on at 4000 octal, with index 0 and a clear indicator, whose order stands in the cell 20 octal and stores there.
@@ -203,7 +185,7 @@ fn post(rt: &impl Abort) -> Post<Value> {
         v1: false,
         stored: Some(At {
             address: 0o20,
-            value: value(rt, 0, 3),
+            value: value(rt, (0, 3)),
         }),
         code: Some(At {
             address: 0o20,
@@ -215,9 +197,14 @@ fn post(rt: &impl Abort) -> Post<Value> {
 }
 
 /// Whether a row covers a post of a row that names the cell 17 octal.
-fn is_covered_by(rt: &impl Abort, alloc: Global, target: &Row<Value>, post: &Post<Value>) -> bool {
-    let limits: Limits<Value> = Limits::new(alloc).expect(rt, "memory for limits");
-    covers(target, &row(rt, alloc, &[(0o17, 1, 2)]), post, &limits)
+fn is_post_covered(
+    rt: &impl Abort,
+    alloc: Global,
+    target: &Row<Value>,
+    post: &Post<Value>,
+) -> bool {
+    let base = row(rt, alloc, &[(0o17, 1, 2)]);
+    is_covered_by(rt, alloc, target, &base, post)
 }
 
 /// Whether a row that names these cells covers a post.
@@ -228,7 +215,7 @@ fn is_covered(
     post: &Post<Value>,
 ) -> bool {
     let target = row(rt, alloc, cells);
-    is_covered_by(rt, alloc, &target, post)
+    is_post_covered(rt, alloc, &target, post)
 }
 
 /// Asserts whether a row that names these cells covers a post.
@@ -278,7 +265,7 @@ fn value_of_a_word_is_its_set(rt: HostRuntime) {
 fn tested_cell(rt: &impl Abort) -> Option<At<Value>> {
     Some(At {
         address: 0o20,
-        value: value(rt, 5, 7),
+        value: value(rt, (5, 7)),
     })
 }
 
@@ -308,9 +295,9 @@ fn link(address: u16, offset: i32) -> Option<Link> {
 
 /// Whether a row with the link (20 octal, 3) covers a post with a link.
 fn is_link_covered(rt: &impl Abort, alloc: Global, link: Option<Link>) -> bool {
-    let target = linked_row(rt, alloc, 0o20, 3).expect(rt, "a link");
+    let target = linked_row(alloc, 0o20, 3).expect(rt, "a link");
     let post = Post { link, ..post(rt) };
-    is_covered_by(rt, alloc, &target, &post)
+    is_post_covered(rt, alloc, &target, &post)
 }
 
 #[test]

@@ -1,27 +1,24 @@
 //! Cases that were worked out outside the crate: one machine, one image and one row for most of them.
 
-use crate::common::{expect_same, word};
+use crate::common::{
+    add_cell, expect_same, full_limits, image_of, is_covered_by, range, row_of, value, word,
+};
 use crate::counted_tests::posts_of;
 use ags_domain::{Domain, Operands, Range, Value, WordSet};
 use ags_image::Image;
 use ags_ports::Machine;
 use ags_posts::{PostPair, Stop};
-use ags_row::{At, Limits, Link, Post, Row, RowParts, covers};
+use ags_row::{At, Limits, Link, Post, Row, RowParts};
 use ags_transfer::code;
 use ags_word::Word;
 use std::alloc::Global;
 use std::process::Abort;
 
-/// The value that is a range of two values.
-fn value(rt: &impl Abort, least: i32, greatest: i32) -> Value {
-    Value::Range(Range::of(least, greatest).expect(rt, "the ends of a range"))
-}
-
 /// The cells of a row that names one or none.
 fn cells_of(rt: &impl Abort, alloc: Global, cell: Option<At<Value>>) -> Vec<At<Value>> {
     let mut cells = Vec::new(alloc);
     if let Some(cell) = cell {
-        assert!(rt; cells.push(cell).is_ok());
+        add_cell(rt, &mut cells, cell.address, cell.value);
     }
     cells
 }
@@ -37,39 +34,32 @@ fn row(
     let parts = RowParts {
         location,
         a,
-        q: value(rt, 5, 6),
+        q: value(rt, (5, 6)),
         x: [true; 8],
         v: [true; 2],
         at: cells_of(rt, alloc, cell),
         link: None,
     };
-    Row::of(parts).expect(rt, "the parts of a row")
+    row_of(rt, parts)
 }
 
 /// An image with one fixed word, 000007 at 4100.
 fn image(rt: &impl Abort, alloc: Global) -> Image {
-    let mut image = Image::new(alloc).expect(rt, "memory for an image");
-    image.set(0o4100, word(rt, 0o000007));
-    image
-}
-
-/// Limits that hold each word.
-pub(crate) fn full_limits<D: Domain>(rt: &impl Abort, alloc: Global) -> Limits<D> {
-    Limits::new(alloc).expect(rt, "memory for limits")
+    image_of(rt, alloc, 0o4100, &[0o000007])
 }
 
 /// Sets the limits of some cells.
 fn set_cells(rt: &impl Abort, limits: &mut Limits<Value>) {
-    limits.set_cell(0o20, value(rt, 2, 4));
-    limits.set_cell(0o22, value(rt, 0, 4));
-    limits.set_cell(0o23, value(rt, 8, 8));
+    limits.set_cell(0o20, value(rt, (2, 4)));
+    limits.set_cell(0o22, value(rt, (0, 4)));
+    limits.set_cell(0o23, value(rt, (8, 8)));
 }
 
 /// Sets the limits of some registers.
 fn set_registers(rt: &impl Abort, limits: &mut Limits<Value>) {
-    limits.set_input(0o2001, value(rt, 7, 9));
-    limits.set_output(0o2001, value(rt, 1, 2));
-    limits.set_output(0o6002, value(rt, 0, 2));
+    limits.set_input(0o2001, value(rt, (7, 9)));
+    limits.set_output(0o2001, value(rt, (1, 2)));
+    limits.set_output(0o6002, value(rt, (0, 2)));
 }
 
 /// Limits of some cells and registers; the place 4000 is named, or none.
@@ -107,8 +97,8 @@ enum Change {
 fn stays(rt: &impl Abort, x: u8, v: bool) -> Post<Value> {
     Post {
         next: 0o4001,
-        a: value(rt, 1, 3),
-        q: value(rt, 5, 6),
+        a: value(rt, (1, 3)),
+        q: value(rt, (5, 6)),
         x,
         v0: !v,
         v1: v,
@@ -133,10 +123,10 @@ pub(crate) fn alone(rt: &impl Abort, number: u32) -> Value {
 fn changed(rt: &impl Abort, mut post: Post<Value>, change: Change) -> Post<Value> {
     match change {
         Change::Nothing => {}
-        Change::A(least, greatest) => post.a = value(rt, least, greatest),
+        Change::A(least, greatest) => post.a = value(rt, (least, greatest)),
         Change::AnyA => post.a = Value::full(),
         Change::WordInA(number) => post.a = alone(rt, number),
-        Change::Q(least, greatest) => post.q = value(rt, least, greatest),
+        Change::Q(least, greatest) => post.q = value(rt, (least, greatest)),
         Change::AnyQ => post.q = Value::full(),
         Change::WordInQ(number) => post.q = alone(rt, number),
         Change::Next(next) => post.next = next,
@@ -147,7 +137,7 @@ fn changed(rt: &impl Abort, mut post: Post<Value>, change: Change) -> Post<Value
             post.v1 = false;
         }
         Change::Stored(address, least, greatest) => {
-            post.stored = at(address, value(rt, least, greatest));
+            post.stored = at(address, value(rt, (least, greatest)));
         }
         Change::Cleared(address) => post.stored = at(address, alone(rt, 0)),
         Change::Code(number) => post.code = at(0o20, alone(rt, number)),
@@ -211,7 +201,7 @@ fn judged(
     x: u8,
     v: bool,
 ) -> Result<PostPair<Value>, Stop<Value>> {
-    let base = row(rt, alloc, 0o4000, value(rt, ends.0, ends.1), None);
+    let base = row(rt, alloc, 0o4000, value(rt, ends), None);
     judged_in_row(rt, alloc, &limits(rt, alloc, named), &base, number, x, v)
 }
 
@@ -364,12 +354,12 @@ fn stops_of_words(rt: HostRuntime) {
         alloc,
         FEW,
         0o100020,
-        out_of_cell(0o20, value(&rt, 1, 3)),
+        out_of_cell(0o20, value(&rt, (1, 3))),
     );
     assert_stop(&rt, alloc, FEW, 0o320020, out_of_cell(0o20, alone(&rt, 0)));
     let given = Stop::OutputRange {
         address: 0o6002,
-        value: value(&rt, 1, 3),
+        value: value(&rt, (1, 3)),
     };
     assert_stop(&rt, alloc, FEW, 0o666002, given);
 }
@@ -416,15 +406,9 @@ fn run_from_cell(rt: &impl Abort, number: u32, change: Change) -> Post<Value> {
 
 /// Expects the post of a word in the cell 0020 that is run from there.
 fn expect_run_from_cell(rt: &impl Abort, alloc: Global, number: u32, post: Post<Value>) {
-    let base = row(rt, alloc, 0o20, value(rt, 0, 3), None);
+    let base = row(rt, alloc, 0o20, value(rt, (0, 3)), None);
     let told = judged_in_row(rt, alloc, &full_limits(rt, alloc), &base, number, 2, false);
     assert_answer(rt, told, single(post));
-}
-
-/// Whether a row covers a post of a row at 0020.
-fn is_covered_by(rt: &impl Abort, alloc: Global, target: &Row<Value>, post: &Post<Value>) -> bool {
-    let base = row(rt, alloc, 0o20, value(rt, 0, 3), None);
-    covers(target, &base, post, &full_limits(rt, alloc))
 }
 
 /// Expects whether a row at 0021 that names a cell covers a post of a row at 0020.
@@ -435,8 +419,13 @@ fn expect_covered(
     post: &Post<Value>,
     covered: bool,
 ) {
-    let target = row(rt, alloc, 0o21, value(rt, 0, 3), cell);
-    expect_same(rt, &is_covered_by(rt, alloc, &target, post), &covered);
+    let base = row(rt, alloc, 0o20, value(rt, (0, 3)), None);
+    let target = row(rt, alloc, 0o21, value(rt, (0, 3)), cell);
+    expect_same(
+        rt,
+        &is_covered_by(rt, alloc, &target, &base, post),
+        &covered,
+    );
 }
 
 #[test]
@@ -446,7 +435,7 @@ fn order_in_an_erasable_cell(rt: HostRuntime) {
     let stored = run_from_cell(&rt, 0o100020, Change::Stored(0o20, 0, 3));
     let post = changed(&rt, stored, Change::Linked(0o20));
     expect_run_from_cell(&rt, alloc, 0o100020, post);
-    let held = at(0o20, value(&rt, 0, 3));
+    let held = at(0o20, value(&rt, (0, 3)));
     expect_covered(&rt, alloc, held, &post, true);
     let own = at(0o20, alone(&rt, 0o100020));
     expect_covered(&rt, alloc, own, &post, false);
@@ -458,7 +447,7 @@ fn order_in_an_erasable_cell(rt: HostRuntime) {
 /// Limits that hold each word, but for the cell 0020, which holds those of value -5 to 5.
 fn further_limits(rt: &impl Abort, alloc: Global) -> Limits<Value> {
     let mut limits = full_limits(rt, alloc);
-    limits.set_cell(0o20, value(rt, -5, 5));
+    limits.set_cell(0o20, value(rt, (-5, 5)));
     limits
 }
 
@@ -484,19 +473,25 @@ fn further_rows(rt: HostRuntime) {
     let cleared = changed(&rt, loaded, Change::Cleared(0o20));
     expect_further(&rt, alloc, Value::full(), 0o300020, cleared);
     let goes_on = changed(&rt, stays(&rt, 0, false), Change::A(0, 3));
-    expect_further(&rt, alloc, value(&rt, 0, 3), 0o460010, goes_on);
+    expect_further(&rt, alloc, value(&rt, (0, 3)), 0o460010, goes_on);
 }
 
-/// The words of a row, if they are few, where each cell may hold any word.
-fn code_of(rt: &impl Abort, alloc: Global, base: &Row<Value>) -> Option<WordSet> {
-    code(&image(rt, alloc), &full_limits(rt, alloc), base)
+/// The words of a row that names a cell, if they are few, where each other cell may hold any word.
+fn words_at(
+    rt: &impl Abort,
+    alloc: Global,
+    location: u16,
+    cell: Option<At<Value>>,
+) -> Option<WordSet> {
+    let base = row(rt, alloc, location, Value::full(), cell);
+    code(&image(rt, alloc), &full_limits(rt, alloc), &base)
 }
 
 /// How many words the row at 0020 has, where its cell may hold the words from 0 to a greatest, if they are few.
 fn number_of_words(rt: &impl Abort, alloc: Global, greatest: i32) -> Option<usize> {
-    let cell = at(0o20, value(rt, 0, greatest));
-    let base = row(rt, alloc, 0o20, Value::full(), cell);
-    code_of(rt, alloc, &base).map(|set| set.words().len())
+    let cell = at(0o20, value(rt, (0, greatest)));
+    let words = words_at(rt, alloc, 0o20, cell)?;
+    Some(words.words().len())
 }
 
 #[test]
@@ -509,8 +504,7 @@ fn words_of_a_code(rt: HostRuntime) {
 #[test]
 fn code_of_a_fixed_cell_is_its_word(rt: HostRuntime) {
     let alloc = rt.alloc();
-    let fixed = row(&rt, alloc, 0o4100, Value::full(), None);
-    let words = code_of(&rt, alloc, &fixed).expect(&rt, "one word");
+    let words = words_at(&rt, alloc, 0o4100, None).expect(&rt, "one word");
     expect_same(&rt, &words.words(), &[word(&rt, 7)].as_slice());
 }
 
@@ -525,7 +519,7 @@ fn any_row<D: Domain>(rt: &impl Abort, alloc: Global) -> Row<D> {
         at: Vec::new(alloc),
         link: None,
     };
-    Row::of(parts).expect(rt, "the parts of a row")
+    row_of(rt, parts)
 }
 
 /// The first post of an answer, if it has one.
@@ -546,7 +540,7 @@ fn first_of<D: Domain>(rt: &impl Abort, alloc: Global, number: u32) -> Post<D> {
 #[test]
 fn post_of_ranges(rt: HostRuntime) {
     let post: Post<Range> = first_of(&rt, rt.alloc(), 0o204100);
-    expect_same(&rt, &post.a, &Range::of(7, 7).expect(&rt, "a range"));
+    expect_same(&rt, &post.a, &range(&rt, (7, 7)));
 }
 
 #[test]
@@ -590,7 +584,7 @@ fn expect_many(
 #[test]
 fn many_cases(rt: HostRuntime) {
     let alloc = rt.alloc();
-    let base = row(&rt, alloc, 0o4000, value(&rt, 1, 3), None);
+    let base = row(&rt, alloc, 0o4000, value(&rt, (1, 3)), None);
     let (image, limits) = (image(&rt, alloc), limits(&rt, alloc, false));
     expect_many(&rt, &Machine::standard(), &image, &limits, &base);
 }
