@@ -28,6 +28,9 @@ pub(crate) enum Wanted {
     NotHeld(u32, u32, u16),
 }
 
+/// A text of scales, and what is wanted of it.
+pub(crate) type Judging<'a> = (&'a [u8], Wanted);
+
 /// A program and its certificate.
 #[derive(Clone, Copy)]
 pub(crate) struct Program<'a> {
@@ -158,7 +161,14 @@ pub(crate) fn expect(
     expect_scaled(rt, &scaled, wanted);
 }
 
-/// A tag that a row knows to be a scale.
-pub(crate) const fn scale(scale: i8) -> RowTag {
-    RowTag::Known(Tag::Scale(scale))
+/// The same, of each of some texts of scales.
+pub(crate) fn expect_each(
+    rt: &impl Abort,
+    alloc: Global,
+    program: &Program<'_>,
+    judgings: &[Judging<'_>],
+) {
+    for (text, wanted) in judgings {
+        expect(rt, alloc, program, text, wanted);
+    }
 }

@@ -1,6 +1,6 @@
 //! The worked rows, the start, rows at one location and a refused certificate.
 
-use crate::common::{Program, Wanted, expect, judged, scale, word};
+use crate::common::{Judging, Program, Wanted, expect, expect_each, judged, word};
 use ags_check::Refusal;
 use ags_scale::{RowTag, Scaled, Tag};
 use std::process::Abort;
@@ -18,25 +18,25 @@ ROW 4004 A ANY Q ANY X 0 V 0\n\
 END\n",
 };
 
+/// Its scales.
+const SUM_SCALES: [Judging<'_>; 3] = [
+    (
+        b"AGSSCALE 1\nCELL 0020 6\nCELL 4005 6\nIN 2001 3\nROW 2 3 ANY\nROW 3 6 ANY\nROW 4 6 ANY\nEND\n",
+        Wanted::Agree(5, 5),
+    ),
+    (
+        b"AGSSCALE 1\nCELL 0020 6\nCELL 4005 7\nIN 2001 3\nROW 2 3 ANY\nROW 3 6 ANY\nROW 4 6 ANY\nEND\n",
+        Wanted::Mixed(3, 0o224005, RowTag::Known(Tag::Scale(6)), Tag::Scale(7)),
+    ),
+    (
+        b"AGSSCALE 1\nCELL 0020 6\nCELL 4005 6\nIN 2001 3\nROW 2 3 ANY\nROW 3 5 ANY\nROW 4 6 ANY\nEND\n",
+        Wanted::NotHeld(2, 0o540003, 0o4002),
+    ),
+];
+
 #[test]
 fn scales_of_a_sum_are_judged(rt: HostRuntime) {
-    let alloc = rt.alloc();
-    let agree =
-        b"AGSSCALE 1\nCELL 0020 6\nCELL 4005 6\nIN 2001 3\nROW 2 3 ANY\nROW 3 6 ANY\nROW 4 6 ANY\nEND\n";
-    expect(&rt, alloc, &SUM, agree, &Wanted::Agree(5, 5));
-    let mixed =
-        b"AGSSCALE 1\nCELL 0020 6\nCELL 4005 7\nIN 2001 3\nROW 2 3 ANY\nROW 3 6 ANY\nROW 4 6 ANY\nEND\n";
-    let wanted = Wanted::Mixed(3, 0o224005, scale(6), Tag::Scale(7));
-    expect(&rt, alloc, &SUM, mixed, &wanted);
-    let lost =
-        b"AGSSCALE 1\nCELL 0020 6\nCELL 4005 6\nIN 2001 3\nROW 2 3 ANY\nROW 3 5 ANY\nROW 4 6 ANY\nEND\n";
-    expect(
-        &rt,
-        alloc,
-        &SUM,
-        lost,
-        &Wanted::NotHeld(2, 0o540003, 0o4002),
-    );
+    expect_each(&rt, rt.alloc(), &SUM, &SUM_SCALES);
 }
 
 #[test]
@@ -56,54 +56,55 @@ ROW 4001 A ANY Q ANY X 0 V 0\n\
 END\n",
 };
 
+/// Its scales.
+const TWICE_SCALES: [Judging<'_>; 4] = [
+    (
+        b"AGSSCALE 1\nCELL 0020 3\nROW 2 4 ANY\nROW 3 3 ANY\nEND\n",
+        Wanted::Agree(3, 3),
+    ),
+    (
+        b"AGSSCALE 1\nCELL 0020 3\nROW 2 3 ANY\nROW 3 4 ANY\nEND\n",
+        Wanted::Agree(3, 3),
+    ),
+    (
+        b"AGSSCALE 1\nCELL 0020 3\nROW 2 4 ANY\nROW 3 RAW ANY\nEND\n",
+        Wanted::NotHeld(1, 0o200020, 0o4001),
+    ),
+    // No one row takes both: one takes A's tag, the other one Q's.
+    (
+        b"AGSSCALE 1\nCELL 0020 3\nROW 2 3 RAW\nROW 3 4 ANY\nEND\n",
+        Wanted::NotHeld(1, 0o200020, 0o4001),
+    ),
+];
+
 #[test]
 fn some_one_covering_row_takes_the_tags(rt: HostRuntime) {
-    let alloc = rt.alloc();
-    let second = b"AGSSCALE 1\nCELL 0020 3\nROW 2 4 ANY\nROW 3 3 ANY\nEND\n";
-    expect(&rt, alloc, &TWICE, second, &Wanted::Agree(3, 3));
-    let first = b"AGSSCALE 1\nCELL 0020 3\nROW 2 3 ANY\nROW 3 4 ANY\nEND\n";
-    expect(&rt, alloc, &TWICE, first, &Wanted::Agree(3, 3));
-    let neither = b"AGSSCALE 1\nCELL 0020 3\nROW 2 4 ANY\nROW 3 RAW ANY\nEND\n";
-    expect(
-        &rt,
-        alloc,
-        &TWICE,
-        neither,
-        &Wanted::NotHeld(1, 0o200020, 0o4001),
-    );
-    // No one row takes both: one takes A's tag, the other one Q's.
-    let parts = b"AGSSCALE 1\nCELL 0020 3\nROW 2 3 RAW\nROW 3 4 ANY\nEND\n";
-    expect(
-        &rt,
-        alloc,
-        &TWICE,
-        parts,
-        &Wanted::NotHeld(1, 0o200020, 0o4001),
-    );
+    expect_each(&rt, rt.alloc(), &TWICE, &TWICE_SCALES);
 }
+
+/// Its scales where the first row has tags, which alone holds the start.
+const START_SCALES: [Judging<'_>; 5] = [
+    (b"AGSSCALE 1\nROW 1 0 ANY\nEND\n", Wanted::StartMixed),
+    (b"AGSSCALE 1\nROW 1 ANY 0\nEND\n", Wanted::StartMixed),
+    // It is told before a case that fails.
+    (
+        b"AGSSCALE 1\nCELL 0020 3\nROW 1 RAW 1\nROW 2 4 ANY\nROW 3 4 ANY\nEND\n",
+        Wanted::StartMixed,
+    ),
+    (
+        b"AGSSCALE 1\nROW 1 RAW RAW\nROW 2 RAW RAW\nROW 3 RAW RAW\nEND\n",
+        Wanted::Agree(3, 3),
+    ),
+    // The first row is taken again after DLY, and then A has the scale of the cell.
+    (
+        b"AGSSCALE 1\nCELL 0020 3\nROW 1 RAW RAW\nROW 2 3 RAW\nROW 3 3 RAW\nEND\n",
+        Wanted::NotHeld(2, 0o704000, 0o4000),
+    ),
+];
 
 #[test]
 fn start_is_held_with_raw_tags(rt: HostRuntime) {
-    let alloc = rt.alloc();
-    // Row 1 alone holds the start.
-    let a = b"AGSSCALE 1\nROW 1 0 ANY\nEND\n";
-    expect(&rt, alloc, &TWICE, a, &Wanted::StartMixed);
-    let q = b"AGSSCALE 1\nROW 1 ANY 0\nEND\n";
-    expect(&rt, alloc, &TWICE, q, &Wanted::StartMixed);
-    // It is told before a case that fails.
-    let both = b"AGSSCALE 1\nCELL 0020 3\nROW 1 RAW 1\nROW 2 4 ANY\nROW 3 4 ANY\nEND\n";
-    expect(&rt, alloc, &TWICE, both, &Wanted::StartMixed);
-    let raw = b"AGSSCALE 1\nROW 1 RAW RAW\nROW 2 RAW RAW\nROW 3 RAW RAW\nEND\n";
-    expect(&rt, alloc, &TWICE, raw, &Wanted::Agree(3, 3));
-    // The first row is taken again after DLY, and then A has the scale of the cell.
-    let again = b"AGSSCALE 1\nCELL 0020 3\nROW 1 RAW RAW\nROW 2 3 RAW\nROW 3 3 RAW\nEND\n";
-    expect(
-        &rt,
-        alloc,
-        &TWICE,
-        again,
-        &Wanted::NotHeld(2, 0o704000, 0o4000),
-    );
+    expect_each(&rt, rt.alloc(), &TWICE, &START_SCALES);
 }
 
 /// CLA 0020, TMI to the fourth, DLY and DLY to the first.
@@ -117,38 +118,37 @@ ROW 4003 A ANY Q ANY X 0 V 0\n\
 END\n",
 };
 
+/// Its scales.
+const SIGNS_SCALES: [Judging<'_>; 3] = [
+    (
+        b"AGSSCALE 1\nCELL 0020 3\nROW 2 3 ANY\nROW 3 4 ANY\nROW 4 4 ANY\nEND\n",
+        Wanted::NotHeld(2, 0o464003, 0o4003),
+    ),
+    (
+        b"AGSSCALE 1\nCELL 0020 3\nROW 2 3 ANY\nROW 3 4 ANY\nROW 4 3 ANY\nEND\n",
+        Wanted::NotHeld(2, 0o464003, 0o4002),
+    ),
+    (
+        b"AGSSCALE 1\nCELL 0020 3\nROW 2 3 ANY\nROW 3 3 ANY\nROW 4 3 ANY\nEND\n",
+        Wanted::Agree(4, 4),
+    ),
+];
+
 #[test]
 fn taken_post_is_tried_first(rt: HostRuntime) {
-    let alloc = rt.alloc();
-    let both = b"AGSSCALE 1\nCELL 0020 3\nROW 2 3 ANY\nROW 3 4 ANY\nROW 4 4 ANY\nEND\n";
-    expect(
-        &rt,
-        alloc,
-        &SIGNS,
-        both,
-        &Wanted::NotHeld(2, 0o464003, 0o4003),
-    );
-    let other = b"AGSSCALE 1\nCELL 0020 3\nROW 2 3 ANY\nROW 3 4 ANY\nROW 4 3 ANY\nEND\n";
-    expect(
-        &rt,
-        alloc,
-        &SIGNS,
-        other,
-        &Wanted::NotHeld(2, 0o464003, 0o4002),
-    );
-    let agree = b"AGSSCALE 1\nCELL 0020 3\nROW 2 3 ANY\nROW 3 3 ANY\nROW 4 3 ANY\nEND\n";
-    expect(&rt, alloc, &SIGNS, agree, &Wanted::Agree(4, 4));
+    expect_each(&rt, rt.alloc(), &SIGNS, &SIGNS_SCALES);
 }
+
+/// INP and OUT: no row stands where the second goes.
+const UNCOVERED: Program<'_> = Program {
+    words: &[0o642001, 0o666001],
+    certificate: b"AGSCERT 1\nROW 4000 A ANY Q ANY X 0 V 0\nROW 4001 A ANY Q ANY X 0 V 0\nEND\n",
+};
 
 #[test]
 fn refused_certificate_is_unsafe_whatever_its_scales(rt: HostRuntime) {
-    // No row stands where the second goes.
-    let uncovered = Program {
-        words: &[0o642001, 0o666001],
-        certificate: b"AGSCERT 1\nROW 4000 A ANY Q ANY X 0 V 0\nROW 4001 A ANY Q ANY X 0 V 0\nEND\n",
-    };
     let text = b"AGSSCALE 1\nOUT 6001 4\nROW 1 3 3\nEND\n";
-    let Scaled::Unsafe(told) = judged(&rt, rt.alloc(), &uncovered, text) else {
+    let Scaled::Unsafe(told) = judged(&rt, rt.alloc(), &UNCOVERED, text) else {
         panic!(rt; "accepted");
     };
     let refusal = Refusal::NotCovered {
