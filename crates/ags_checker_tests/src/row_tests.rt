@@ -115,7 +115,7 @@ fn set_limits<D: Domain>(limits: &mut Limits<D>, set: D) {
     limits.name_place(0o4000);
 }
 
-/// Whether the limits that are set don't hold a word, and those beside them do, and no place but one is named.
+/// Whether the limits that are set don't hold a word, those beside them do, and of two places the first alone is named.
 fn are_set<D: Domain>(limits: &Limits<D>, outside: Word) -> bool {
     !limits.cell(0o20).holds(outside)
         && limits.cell(0o21).holds(outside)
@@ -127,7 +127,7 @@ fn are_set<D: Domain>(limits: &Limits<D>, outside: Word) -> bool {
         && !limits.may(0o4001)
 }
 
-/// Each limit of a domain is full and is then set, and no place but one is named.
+/// Limits of a domain, each full at first; one of each kind is then set, and a place is named.
 fn limits_of<D: Domain>(rt: &impl Abort, alloc: Global, set: D, outside: Word) -> Limits<D> {
     let mut limits = full_limits(rt, alloc);
     assert!(rt; are_full(&limits, outside));

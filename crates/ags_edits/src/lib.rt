@@ -12,8 +12,6 @@ mod lines;
 mod reading;
 mod rows;
 mod statements;
-#[cfg(test)]
-mod tests;
 
 pub use edits::Edit;
 pub use edits_errors::{EditsError, EditsKind};

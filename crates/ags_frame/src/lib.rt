@@ -9,8 +9,6 @@ mod lines;
 mod numbers;
 mod openings;
 mod statements;
-#[cfg(test)]
-mod tests;
 
 pub use laws::{first_line_has_one_reading, line_has_one_reading};
 pub use lines::{Line, read_line};

@@ -1,5 +1,5 @@
-//! Tests of the book of edited programs, over what its crate makes public. They stand in a crate of their own, so that the
-//! proofs of that crate aren't done a second time for them.
+//! Tests of the book of edited programs and of the texts of edits, over what their crates make public. They stand in a crate of
+//! their own, so that the proofs of those crates aren't done a second time for them.
 #![tactic(auto)]
 
 #[cfg(test)]
@@ -10,3 +10,5 @@ mod common;
 mod large_tests;
 #[cfg(test)]
 mod random_tests;
+#[cfg(test)]
+mod text_tests;

@@ -1,5 +1,5 @@
-//! Tests of the judge of scales, over what the crates of the checker make public. They stand in a crate of their own, so that the
-//! proofs of those crates aren't done a second time for them.
+//! Tests of the judge of scales and of the texts of scales, over what the crates of the checker make public. They stand in a crate of
+//! their own, so that the proofs of those crates aren't done a second time for them.
 #![tactic(auto)]
 
 #[cfg(test)]
@@ -8,3 +8,5 @@ mod common;
 mod order_tests;
 #[cfg(test)]
 mod row_tests;
+#[cfg(test)]
+mod text_tests;

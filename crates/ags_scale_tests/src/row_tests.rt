@@ -18,7 +18,7 @@ ROW 4004 A ANY Q ANY X 0 V 0\n\
 END\n",
 };
 
-/// Its scales.
+/// Texts of its scales, and what is wanted of each.
 const SUM_SCALES: [Judging<'_>; 3] = [
     (
         b"AGSSCALE 1\nCELL 0020 6\nCELL 4005 6\nIN 2001 3\nROW 2 3 ANY\nROW 3 6 ANY\nROW 4 6 ANY\nEND\n",
@@ -56,7 +56,7 @@ ROW 4001 A ANY Q ANY X 0 V 0\n\
 END\n",
 };
 
-/// Its scales.
+/// Texts of its scales, and what is wanted of each.
 const TWICE_SCALES: [Judging<'_>; 4] = [
     (
         b"AGSSCALE 1\nCELL 0020 3\nROW 2 4 ANY\nROW 3 3 ANY\nEND\n",
@@ -82,7 +82,7 @@ fn some_one_covering_row_takes_the_tags(rt: HostRuntime) {
     expect_each(&rt, rt.alloc(), &TWICE, &TWICE_SCALES);
 }
 
-/// Its scales where the first row has tags, which alone holds the start.
+/// The same where the first row has tags, which alone holds the start.
 const START_SCALES: [Judging<'_>; 5] = [
     (b"AGSSCALE 1\nROW 1 0 ANY\nEND\n", Wanted::StartMixed),
     (b"AGSSCALE 1\nROW 1 ANY 0\nEND\n", Wanted::StartMixed),
@@ -118,7 +118,7 @@ ROW 4003 A ANY Q ANY X 0 V 0\n\
 END\n",
 };
 
-/// Its scales.
+/// Texts of its scales, and what is wanted of each.
 const SIGNS_SCALES: [Judging<'_>; 3] = [
     (
         b"AGSSCALE 1\nCELL 0020 3\nROW 2 3 ANY\nROW 3 4 ANY\nROW 4 4 ANY\nEND\n",

@@ -15,8 +15,6 @@ mod scale_errors;
 mod statements;
 mod tables;
 mod tags;
-#[cfg(test)]
-mod tests;
 
 pub use reading::{SCALES_LIMIT, read};
 pub use scale_errors::{ScaleError, ScaleKind};

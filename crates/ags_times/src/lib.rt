@@ -9,8 +9,6 @@ mod gatherers;
 pub mod laws;
 mod lines;
 mod reading;
-#[cfg(test)]
-mod tests;
 
 pub use budget_errors::{BudgetError, BudgetKind};
 pub use budgets::Budget;

@@ -1,10 +1,7 @@
 //! Rows worked out by hand from the rules of texts of scales.
 
-use crate::reading::{SCALES_LIMIT, read};
-use crate::scale_errors::{ScaleError, ScaleKind};
-use crate::tables::Scales;
-use crate::tags::{RowTag, RowTags, Tag};
 use ags_ports::Machine;
+use ags_tags::{RowTag, RowTags, SCALES_LIMIT, ScaleError, ScaleKind, Scales, Tag, read};
 use std::alloc::Global;
 use std::process::Abort;
 

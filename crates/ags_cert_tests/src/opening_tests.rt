@@ -1,6 +1,6 @@
 //! Rows worked out by hand from the rules of first lines.
 
-use crate::openings::{Opening, read_opening};
+use ags_frame::{Opening, read_opening};
 use std::process::Abort;
 
 /// The first lines of a text of which there are two versions, and what they are.

@@ -1,8 +1,6 @@
 //! Rows worked out by hand from the rules of texts of times.
 
-use crate::budget_errors::{BudgetError, BudgetKind};
-use crate::budgets::Budget;
-use crate::reading::{TIMES_LIMIT, read};
+use ags_budget::{Budget, BudgetError, BudgetKind, TIMES_LIMIT, read};
 use std::alloc::Global;
 use std::process::Abort;
 

@@ -1,8 +1,6 @@
 //! Rows worked out by hand from the rules of texts of edits.
 
-use crate::edits::Edit;
-use crate::edits_errors::{EditsError, EditsKind};
-use crate::reading::{EDITS_LIMIT, MOST_EDITS, read};
+use ags_edits::{EDITS_LIMIT, Edit, EditsError, EditsKind, MOST_EDITS, read};
 use std::alloc::Global;
 use std::process::Abort;
 
