@@ -3,8 +3,8 @@
 //! `load_or_say` walks the plan of whatever command the arguments ask for, and either hands its work over or says why it
 //! can't, and `run` does the work after that; their contracts say, once for all commands, what is printed, which status
 //! the process leaves with and what each answer of the surroundings leads to. A program gives its own part by the traits
-//! `Loader` and `Program`: its definitions, and for each what its own functions prove. It stands on
-//! `ags_outside` for files and output.
+//! `Loader` and `Program`: its definitions, and for each what its own functions prove. By `send_line` works send
+//! lines that were to be made. It stands on `ags_outside` for files and output.
 #![tactic(auto)]
 
 mod causes;
@@ -23,4 +23,5 @@ pub use laws::{
 pub use loading::{fetch_file, fetch_file_into};
 pub use program::{Loader, Program};
 pub use running::{do_work, load_or_say, run};
+pub use saying::send_line;
 pub use unloaded::Unloaded;

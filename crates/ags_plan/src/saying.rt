@@ -28,6 +28,20 @@ fn long_text(alloc: Global, name: &str, limit: u64) -> Result<String, AllocError
     format!(in alloc; "LONG {name} {limit}\n")
 }
 
+/// Sends a line that was to be made. Where there was no memory for it nothing is sent.
+pub fn send_line<K: Sink>(line: Result<String, AllocError>, out: &mut K) -> Result<(), SendError>
+    ensures sent { (text : List ℕ) → IfOk line (λ made. string_bytes made ≡ text)
+        → OnOk result (K.told out.new ≡ appended (K.told out.old) text) }
+    ensures front { (text : List ℕ) → IfOk line (λ made. string_bytes made ≡ text)
+        → OnErr result (WroteFront (K.told out.old) (K.told out.new) text) }
+    ensures faults { HasCause (K.faults out.old) (K.faults out.new) (is_write_fault result) }
+{
+    let Ok(line) = line else {
+        return Err(SendError::NoMemory);
+    };
+    send(out, line.as_bytes())
+}
+
 /// Sends a line that ends the run with a status. Where there was no memory for the line nothing is sent.
 fn say<T: Copy, K: Sink>(
     out: &mut K,
@@ -41,10 +55,7 @@ fn say<T: Copy, K: Sink>(
         → OnErr result (WroteFront (K.told out.old) (K.told out.new) text) }
     ensures faults { HasCause (K.faults out.old) (K.faults out.new) (is_write_fault result) }
 {
-    let Ok(line) = line else {
-        return Err(SendError::NoMemory);
-    };
-    send(out, line.as_bytes())?;
+    send_line(line, out)?;
     Ok(status)
 }
 

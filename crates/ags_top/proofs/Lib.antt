@@ -1,16 +1,12 @@
 pub mod BudgetLemmas
 pub mod CertifiedLineLemmas
-pub mod CertifyLemmas
 pub mod CompareLemmas
 pub mod DeclaredLemmas
 pub mod EditedLemmas
-pub mod GuardLemmas
-pub mod JudgeLemmas
 pub mod ListedLemmas
 pub mod MainLemmas
 pub mod PlayLemmas
 pub mod PromiseLemmas
 pub mod ScaledLemmas
 pub mod ThirdFileLemmas
-pub mod WorkloadLemmas
 pub mod WriteLemmas

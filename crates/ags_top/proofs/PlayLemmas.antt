@@ -13,7 +13,7 @@ use Rattle.ags_run.specs.declared.playing.Played.{Played}
 use Rattle.ags_run.specs.Play.{PlayedTo, PlayedWhole, PlayedInPart}
 use Rattle.ags_script.specs.declared.commands.Command.{Command}
 use Rattle.ags_program.specs.declared.status.Status.TheVariants.{Done}
-use Rattle.ags_top.specs.PlayLaws.{run_of_play}
+use Rattle.ags_program.specs.PlayLaws.{run_of_play}
 use Rattle.ags_program.specs.Program.{program}
 use Rattle.ags_program.specs.Views.{HasImage}
 use Rattle.ags_program.specs.Work.{PlayScript, IsShownBy}

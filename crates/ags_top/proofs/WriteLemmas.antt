@@ -5,8 +5,6 @@ use Rattle.ags_command.specs.declared.source_texts.SourceText.TheVariants.{Tape}
 use Rattle.ags_outside.specs.Sink.{appended, WroteFront}
 use Rattle.ags_plan.specs.Plan.{WorkAt}
 use Rattle.ags_plan.specs.Saying.{SaidWhole, SaidInPart}
-use Rattle.ags_asm.specs.Source.{card_words}
-use Rattle.ags_listing.specs.Listing.{listing}
 use Rattle.ags_image.specs.Tape.{tape_text}
 use Rattle.ags_files.specs.declared.sources.SourceFile.{SourceFile}
 use Rattle.ags_program.specs.declared.status.Status.TheVariants.{Done}
@@ -22,10 +20,6 @@ module _ (what : SourceText) (source : SourceFile) (text : List ℕ) (old new : 
   -- a front of it was
   pub text_said_in_part : WroteFront old new text → SaidInPart program (WorkAt (WriteText what (assembly_of source))) old new
   text_said_in_part prefix = record { text = text; status = Done; comes = (is, refl); prefix = prefix }
-
--- the texts of a source that was read
-abbrev pub listing_of : SourceFile → List ℕ
-listing_of source = listing source.bytes.items (card_words source.made)
 
 pub is_tape : (source : SourceFile) → IsReadSource source → IsTextOf Tape (assembly_of source) (tape_text source.made.image)
 is_tape source (order_codes, is) = (source.made.image, is.image, refl)

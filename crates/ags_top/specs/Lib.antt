@@ -4,7 +4,4 @@ pub mod Outcome
 pub mod Promises
 pub mod ThirdFile
 -- what serves inside
-pub mod Guarding
-pub mod Telling
-pub mod PlayLaws
 pub mod ProgramLaws

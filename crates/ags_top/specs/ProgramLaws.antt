@@ -70,7 +70,7 @@ use Rattle.ags_times.proofs.MeaningLaws as times
 use Rattle.ags_program.specs.declared.status.Status.{Status}
 use Rattle.ags_program.specs.declared.status.Status.TheVariants.{Done, No, BadMachine, BadSource, BadCert, BadText, BadWords, LongFile}
 use Rattle.ags_program.specs.Files.{Kind, MachineFile, Source, Listing, Certificate, Script, Times, ScaleTags, EditList, Assembly, Pair, Value, HoldsSource, Holds, Refuses, refused_status}
-use Rattle.ags_top.specs.PlayLaws.{some_shown, one_shown, some_played, one_played}
+use Rattle.ags_program.specs.PlayLaws.{some_shown, one_shown, some_played, one_played}
 use Rattle.ags_program.specs.Program.{program, command_plan, plan_on, workload_plan, asked_plan, plan_of}
 use Rattle.ags_program.specs.Status.{cause_of}
 use Rattle.ags_program.specs.Text.{words_line, certificate_fault_line, edit_lines, edits_fault_line, fault_line, listing_fault_line, machine_fault_line, scales_fault_line, script_fault_line, times_fault_line, compared_line, scaled_line, timed_line, verdict_line}

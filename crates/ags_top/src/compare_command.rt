@@ -12,11 +12,11 @@ ghost use Rattle.ags_program.specs.Text.{compared_line, word_column};
 ghost use Rattle.ags_program.specs.Views.{IsReadMade};
 ghost use Rattle.ags_program.specs.Work as work;
 
-use crate::sending::send_line;
 use ags_asm::Assembled;
 use ags_compare::{Compared, compare};
 use ags_image::Image;
 use ags_outside::{SendError, Sink};
+use ags_plan::send_line;
 use ags_program::Status;
 use ags_text::FourDigits;
 use ags_word::{SixDigits, Word};

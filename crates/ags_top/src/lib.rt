@@ -1,26 +1,16 @@
 //! The program's one call: from the arguments of a command line to a status and the bytes that are written, over any
-//! shelf and any sink. What a command line asks for is loaded by `ags_program`, along the walk of `ags_plan`, and done
+//! shelf and any sink. What a command line asks for is loaded by `ags_asked`, along the walk of `ags_plan`, and done
 //! here: a text of a source is written by `ags_listing`, `ags_image` or `ags_xref`, images are compared by
-//! `ags_compare`, certificates judged by `ags_check`, scripts played by `ags_run`, bounds on order time judged by
-//! `ags_budget`, scales by `ags_scale`, and edits made by `ags_recheck`. `ags_main` answers exactly what the definitions
-//! in `specs/`, and those of `ags_program`, say of the arguments and the files.
+//! `ags_compare`, scripts played by `ags_run`, and certificates judged by `ags_judging`, with what stands with a verdict.
+//! `ags_main` answers exactly what the definitions in `specs/`, and those of `ags_program`, say of the arguments and the files.
 #![tactic(auto)]
 
 mod answer_laws;
-mod budget_command;
-mod certify_command;
 mod compare_command;
-mod edits_command;
-mod guard_command;
-mod judging;
 mod listed_laws;
 mod main_call;
 mod program;
 mod run_command;
-mod scales_command;
-mod sending;
-mod verdicts;
-mod workload_command;
 mod write_command;
 
 pub use ags_program::Status;

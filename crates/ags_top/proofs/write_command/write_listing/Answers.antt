@@ -1,7 +1,8 @@
 use Rattle.std.proofs.Common.{inl, refl}
 use Rattle.std.proofs.lemmas.Result.{err_from_is_err_and}
 use Rattle.ags_command.specs.declared.source_texts.SourceText.TheVariants.{Listing}
-use Rattle.ags_top.proofs.WriteLemmas.{listing_of, text_said, text_said_in_part}
+use Rattle.ags_judging.proofs.CertifyLemmas.{listing_of}
+use Rattle.ags_top.proofs.WriteLemmas.{text_said, text_said_in_part}
 use Rattle.ags_top.proofs.write_command.write_listing.Goals as goal
 
 pub returns-in_err-send_listing-clause-says : goal.returns-in_err-send_listing-clause-says

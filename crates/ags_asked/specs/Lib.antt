@@ -1,0 +1,2 @@
+-- what serves inside
+pub mod Loaded

@@ -1,0 +1,5 @@
+pub mod CertifyLemmas
+pub mod GuardLemmas
+pub mod JudgeLemmas
+pub mod TellingLemmas
+pub mod WorkloadLemmas

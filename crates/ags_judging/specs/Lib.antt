@@ -1,0 +1,3 @@
+-- what serves inside
+pub mod Guarding
+pub mod Telling
