@@ -10,13 +10,12 @@ ghost use Rattle.ags_program.specs.Program.{asked_plan, command_plan, plan_on, p
 ghost use Rattle.ags_program.specs.Views.{IsReady, line_of, status_of, work_of};
 
 use crate::commands::load_command;
-use crate::files::load_machine;
 use crate::workloads::load_workload;
 use ags_command::{Asked, Command, CommandLine};
 use ags_outside::Shelf;
 use ags_plan::Unloaded;
 use ags_ports::Machine;
-use ags_program::{Refusal, Work};
+use ags_program::{Refusal, Work, load_machine};
 use std::alloc::Global;
 
 /// Loads the files of a command on the machine of a file.

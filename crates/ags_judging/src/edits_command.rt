@@ -22,9 +22,12 @@ ghost use Rattle.ags_recheck.specs.ToldText.{told_text};
 ghost use Rattle.ags_judging.specs.Telling.{Tells, status_with, status_in_the_end};
 
 use crate::verdicts::{verdict_line, verdict_status};
+use ags_cert::Cert;
 use ags_edits::Edit;
+use ags_image::Image;
 use ags_outside::{SendError, Sink};
 use ags_plan::send_line;
+use ags_ports::Machine;
 use ags_ports::laws::machine_is_made_of_tables;
 use ags_program::{ReadPair, Status};
 use ags_recheck::{Book, Told};
@@ -112,6 +115,18 @@ fn tell_each<L: Ledger, K: Sink>(
     Ok(status_in_the_end(status))
 }
 
+/// The machine, the image and the certificate of a pair, of which the rest is let go.
+fn judged_parts(pair: ReadPair) -> (Machine, Image, Cert)
+    ensures machine { result.0 ≡ pair.machine }
+    ensures image { result.1 ≡ pair.source.made.image }
+    ensures cert { result.2 ≡ pair.cert }
+{
+    let machine = pair.machine;
+    let source = pair.source;
+    let made = source.made;
+    (machine, made.image, pair.cert)
+}
+
 /// Says the verdict, and makes the edits, with a counter on the ledger of a blank.
 fn tell_from<L: Ledger, K: Sink>(
     alloc: Global,
@@ -128,14 +143,11 @@ fn tell_from<L: Ledger, K: Sink>(
     ensures says { Says program (WorkAt (work.JudgePair (pair_of pair) (work.EditsBehind edits.items))) (K.told out.old) (K.told out.new) result }
     ensures faults { HasCause (K.faults out.old) (K.faults out.new) (is_write_fault result) }
 {
-    let machine = pair.machine;
-    let source = pair.source;
-    let made = source.made;
-    let image = made.image;
+    let (machine, image, cert) = judged_parts(pair);
     machine_is_made_of_tables(&machine);
     let _word = image.get(0);
     let mut steps = Steps::<L>::new(blank);
-    let Ok(mut book) = Book::new(alloc, machine, image, pair.cert, &mut steps) else {
+    let Ok(mut book) = Book::new(alloc, machine, image, cert, &mut steps) else {
         return Err(SendError::NoMemory);
     };
     let verdict = book.verdict();

@@ -43,18 +43,30 @@ pub fn judge_pair<K: Sink>(
     ensures faults { HasCause (K.faults out.old) (K.faults out.new) (is_write_fault result) }
 {
     match sequel {
-        Sequel::ListingBefore => write_judged(alloc, &pair, &verdict_of_pair(&pair), out),
+        Sequel::ListingBefore => {
+            let said = write_judged(alloc, &pair, &verdict_of_pair(&pair), out);
+            drop(pair);
+            said
+        }
         Sequel::PlayBehind(script) => {
-            guard_script(alloc, &pair, &verdict_of_pair(&pair), &script, out)
+            let said = guard_script(alloc, &pair, &verdict_of_pair(&pair), &script, out);
+            drop(pair);
+            said
         }
         Sequel::CountsInstead(size) => {
-            write_counts(alloc, &pair, &verdict_of_pair(&pair), size, out)
+            let said = write_counts(alloc, &pair, &verdict_of_pair(&pair), size, out);
+            drop(pair);
+            said
         }
         Sequel::BudgetBehind(budget) => {
-            judge_budget(alloc, &pair, &verdict_of_pair(&pair), &budget, out)
+            let said = judge_budget(alloc, &pair, &verdict_of_pair(&pair), &budget, out);
+            drop(pair);
+            said
         }
         Sequel::ScalesBehind(scales) => {
-            judge_scales(alloc, &pair, &verdict_of_pair(&pair), &scales, out)
+            let said = judge_scales(alloc, &pair, &verdict_of_pair(&pair), &scales, out);
+            drop(pair);
+            said
         }
         Sequel::EditsBehind(edits) => tell_edits(alloc, pair, edits, out),
     }

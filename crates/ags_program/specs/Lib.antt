@@ -5,5 +5,5 @@ pub mod Status
 pub mod Text
 pub mod Views
 pub mod Work
--- what the proofs of those above cite
+-- what the proofs of crates above cite
 pub mod PlayLaws

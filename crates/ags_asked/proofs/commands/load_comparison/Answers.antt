@@ -6,7 +6,8 @@ use Rattle.ags_program.specs.Files.{Source, Listing}
 use Rattle.ags_program.specs.Program.{program}
 use Rattle.ags_program.specs.Views.{assembly_of, line_of, status_of}
 use Rattle.ags_program.specs.Work.{CompareImages}
-use Rattle.ags_asked.proofs.FilesLemmas.{both_load, counted_on, second_stops}
+use Rattle.ags_program.proofs.ReadingLemmas.{counted_on}
+use Rattle.ags_asked.proofs.FilesLemmas.{both_load, second_stops}
 use Rattle.ags_asked.proofs.commands.load_comparison.Goals as goal
 
 pub returns-in_err-source-clause-loads : goal.returns-in_err-source-clause-loads
@@ -41,3 +42,9 @@ pub returns-in_err-listed-clause-absences : goal.returns-in_err-listed-clause-ab
 returns-in_err-listed-clause-absences g c =
     let p = err_from_is_err_and c.from_residual-in_err-listed.result c.from_residual-in_err-listed.ensures.1 in
     counted_on _ _ _ _ c.in_ok-source.ensures.absences (rw (p.1, p.2) c.in_err-listed.ensures.absences)
+
+pub returns-clause-faults : goal.returns-clause-faults
+returns-clause-faults g c = counted_on _ _ _ _ c.in_ok-source.ensures.faults c.in_ok-listed.ensures.faults
+
+pub returns-clause-absences : goal.returns-clause-absences
+returns-clause-absences g c = counted_on _ _ _ _ c.in_ok-source.ensures.absences c.in_ok-listed.ensures.absences

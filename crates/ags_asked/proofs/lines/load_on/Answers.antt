@@ -8,6 +8,7 @@ use Rattle.ags_plan.proofs.LoadingLemmas.{loads_on, loads_stop}
 use Rattle.ags_program.specs.Files.{MachineFile}
 use Rattle.ags_program.specs.Program.{command_plan, program}
 use Rattle.ags_program.specs.Views.{line_of, status_of, work_of}
+use Rattle.ags_program.proofs.ReadingLemmas.{counted_on}
 use Rattle.ags_asked.proofs.lines.load_on.Goals as goal
 
 pub returns-in_err-machine-clause-loads : goal.returns-in_err-machine-clause-loads
@@ -23,3 +24,9 @@ returns-clause-loads g c =
     let result = result_map_both work_of (end_of program line_of status_of) c.load_command.result in
     loads_on program told MachineFile c.args.name.now (λ machine. command_plan machine (command_view c.args.command)) machine result c.in_ok-machine.ensures.loads
     (subst (λ (t : Told). Loads program t (command_plan machine (command_view c.args.command)) result) c.in_ok-machine.ensures.same c.load_command.ensures.loads)
+
+pub returns-clause-faults : goal.returns-clause-faults
+returns-clause-faults g c = counted_on _ _ _ _ c.in_ok-machine.ensures.faults c.load_command.ensures.faults
+
+pub returns-clause-absences : goal.returns-clause-absences
+returns-clause-absences g c = counted_on _ _ _ _ c.in_ok-machine.ensures.absences c.load_command.ensures.absences

@@ -5,7 +5,7 @@ use Rattle.ags_program.specs.declared.refusal.Refusal.TheVariants as refusal
 use Rattle.ags_program.specs.Files.{Certificate}
 use Rattle.ags_program.specs.Program.{program, workload_certificate}
 use Rattle.ags_program.specs.Views.{line_of, status_of}
-use Rattle.ags_asked.proofs.FilesLemmas.{certificate_as}
+use Rattle.ags_program.proofs.ReadingLemmas.{certificate_as}
 use Rattle.ags_asked.proofs.workloads.take_certificate.Goals as goal
 
 pub returns-in-Ok-clause-takes : goal.returns-in-Ok-clause-takes

@@ -5,7 +5,7 @@ use Rattle.ags_program.specs.declared.refusal.Refusal.TheVariants as refusal
 use Rattle.ags_program.specs.Files.{Source}
 use Rattle.ags_program.specs.Program.{program, workload_source}
 use Rattle.ags_program.specs.Views.{assembly_of, line_of, status_of}
-use Rattle.ags_asked.proofs.FilesLemmas.{source_as, taken_ready}
+use Rattle.ags_program.proofs.ReadingLemmas.{source_as, taken_ready}
 use Rattle.ags_asked.proofs.workloads.take_source.Goals as goal
 
 pub returns-in-Ok-clause-takes : goal.returns-in-Ok-clause-takes

@@ -1,7 +1,7 @@
 use Rattle.std.proofs.Common.{[]}
 use Rattle.std.proofs.lemmas.Result.{err_from_is_err_and}
 use Rattle.ags_plan.specs.Loading.{end_of}
-use Rattle.ags_asked.proofs.FilesLemmas.{counted_on}
+use Rattle.ags_program.proofs.ReadingLemmas.{counted_on}
 use Rattle.ags_program.specs.Views.{assembly_of}
 use Rattle.ags_bench.specs.Program.{program}
 use Rattle.ags_bench.specs.Views.{line_of, status_of}

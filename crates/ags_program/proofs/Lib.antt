@@ -1,0 +1,2 @@
+-- what the proofs of crates above cite
+pub mod ReadingLemmas
