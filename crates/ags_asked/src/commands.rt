@@ -51,10 +51,8 @@ fn load_comparison<'a, S: Shelf>(
 {
     let source = load_source(alloc, machine, source, shelf)?;
     let listed = load_listing(alloc, listing, shelf)?;
-    Ok(Work::CompareImages {
-        made: source.made,
-        listed,
-    })
+    let made = source.into_made();
+    Ok(Work::CompareImages { made, listed })
 }
 
 /// Loads the source and the script of these names, to be played on a machine.
@@ -73,9 +71,10 @@ fn load_play<'a, S: Shelf>(
 {
     let source = load_source(alloc, &machine, source, shelf)?;
     let script = load_script(alloc, &machine, script, shelf)?;
+    let made = source.into_made();
     Ok(Work::PlayScript {
         machine,
-        made: source.made,
+        made,
         script,
     })
 }

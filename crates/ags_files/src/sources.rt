@@ -13,12 +13,28 @@ use ags_ports::Machine;
 use std::alloc::Global;
 
 /// A source that was read: its bytes, and what was made of them.
-#[derive(Drop)]
 pub struct SourceFile {
     /// The bytes of the file.
     pub bytes: Vec<u8>,
     /// Its cards with their places and words, its symbols, and the image of its words.
     pub made: Assembled,
+}
+
+impl SourceFile {
+    /// What was made of the bytes, which are let go.
+    pub fn into_made(self) -> Assembled
+        ensures { result ≡ self.made }
+    {
+        let SourceFile { bytes: _, made } = self;
+        made
+    }
+}
+
+// Written and not derived, so that whoever lets a source go calls this, and has none of its parts to follow.
+impl Drop for SourceFile {
+    fn drop(self) {
+        let SourceFile { bytes: _, made: _ } = self;
+    }
 }
 
 /// Reads a source of bytes at hand, for a machine.

@@ -121,10 +121,9 @@ fn judged_parts(pair: ReadPair) -> (Machine, Image, Cert)
     ensures image { result.1 ≡ pair.source.made.image }
     ensures cert { result.2 ≡ pair.cert }
 {
-    let machine = pair.machine;
-    let source = pair.source;
-    let made = source.made;
-    (machine, made.image, pair.cert)
+    let (machine, source, cert) = pair.into_parts();
+    let made = source.into_made();
+    (machine, made.image, cert)
 }
 
 /// Says the verdict, and makes the edits, with a counter on the ledger of a blank.

@@ -43,30 +43,18 @@ pub fn judge_pair<K: Sink>(
     ensures faults { HasCause (K.faults out.old) (K.faults out.new) (is_write_fault result) }
 {
     match sequel {
-        Sequel::ListingBefore => {
-            let said = write_judged(alloc, &pair, &verdict_of_pair(&pair), out);
-            drop(pair);
-            said
-        }
+        Sequel::ListingBefore => write_judged(alloc, &pair, &verdict_of_pair(&pair), out),
         Sequel::PlayBehind(script) => {
-            let said = guard_script(alloc, &pair, &verdict_of_pair(&pair), &script, out);
-            drop(pair);
-            said
+            guard_script(alloc, &pair, &verdict_of_pair(&pair), &script, out)
         }
         Sequel::CountsInstead(size) => {
-            let said = write_counts(alloc, &pair, &verdict_of_pair(&pair), size, out);
-            drop(pair);
-            said
+            write_counts(alloc, &pair, &verdict_of_pair(&pair), size, out)
         }
         Sequel::BudgetBehind(budget) => {
-            let said = judge_budget(alloc, &pair, &verdict_of_pair(&pair), &budget, out);
-            drop(pair);
-            said
+            judge_budget(alloc, &pair, &verdict_of_pair(&pair), &budget, out)
         }
         Sequel::ScalesBehind(scales) => {
-            let said = judge_scales(alloc, &pair, &verdict_of_pair(&pair), &scales, out);
-            drop(pair);
-            said
+            judge_scales(alloc, &pair, &verdict_of_pair(&pair), &scales, out)
         }
         Sequel::EditsBehind(edits) => tell_edits(alloc, pair, edits, out),
     }

@@ -1,5 +1,7 @@
 //! What is loaded for a command line, and then done.
 
+ghost use Rattle.std.specs.Prelude.{◌≡◌};
+
 use ags_asm::Assembled;
 use ags_budget::Budget;
 use ags_cert::Cert;
@@ -12,7 +14,6 @@ use ags_scale::Scales;
 use ags_script::Script;
 
 /// A source and a certificate that were read for a machine.
-#[derive(Drop)]
 pub struct ReadPair {
     /// The machine.
     pub machine: Machine,
@@ -20,6 +21,33 @@ pub struct ReadPair {
     pub source: SourceFile,
     /// The certificate.
     pub cert: Cert,
+}
+
+impl ReadPair {
+    /// The machine, the source and the certificate.
+    pub fn into_parts(self) -> (Machine, SourceFile, Cert)
+        ensures machine { result.0 ≡ self.machine }
+        ensures source { result.1 ≡ self.source }
+        ensures cert { result.2 ≡ self.cert }
+    {
+        let ReadPair {
+            machine,
+            source,
+            cert,
+        } = self;
+        (machine, source, cert)
+    }
+}
+
+// Written and not derived, so that whoever lets a pair go calls this, and has none of its parts to follow.
+impl Drop for ReadPair {
+    fn drop(self) {
+        let ReadPair {
+            machine: _,
+            source: _,
+            cert: _,
+        } = self;
+    }
 }
 
 /// What stands with the verdict of a certificate for a source's words.

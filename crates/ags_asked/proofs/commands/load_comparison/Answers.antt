@@ -26,12 +26,13 @@ returns-in_err-listed-clause-loads g c =
 
 pub returns-clause-loads : goal.returns-clause-loads
 returns-clause-loads g c =
-    both_load (g.S.Shelf.told c.args.shelf.now) (g.S.Shelf.told c.load_source.new.shelf) (Source c.args.machine.now) c.args.source.now Listing c.args.listing.now
+    rw c.into_made-made.ensures
+    (both_load (g.S.Shelf.told c.args.shelf.now) (g.S.Shelf.told c.load_source.new.shelf) (Source c.args.machine.now) c.args.source.now Listing c.args.listing.now
     (λ assembly listed. CompareImages assembly.defined listed) (assembly_of c.in_ok-source.source) c.in_ok-source.ensures.loads c.in_ok-source.ensures.same
-    c.in_ok-listed.listed c.in_ok-listed.ensures.loads
+    c.in_ok-listed.listed c.in_ok-listed.ensures.loads)
 
 pub returns-clause-ready : goal.returns-clause-ready
-returns-clause-ready g c = (c.in_ok-source.ensures.ready.0, c.in_ok-source.source.bytes.items, c.in_ok-source.ensures.ready.1)
+returns-clause-ready g c = (c.in_ok-source.ensures.ready.0, c.in_ok-source.source.bytes.items, rw c.into_made-made.ensures c.in_ok-source.ensures.ready.1)
 
 pub returns-in_err-listed-clause-faults : goal.returns-in_err-listed-clause-faults
 returns-in_err-listed-clause-faults g c =

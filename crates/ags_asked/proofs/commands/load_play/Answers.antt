@@ -26,13 +26,14 @@ returns-in_err-script-clause-loads g c =
 
 pub returns-clause-loads : goal.returns-clause-loads
 returns-clause-loads g c =
-    both_load (g.S.Shelf.told c.args.shelf.now) (g.S.Shelf.told c.load_source.new.shelf) (Source c.args.machine) c.args.source.now (Script c.args.machine) c.args.script.now
+    rw c.into_made-made.ensures
+    (both_load (g.S.Shelf.told c.args.shelf.now) (g.S.Shelf.told c.load_source.new.shelf) (Source c.args.machine) c.args.source.now (Script c.args.machine) c.args.script.now
     (λ assembly commands. PlayScript c.args.machine assembly.defined commands) (assembly_of c.in_ok-source.source) c.in_ok-source.ensures.loads c.in_ok-source.ensures.same
-    c.in_ok-script.script c.in_ok-script.ensures.loads
+    c.in_ok-script.script c.in_ok-script.ensures.loads)
 
 pub returns-clause-ready : goal.returns-clause-ready
 returns-clause-ready g c =
-    ((c.in_ok-source.ensures.ready.0, c.in_ok-source.source.bytes.items, c.in_ok-source.ensures.ready.1), c.in_ok-script.ensures.ready)
+    ((c.in_ok-source.ensures.ready.0, c.in_ok-source.source.bytes.items, rw c.into_made-made.ensures c.in_ok-source.ensures.ready.1), c.in_ok-script.ensures.ready)
 
 pub returns-in_err-script-clause-faults : goal.returns-in_err-script-clause-faults
 returns-in_err-script-clause-faults g c =
