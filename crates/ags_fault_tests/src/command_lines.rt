@@ -52,37 +52,33 @@ pub(crate) fn joined(rt: &impl Abort, alloc: Global, first: &str, second: &str) 
     text
 }
 
-/// Adds a file to a shelf, unless it has the name of the one that is absent.
-fn add_file(rt: &impl Abort, shelf: &mut MemoryShelf, absent: &str, name: &str, text: &str) {
-    if name != absent {
-        assert!(rt; shelf.add(name, text.as_bytes()).is_ok());
-    }
-}
+/// The files that command lines read, by their names: a source S with its listing L; the deck D with its certificate C, its script P,
+/// and the certificate K with the bounds T of its rows; the sum A with its certificate B and its scales E; and the subroutine R with its
+/// certificate Q and the edits U.
+const FILES: [(&str, &str); 13] = [
+    ("S", "* FIRST\n ORG /4000\nA OCT 7\n"),
+    ("L", FIRST_LISTING),
+    ("D", DECK),
+    ("C", DECK_CERTIFICATE),
+    ("P", DECK_SCRIPT),
+    ("K", DECK_SPLIT_CERTIFICATE),
+    ("T", DECK_TIMES),
+    ("A", SUM),
+    ("B", SUM_CERTIFICATE),
+    ("E", SUM_SCALES),
+    ("R", RETURN),
+    ("Q", RETURN_CERTIFICATE),
+    ("U", RETURN_EDITS),
+];
 
-/// A source S with its listing L; the deck D with its certificate C, its script P, and the certificate K with the bounds T of its rows;
-/// the sum A with its certificate B and its scales E; and the subroutine R with its certificate Q and the edits U. One of them may be
-/// absent.
+/// These files, of which one may be absent.
 pub(crate) fn files_without(rt: &impl Abort, alloc: Global, absent: &str) -> MemoryShelf {
     let mut shelf = MemoryShelf::new(alloc);
-    add_file(
-        rt,
-        &mut shelf,
-        absent,
-        "S",
-        "* FIRST\n ORG /4000\nA OCT 7\n",
-    );
-    add_file(rt, &mut shelf, absent, "L", FIRST_LISTING);
-    add_file(rt, &mut shelf, absent, "D", DECK);
-    add_file(rt, &mut shelf, absent, "C", DECK_CERTIFICATE);
-    add_file(rt, &mut shelf, absent, "P", DECK_SCRIPT);
-    add_file(rt, &mut shelf, absent, "K", DECK_SPLIT_CERTIFICATE);
-    add_file(rt, &mut shelf, absent, "T", DECK_TIMES);
-    add_file(rt, &mut shelf, absent, "A", SUM);
-    add_file(rt, &mut shelf, absent, "B", SUM_CERTIFICATE);
-    add_file(rt, &mut shelf, absent, "E", SUM_SCALES);
-    add_file(rt, &mut shelf, absent, "R", RETURN);
-    add_file(rt, &mut shelf, absent, "Q", RETURN_CERTIFICATE);
-    add_file(rt, &mut shelf, absent, "U", RETURN_EDITS);
+    for &(name, text) in &FILES {
+        if name != absent {
+            assert!(rt; shelf.add(name, text.as_bytes()).is_ok());
+        }
+    }
     shelf
 }
 

@@ -27,7 +27,19 @@ fn expect_over<S: Shelf>(
     assert!(rt; out.bytes() == text.as_bytes(), "{line}");
 }
 
-/// The same over the source S that waits, and one file F.
+/// A shelf with these files.
+fn shelf_of(rt: &impl Abort, alloc: Global, files: &[(&str, &[u8])]) -> MemoryShelf {
+    let mut shelf = MemoryShelf::new(alloc);
+    for &(name, file) in files {
+        assert!(rt; shelf.add(name, file).is_ok());
+    }
+    shelf
+}
+
+/// The certificate of the source of one order.
+const WAITING_CERTIFICATE: &str = "AGSCERT 1\nROW 4000 A ANY Q ANY X 0 V 0\nEND\n";
+
+/// The same over the source S that waits, its certificate C, and one file F.
 fn expect_file(
     rt: &(impl AllocGlobal + Abort),
     file: &[u8],
@@ -35,9 +47,12 @@ fn expect_file(
     status: Status,
     text: &str,
 ) {
-    let mut shelf = MemoryShelf::new(rt.alloc());
-    assert!(rt; shelf.add("S", WAITING.as_bytes()).is_ok());
-    assert!(rt; shelf.add("F", file).is_ok());
+    let files = [
+        ("S", WAITING.as_bytes()),
+        ("C", WAITING_CERTIFICATE.as_bytes()),
+        ("F", file),
+    ];
+    let mut shelf = shelf_of(rt, rt.alloc(), &files);
     expect_over(rt, &mut shelf, line, status, text);
 }
 
@@ -54,94 +69,41 @@ fn many(rt: &impl Abort, alloc: Global, byte: u8, count: u32) -> Vec<u8> {
     bytes
 }
 
-// A source, a script and a machine file of empty lines, as long as each may be, and one byte longer.
+/// A command line that reads F, and how long that may be.
+const LIMITS: [(&str, u32, &str); 3] = [
+    ("xref S F", 65_536, "LONG F 65536\n"),
+    ("xref F", 4_194_304, "LONG F 4194304\n"),
+    ("run S F", 4_194_304, "LONG F 4194304\n"),
+];
+
+// A machine file, a source and a script of empty lines, as long as each may be, and one byte longer.
 #[test]
 fn files_have_limits(rt: HostRuntime) {
-    let alloc = rt.alloc();
-    let mut file = many(&rt, alloc, b'\n', 65_536);
-    expect_file(&rt, file.as_slice(), "xref S F", Status::Done, "");
-    assert!(&rt; file.push(b'\n').is_ok());
-    expect_file(
-        &rt,
-        file.as_slice(),
-        "xref S F",
-        Status::LongFile,
-        "LONG F 65536\n",
-    );
-    let mut file = many(&rt, alloc, b'\n', 4_194_304);
-    expect_file(&rt, file.as_slice(), "xref F", Status::Done, "");
-    expect_file(&rt, file.as_slice(), "run S F", Status::Done, "");
-    assert!(&rt; file.push(b'\n').is_ok());
-    expect_file(
-        &rt,
-        file.as_slice(),
-        "xref F",
-        Status::LongFile,
-        "LONG F 4194304\n",
-    );
-    expect_file(
-        &rt,
-        file.as_slice(),
-        "run S F",
-        Status::LongFile,
-        "LONG F 4194304\n",
-    );
+    for &(line, most, text) in &LIMITS {
+        let mut file = many(&rt, rt.alloc(), b'\n', most);
+        expect_file(&rt, file.as_slice(), line, Status::Done, "");
+        assert!(&rt; file.push(b'\n').is_ok());
+        expect_file(&rt, file.as_slice(), line, Status::LongFile, text);
+    }
 }
 
-/// The certificate of the source of one order.
-const WAITING_CERTIFICATE: &str = "AGSCERT 1\nROW 4000 A ANY Q ANY X 0 V 0\nEND\n";
+/// A command line that reads a text F behind a certificate, and what comes of empty lines.
+const BEHIND: [(&str, &str); 3] = [
+    ("budget S C F", "TIMES LINE 1 ERROR 1 BadLine\n"),
+    ("scales S C F", "SCALES LINE 1 ERROR 1 BadLine\n"),
+    ("edits S C F", "EDITS LINE 1 ERROR 1 BadLine\n"),
+];
 
-/// Expects what comes of a text of times for that certificate.
-fn expect_times(rt: &(impl AllocGlobal + Abort), times: &[u8], status: Status, text: &str) {
-    let mut shelf = MemoryShelf::new(rt.alloc());
-    assert!(rt; shelf.add("S", WAITING.as_bytes()).is_ok());
-    assert!(rt; shelf.add("C", WAITING_CERTIFICATE.as_bytes()).is_ok());
-    assert!(rt; shelf.add("F", times).is_ok());
-    expect_over(rt, &mut shelf, "budget S C F", status, text);
-}
-
-// A text of times of empty lines, as long as it may be, and one byte longer.
+// A text of times, of scales and of edits of empty lines, as long as it may be, and one byte longer.
 #[test]
-fn texts_of_times_have_a_limit(rt: HostRuntime) {
-    let mut file = many(&rt, rt.alloc(), b'\n', 4_194_304);
-    let text = "TIMES LINE 1 ERROR 1 BadLine\n";
-    expect_times(&rt, file.as_slice(), Status::BadText, text);
-    assert!(&rt; file.push(b'\n').is_ok());
-    expect_times(&rt, file.as_slice(), Status::LongFile, "LONG F 4194304\n");
-}
-
-// A text of scales of empty lines, as long as it may be, and one byte longer.
-#[test]
-fn texts_of_scales_have_a_limit(rt: HostRuntime) {
-    let alloc = rt.alloc();
-    let mut file = many(&rt, alloc, b'\n', 4_194_304);
-    let mut shelf = MemoryShelf::new(alloc);
-    assert!(&rt; shelf.add("S", WAITING.as_bytes()).is_ok());
-    assert!(&rt; shelf.add("C", WAITING_CERTIFICATE.as_bytes()).is_ok());
-    assert!(&rt; shelf.add("F", file.as_slice()).is_ok());
-    assert!(&rt; file.push(b'\n').is_ok());
-    assert!(&rt; shelf.add("G", file.as_slice()).is_ok());
-    let text = "SCALES LINE 1 ERROR 1 BadLine\n";
-    expect_over(&rt, &mut shelf, "scales S C F", Status::BadText, text);
-    let text = "LONG G 4194304\n";
-    expect_over(&rt, &mut shelf, "scales S C G", Status::LongFile, text);
-}
-
-// A text of edits of empty lines, as long as it may be, and one byte longer.
-#[test]
-fn texts_of_edits_have_a_limit(rt: HostRuntime) {
-    let alloc = rt.alloc();
-    let mut file = many(&rt, alloc, b'\n', 4_194_304);
-    let mut shelf = MemoryShelf::new(alloc);
-    assert!(&rt; shelf.add("S", WAITING.as_bytes()).is_ok());
-    assert!(&rt; shelf.add("C", WAITING_CERTIFICATE.as_bytes()).is_ok());
-    assert!(&rt; shelf.add("F", file.as_slice()).is_ok());
-    assert!(&rt; file.push(b'\n').is_ok());
-    assert!(&rt; shelf.add("G", file.as_slice()).is_ok());
-    let text = "EDITS LINE 1 ERROR 1 BadLine\n";
-    expect_over(&rt, &mut shelf, "edits S C F", Status::BadText, text);
-    let text = "LONG G 4194304\n";
-    expect_over(&rt, &mut shelf, "edits S C G", Status::LongFile, text);
+fn texts_behind_a_certificate_have_a_limit(rt: HostRuntime) {
+    for &(line, text) in &BEHIND {
+        let mut file = many(&rt, rt.alloc(), b'\n', 4_194_304);
+        expect_file(&rt, file.as_slice(), line, Status::BadText, text);
+        assert!(&rt; file.push(b'\n').is_ok());
+        let text = "LONG F 4194304\n";
+        expect_file(&rt, file.as_slice(), line, Status::LongFile, text);
+    }
 }
 
 /// Adds a line to a text.
@@ -226,15 +188,15 @@ fn each_row_and_each_cell_may_be_named(rt: HostRuntime) {
     }
     add_numbered(&rt, &mut scales, "ROW ", 20_000, " ANY RAW");
     add_line(&rt, &mut scales, "END");
-    let mut shelf = MemoryShelf::new(alloc);
-    assert!(&rt; shelf.add("S", loops(&rt, alloc).as_slice()).is_ok());
-    assert!(&rt;
-        shelf
-            .add("C", loops_certificate(&rt, alloc).as_slice())
-            .is_ok()
-    );
-    assert!(&rt; shelf.add("T", times.as_slice()).is_ok());
-    assert!(&rt; shelf.add("K", scales.as_slice()).is_ok());
+    let source = loops(&rt, alloc);
+    let certificate = loops_certificate(&rt, alloc);
+    let files = [
+        ("S", source.as_slice()),
+        ("C", certificate.as_slice()),
+        ("T", times.as_slice()),
+        ("K", scales.as_slice()),
+    ];
+    let mut shelf = shelf_of(&rt, alloc, &files);
     let text =
         "CERTIFIED ROWS 20000 CASES 20000\nOVER ROW 1 WORD 404000 X 0 V 0 NEXT 4000 NEEDS 20010 BOUND 20000\n";
     expect_over(&rt, &mut shelf, "budget S C T", Status::No, text);
@@ -264,22 +226,17 @@ fn texts_of_edits_have_ten_thousand_at_most(rt: HostRuntime) {
         let line = format!(in alloc; "EDIT {number} CERTIFIED ROWS 1 CASES 1\n");
         add(&rt, &mut wanted, &line.expect(&rt, "memory for a line"));
     }
-    let mut shelf = MemoryShelf::new(alloc);
-    assert!(&rt; shelf.add("S", WAITING.as_bytes()).is_ok());
-    assert!(&rt; shelf.add("C", WAITING_CERTIFICATE.as_bytes()).is_ok());
     let most = same_words(&rt, alloc, 10_000);
-    assert!(&rt; shelf.add("E", most.as_slice()).is_ok());
-    let more = same_words(&rt, alloc, 10_001);
-    assert!(&rt; shelf.add("F", more.as_slice()).is_ok());
-    expect_over(
+    expect_file(
         &rt,
-        &mut shelf,
-        "edits S C E",
+        most.as_slice(),
+        "edits S C F",
         Status::Done,
         wanted.as_str(),
     );
+    let more = same_words(&rt, alloc, 10_001);
     let text = "EDITS LINE 10002 ERROR 6 TooManyEdits\n";
-    expect_over(&rt, &mut shelf, "edits S C F", Status::BadText, text);
+    expect_file(&rt, more.as_slice(), "edits S C F", Status::BadText, text);
 }
 
 /// A certificate of the loops, with ten rows at each of them in which everything may stand.
@@ -321,11 +278,14 @@ fn ten_thousand_rows_are_edited(rt: HostRuntime) {
         add(&rt, &mut wanted, &line.expect(&rt, "memory for a line"));
     }
     add_line(&rt, &mut edits, "END");
-    let mut shelf = MemoryShelf::new(alloc);
-    assert!(&rt; shelf.add("S", loops(&rt, alloc).as_slice()).is_ok());
+    let source = loops(&rt, alloc);
     let certificate = wide_certificate(&rt, alloc);
-    assert!(&rt; shelf.add("C", certificate.as_slice()).is_ok());
-    assert!(&rt; shelf.add("E", edits.as_slice()).is_ok());
+    let files = [
+        ("S", source.as_slice()),
+        ("C", certificate.as_slice()),
+        ("E", edits.as_slice()),
+    ];
+    let mut shelf = shelf_of(&rt, alloc, &files);
     expect_over(
         &rt,
         &mut shelf,
@@ -379,46 +339,23 @@ impl Shelf for EndlessShelf {
     }
 }
 
+/// A command line that reads F, and the limit of that.
+const ENDLESS: [(&str, &str); 5] = [
+    ("assemble F", "LONG F 4194304\n"),
+    ("run S F", "LONG F 4194304\n"),
+    ("xref S F", "LONG F 65536\n"),
+    ("certify S F", "LONG F 67108864\n"),
+    ("compare S F", "LONG F 134217728\n"),
+];
+
 #[test]
 fn a_file_without_an_end_is_too_long(rt: HostRuntime) {
     let mut held = MemoryShelf::new(rt.alloc());
     assert!(&rt; held.add("S", WAITING.as_bytes()).is_ok());
     let mut shelf = EndlessShelf { held };
-    expect_over(
-        &rt,
-        &mut shelf,
-        "assemble F",
-        Status::LongFile,
-        "LONG F 4194304\n",
-    );
-    expect_over(
-        &rt,
-        &mut shelf,
-        "run S F",
-        Status::LongFile,
-        "LONG F 4194304\n",
-    );
-    expect_over(
-        &rt,
-        &mut shelf,
-        "xref S F",
-        Status::LongFile,
-        "LONG F 65536\n",
-    );
-    expect_over(
-        &rt,
-        &mut shelf,
-        "certify S F",
-        Status::LongFile,
-        "LONG F 67108864\n",
-    );
-    expect_over(
-        &rt,
-        &mut shelf,
-        "compare S F",
-        Status::LongFile,
-        "LONG F 134217728\n",
-    );
+    for &(line, text) in &ENDLESS {
+        expect_over(&rt, &mut shelf, line, Status::LongFile, text);
+    }
 }
 
 // A script's line has 512 bytes at most, its line feed not counted.

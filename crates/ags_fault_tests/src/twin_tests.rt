@@ -2,6 +2,13 @@
 
 use ags_outside::{MemoryShelf, MemorySink, Pull, PutDone, Shelf, Sink};
 
+/// A file, from where it is read, and what is pulled once no further call fails.
+const LATER: [(&str, u64, Pull); 3] = [
+    ("A", 4, Pull::Got(3)),
+    ("A", 7, Pull::End),
+    ("B", 0, Pull::Absent),
+];
+
 // Calls are counted from 1, one that failed with them; a number after, or listed twice, changes nothing.
 #[test]
 fn a_shelf_fails_at_its_listed_calls(rt: HostRuntime) {
@@ -14,12 +21,16 @@ fn a_shelf_fails_at_its_listed_calls(rt: HostRuntime) {
     let mut room = [0u8; 4];
     assert!(&rt; shelf.pull("A", 0, &mut room) == Pull::Got(4));
     assert!(&rt; room == *b"1234");
-    assert!(&rt; shelf.pull("A", 4, &mut room) == Pull::Failed);
-    assert!(&rt; shelf.pull("B", 0, &mut room) == Pull::Failed);
+    for &(name, from) in &[("A", 4), ("B", 0)] {
+        assert!(&rt; shelf.pull(name, from, &mut room) == Pull::Failed, "{name}");
+    }
     assert!(&rt; shelf.fail_at(2).is_ok());
-    assert!(&rt; shelf.pull("A", 4, &mut room) == Pull::Got(3));
-    assert!(&rt; shelf.pull("A", 7, &mut room) == Pull::End);
-    assert!(&rt; shelf.pull("B", 0, &mut room) == Pull::Absent);
+    for (name, from, wanted) in &LATER {
+        assert!(&rt;
+            shelf.pull(name, *from, &mut room) == *wanted,
+            "{name} {from}"
+        );
+    }
 }
 
 #[test]
