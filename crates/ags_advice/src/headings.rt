@@ -1,6 +1,6 @@
 //! The headings of the lines that tell how a run ended: how such a line goes on, and what its kinds want.
 
-ghost use Rattle.std.specs.Prelude.{◌≡◌};
+ghost use Rattle.std.specs.Prelude.{◌≡◌, map};
 ghost use Rattle.std.specs.Option.{option_map};
 ghost use Rattle.ags_advice.specs.Heading as heading;
 
@@ -81,44 +81,58 @@ pub(crate) enum Heading {
     Differs,
 }
 
+/// The words of the headings, whichever program prints them.
+const WORDS: [(&str, Heading); 20] = [
+    ("SOURCE", Heading::Source),
+    ("MACHINE", Heading::Machine),
+    ("CERTIFICATE", Heading::Certificate),
+    ("LISTING", Heading::Listing),
+    ("SCRIPT", Heading::Script),
+    ("TIMES", Heading::Times),
+    ("SCALES", Heading::Scales),
+    ("EDITS", Heading::Edits),
+    ("REFUSED", Heading::Refused),
+    ("EDIT", Heading::Edit),
+    ("OUTSIDE", Heading::Outside),
+    ("NODEVICE", Heading::NoDevice),
+    ("NOFEED", Heading::NoFeed),
+    ("OVER", Heading::Over),
+    ("STARTMIXED", Heading::StartMixed),
+    ("MIXED", Heading::Mixed),
+    ("NOTHELD", Heading::NotHeld),
+    ("ABSENT", Heading::Absent),
+    ("LONG", Heading::Long),
+    ("DIFFERS", Heading::Differs),
+];
+
+/// The heading of a word, by the first row that has it.
+fn named(rows: &[(&'static str, Heading)], word: &str) -> Option<Heading>
+    ensures { result ≡ heading.named (map (λ row. record { word = row.0.now; heading = row.1 }) rows.now) word.now }
+{
+    for (named, heading) in rows {
+        if word == *named {
+            return Some(*heading);
+        }
+    }
+    None
+}
+
+/// The heading of a word, whichever program prints it.
+fn of_word(word: &str) -> Option<Heading>
+    ensures { result ≡ heading.named heading.headings word.now }
+{
+    named(&WORDS, word)
+}
+
 impl Heading {
     /// The heading of a word that a program prints, where it is one.
     pub(crate) fn of(program: Program, word: &str) -> Option<Heading>
         ensures { result ≡ heading.heading_of program word.now }
     {
-        match (program, Heading::of_word(word)) {
+        match (program, of_word(word)) {
             (Program::AgsBench, Some(Heading::Script)) => Some(Heading::BenchScript),
             (Program::AgsBench, Some(Heading::Outside)) => Some(Heading::BenchOutside),
             (_, heading) => heading,
-        }
-    }
-
-    /// The heading of a word, whichever program prints it.
-    fn of_word(word: &str) -> Option<Heading>
-        ensures { result ≡ heading.named heading.headings word.now }
-    {
-        match word {
-            "SOURCE" => Some(Heading::Source),
-            "MACHINE" => Some(Heading::Machine),
-            "CERTIFICATE" => Some(Heading::Certificate),
-            "LISTING" => Some(Heading::Listing),
-            "SCRIPT" => Some(Heading::Script),
-            "TIMES" => Some(Heading::Times),
-            "SCALES" => Some(Heading::Scales),
-            "EDITS" => Some(Heading::Edits),
-            "REFUSED" => Some(Heading::Refused),
-            "EDIT" => Some(Heading::Edit),
-            "OUTSIDE" => Some(Heading::Outside),
-            "NODEVICE" => Some(Heading::NoDevice),
-            "NOFEED" => Some(Heading::NoFeed),
-            "OVER" => Some(Heading::Over),
-            "STARTMIXED" => Some(Heading::StartMixed),
-            "MIXED" => Some(Heading::Mixed),
-            "NOTHELD" => Some(Heading::NotHeld),
-            "ABSENT" => Some(Heading::Absent),
-            "LONG" => Some(Heading::Long),
-            "DIFFERS" => Some(Heading::Differs),
-            _ => None,
         }
     }
 
