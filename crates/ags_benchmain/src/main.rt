@@ -2,12 +2,9 @@
 //! registers (docs/BENCH.md).
 #![tactic(auto)]
 
-mod devices;
-mod running;
-
 use ags_advice::{Ended, Program, tell};
+use ags_benchprocess::{certificate_named, run, words_again};
 use ags_edge::{FileShelf, OutSink};
-use running::{certificate_named, run, words_again};
 use std::env::args;
 use std::io;
 use std::process::ExitCode;

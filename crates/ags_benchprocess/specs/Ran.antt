@@ -6,7 +6,7 @@ use Rattle.ags_program.specs.declared.status.Status.TheVariants.{WriteFault, NoM
 use Rattle.ags_device.specs.Record.{DeviceRecord}
 use Rattle.ags_outside.specs.Count.{Rose}
 use Rattle.ags_plan.specs.Walk.{Told}
-use Rattle.ags_benchmain.specs.Devices.{three_devices}
+use Rattle.ags_benchprocess.specs.Devices.{three_devices}
 
 -- The bench was run over the words with the three devices, and all holds that is promised of its one call.
 pub record RunsThree (told : Told) (words : List (List ℕ)) (old new : Option (List ℕ)) (status : Status) (counts : Counts) : Type 0 where

@@ -1,7 +1,7 @@
 //! The devices that stand at the machine's registers.
 
 ghost use Rattle.std.specs.Prelude.{◌≡◌, IfOk};
-ghost use Rattle.ags_benchmain.specs.Devices.{pad_record, recorder_record, sensor_record};
+ghost use Rattle.ags_benchprocess.specs.Devices.{pad_record, recorder_record, sensor_record};
 
 use ags_device::{Pad, Recorder, Sensor};
 use ags_word::Word;

@@ -5,8 +5,8 @@ ghost use Rattle.std.specs.IoError.{error_kind};
 ghost use Rattle.std.specs.Option.{option_map};
 ghost use Rattle.std.specs.String.{string_bytes};
 ghost use Rattle.std.specs.Vec.Iter.{into_iter_items};
-ghost use Rattle.ags_benchmain.specs.Devices.{three_devices};
-ghost use Rattle.ags_benchmain.specs.Ran.{EndsThree, RanThree, RunsThree, second_word};
+ghost use Rattle.ags_benchprocess.specs.Devices.{three_devices};
+ghost use Rattle.ags_benchprocess.specs.Ran.{EndsThree, RanThree, RunsThree, second_word};
 
 use crate::devices::{pad, recorder, sensor};
 use ags_bench::{Status, bench_main};
@@ -31,7 +31,7 @@ fn words_of(alloc: Global, all: Args) -> Result<Vec<String>, AllocError>
 }
 
 /// The words after the program's name, and none where they can't be had.
-pub(crate) fn words_again(alloc: Global, again: io::Result<Args>) -> Vec<String>
+pub fn words_again(alloc: Global, again: io::Result<Args>) -> Vec<String>
     ensures { result.items ≢ [] → IfOk again (λ all. result.items ≡ drop 1 (into_iter_items all)) }
 {
     match again {
@@ -44,7 +44,7 @@ pub(crate) fn words_again(alloc: Global, again: io::Result<Args>) -> Vec<String>
 }
 
 /// The name of the certificate, which is the second word.
-pub(crate) fn certificate_named(words: &[String]) -> Option<&str>
+pub fn certificate_named(words: &[String]) -> Option<&str>
     ensures { option_map (λ name. name.now) result ≡ second_word (map string_bytes words.now) }
 {
     match words {
@@ -160,7 +160,7 @@ fn run_over<S: Shelf, K: HeldSink>(alloc: Global, all: Args, shelf: &mut S, out:
 /// Runs the bench over the words as the system hands them over, and answers the status that the process ends with. Where there
 /// are no words in text, or no sink for want of memory, nothing is read and nothing is sent. What the sink holds at the end is
 /// written, or the status is `WriteFault`.
-pub(crate) fn run<S: Shelf, K: HeldSink>(
+pub fn run<S: Shelf, K: HeldSink>(
     alloc: Global,
     words: io::Result<Args>,
     shelf: &mut S,

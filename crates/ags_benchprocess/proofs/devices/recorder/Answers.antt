@@ -1,5 +1,5 @@
 use Rattle.std.proofs.Common.{rules}
-use Rattle.ags_benchmain.proofs.devices.sensor.Goals as goal
+use Rattle.ags_benchprocess.proofs.devices.recorder.Goals as goal
 
 pub returns : goal.returns
 returns c = search rules

@@ -1,5 +1,5 @@
 use Rattle.std.proofs.Common.{refl, inl, inr}
-use Rattle.ags_benchmain.proofs.running.run_over.Goals as goal
+use Rattle.ags_benchprocess.proofs.running.run_over.Goals as goal
 
 pub returns-then-finish : goal.returns-then-finish
 returns-then-finish g c = record {
