@@ -230,16 +230,20 @@ const IN_PLACE: [(&[u8], &str, usize); 15] = [
     (b"E END", "end", 0),
 ];
 
+/// Expects that a line is read in place of a card, with its kind and so many entries.
+fn expect_in_place(rt: &impl Abort, card: &mut Card, (line, kind, count): (&[u8], &str, usize)) {
+    assert!(rt; read_card_into(card, line).is_ok());
+    assert!(rt; kind_of(&card.body) == (kind, count));
+}
+
 #[test]
 fn lines_are_read_in_place_of_others(rt: HostRuntime) {
     let mut card = Card::comment();
-    for &(line, kind, count) in &IN_PLACE {
-        assert!(&rt; read_card_into(&mut card, line).is_ok());
-        assert!(&rt; kind_of(&card.body) == (kind, count));
+    for &wanted in &IN_PLACE {
+        expect_in_place(&rt, &mut card, wanted);
         assert!(&rt; read_card_into(&mut card, b" CLA 1+").is_err());
         assert!(&rt; read_card_into(&mut card, b" OCT 1,,2").is_err());
-        assert!(&rt; read_card_into(&mut card, line).is_ok());
-        assert!(&rt; kind_of(&card.body) == (kind, count));
+        expect_in_place(&rt, &mut card, wanted);
     }
 }
 

@@ -259,16 +259,19 @@ fn has_words(image: &Image, card: &Placed, words: &Words) -> bool {
     true
 }
 
+/// Expects these words of the cards of an assembled source.
+fn expect_cards(rt: &impl Abort, made: &Assembled, cards: &[Words]) {
+    assert!(rt; made.cards.len() == cards.len());
+    for (card, words) in made.cards.iter().zip(cards) {
+        assert!(rt; has_words(&made.image, card, words));
+    }
+}
+
 /// Expects the answer of the plain program.
 fn expect_same_answer(rt: &impl Abort, alloc: Global, source: &[u8]) {
     let wanted = assemble_in_two_passes(rt, alloc, source);
     match (assembled(rt, alloc, source), wanted) {
-        (Ok(made), Ok(cards)) => {
-            assert!(rt; made.cards.len() == cards.len());
-            for (card, words) in made.cards.iter().zip(&cards) {
-                assert!(rt; has_words(&made.image, card, words));
-            }
-        }
+        (Ok(made), Ok(cards)) => expect_cards(rt, &made, &cards),
         (Err(AssembleError::Source(told)), Err(error)) => assert!(rt; told == error),
         _ => assert!(rt; false),
     }

@@ -1,16 +1,24 @@
 //! Sources whose cards are placed, and sources that are refused, worked out by hand from docs/SOURCE.md.
 
 use crate::common::{expect_same, parts_of};
-use ags_card::read_card;
+use ags_card::{Body, read_card};
 use ags_places::{
     Placed, SourceError, SourceKind, WordFault, card_lines_follow, count_of,
     each_symbol_has_a_pair, is_end, one_list_of_pairs_fits, place_card, place_of_word,
     places_are_sums, words_stand_in_the_memory,
 };
 use ags_symbol::Symbols;
-use ags_text::Lines;
+use ags_text::{Line, Lines};
 use std::alloc::Global;
 use std::process::Abort;
+
+/// Adds a card that stands at a place.
+fn add_card(rt: &impl Abort, cards: &mut Vec<Placed>, line: Line<'_>, place: u16, body: &Body) {
+    assert!(rt; line.start <= 1000 && line.bytes.len() <= 1000);
+    assert!(rt; place <= 4096);
+    let at = place_of_word(place, body);
+    assert!(rt; cards.push(Placed::at(line, at, count_of(body))).is_ok());
+}
 
 /// The cards of a source at their places, one after the other up to and with the first END, and their symbols.
 fn placed(rt: &impl Abort, alloc: Global, source: &[u8]) -> (Vec<Placed>, Symbols) {
@@ -23,16 +31,10 @@ fn placed(rt: &impl Abort, alloc: Global, source: &[u8]) -> (Vec<Placed>, Symbol
         let card = read_card(line.bytes).ok().expect(rt, "a card");
         assert!(rt; place <= 4096);
         let next = place_card(&mut symbols, place, number, &card);
-        assert!(rt; line.start <= 1000 && line.bytes.len() <= 1000);
-        let at = place_of_word(place, &card.body);
-        assert!(rt;
-            cards
-                .push(Placed::at(line, at, count_of(&card.body)))
-                .is_ok()
-        );
+        add_card(rt, &mut cards, line, place, &card.body);
         place = next.ok().expect(rt, "a card without a fault");
         if is_end(&card.body) {
-            return (cards, symbols);
+            break;
         }
     }
     (cards, symbols)

@@ -154,6 +154,28 @@ fn mismade(card: u32, fault: WordFault) -> SourceError {
 /// A card's place, where it has words, and its words.
 pub(crate) type Words = (Option<u16>, Vec<Word>);
 
+/// Adds the place and the words of a card that stands at a place, or tells the card's fault.
+fn add_words(
+    rt: &impl Abort,
+    alloc: Global,
+    symbols: &Symbols,
+    line: &[u8],
+    (number, at): Taken,
+    taken: &mut Vec<Taken>,
+    made: &mut Vec<Words>,
+) -> Result<(), SourceError> {
+    let card = card_of(rt, line);
+    let words = match words_of(rt, alloc, symbols, at, &card.body) {
+        Ok(words) => words,
+        Err(fault) => return Err(mismade(number, fault)),
+    };
+    if let Err(fault) = take_places(rt, taken, number, at, words.len()) {
+        return Err(mismade(number, fault));
+    }
+    assert!(rt; made.push((place_of_word(at, &card.body), words)).is_ok());
+    Ok(())
+}
+
 /// The place and the words of each card of a source, or the source's first fault.
 pub(crate) fn assemble_in_two_passes(
     rt: &impl Abort,
@@ -167,15 +189,15 @@ pub(crate) fn assemble_in_two_passes(
     let mut number = 0u32;
     for (line, at) in lines.iter().zip(&places) {
         number = number.saturating_add(1);
-        let card = card_of(rt, line);
-        let words = match words_of(rt, alloc, &symbols, *at, &card.body) {
-            Ok(words) => words,
-            Err(fault) => return Err(mismade(number, fault)),
-        };
-        if let Err(fault) = take_places(rt, &mut taken, number, *at, words.len()) {
-            return Err(mismade(number, fault));
-        }
-        assert!(rt; made.push((place_of_word(*at, &card.body), words)).is_ok());
+        add_words(
+            rt,
+            alloc,
+            &symbols,
+            line,
+            (number, *at),
+            &mut taken,
+            &mut made,
+        )?;
     }
     Ok(made)
 }
