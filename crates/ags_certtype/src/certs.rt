@@ -33,7 +33,6 @@ pub struct CertParts {
 
 /// A certificate. What is stated of a cell is within the cell's limit, and it has 1 to 20,000 rows, at most 512 at one location. It
 /// keeps an index of its rows by location.
-#[derive(Drop)]
 pub struct Cert {
     pub(crate) start: u16,
     pub(crate) limits: Limits<Value>,
@@ -41,6 +40,20 @@ pub struct Cert {
     pub(crate) rows: Vec<Row<Value>>,
     pub(crate) starts: Vec<u32>,
     pub(crate) numbers: Vec<u32>,
+}
+
+// Written, so that whoever lets one go calls this, and the checker follows no part of it there.
+impl Drop for Cert {
+    fn drop(self) {
+        let Cert {
+            start: _,
+            limits: _,
+            init: _,
+            rows: _,
+            starts: _,
+            numbers: _,
+        } = self;
+    }
 }
 
 impl Model for Cert {

@@ -16,7 +16,6 @@ use std::alloc::{AllocError, Global};
 use std::marker::Model;
 
 /// The machine as it runs: its registers, its cells, and the words of its input and output registers.
-#[derive(Drop)]
 pub struct Core {
     pub(crate) a: Word,
     pub(crate) q: Word,
@@ -27,6 +26,23 @@ pub struct Core {
     pub(crate) cells: Vec<Word>,
     pub(crate) inputs: Vec<Word>,
     pub(crate) outputs: Vec<Word>,
+}
+
+// Written, so that whoever lets one go calls this, and the checker follows no part of it there.
+impl Drop for Core {
+    fn drop(self) {
+        let Core {
+            a: _,
+            q: _,
+            index: _,
+            indicator: _,
+            location: _,
+            phase: _,
+            cells: _,
+            inputs: _,
+            outputs: _,
+        } = self;
+    }
 }
 
 impl Model for Core {

@@ -14,11 +14,21 @@ use std::alloc::{AllocError, Global};
 use std::marker::Model;
 
 /// Files in memory. It tells of every name, and fails at the calls that are listed and at no other.
-#[derive(Drop)]
 pub struct MemoryShelf {
     held: SteadyShelf,
     faults: u64,
     calls: FailingCalls,
+}
+
+// Written, so that whoever lets one go calls this, and the checker follows no part of it there.
+impl Drop for MemoryShelf {
+    fn drop(self) {
+        let MemoryShelf {
+            held: _,
+            faults: _,
+            calls: _,
+        } = self;
+    }
 }
 
 impl Model for MemoryShelf {

@@ -35,9 +35,15 @@ pub enum DefineError {
 }
 
 /// The symbols that are defined, each once, in the order of their definitions.
-#[derive(Drop)]
 pub struct Symbols {
     by_name: IndexMap<Name, Defined>,
+}
+
+// Written, so that whoever lets one go calls this, and the checker follows no part of it there.
+impl Drop for Symbols {
+    fn drop(self) {
+        let Symbols { by_name: _ } = self;
+    }
 }
 
 impl Model for Symbols {
