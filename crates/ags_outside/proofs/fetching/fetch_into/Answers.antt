@@ -32,11 +32,17 @@ returns-in-End-clause-took g c =
     fetched_whole g.T.Taker.took (g.S.Shelf.told c.args.shelf.now c.args.name.now) c.pulls.from c.args.limit c.args.taker.now c.pulls.taker
     c.pull.new.into c.pulls.invariant.within c.pulls.invariant.so_far (rw (← c.pulls.invariant.same) c.in-End.ensures.tells)
 
+pub returns-in-Absent-clause-took : goal.returns-in-Absent-clause-took
+returns-in-Absent-clause-took g c = tt
+
 pub returns-in-Absent-clause-absences : goal.returns-in-Absent-clause-absences
 returns-in-Absent-clause-absences g c = rw (← c.pulls.invariant.absences_stay) c.in-Absent.ensures.absences
 
 pub returns-in-Failed-clause-took : goal.returns-in-Failed-clause-took
 returns-in-Failed-clause-took g c = tt
+
+pub returns-in-Failed-clause-stays : goal.returns-in-Failed-clause-stays
+returns-in-Failed-clause-stays g c = tt
 
 pub returns-in-Failed-clause-faults : goal.returns-in-Failed-clause-faults
 returns-in-Failed-clause-faults g c = rw (← c.pulls.invariant.faults_stay) c.in-Failed.ensures.faults
