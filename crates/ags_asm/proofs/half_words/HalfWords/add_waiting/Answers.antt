@@ -1,7 +1,9 @@
 use Rattle.std.proofs.Common.{[], ◌∷◌, Some, None, refl, arith}
 use Rattle.std.specs.Vec.{with_items}
+use Rattle.std.proofs.lemmas.List.{length-append}
 use Rattle.ags_asm.specs.declared.half_words.HalfWords.{HalfWords}
 use Rattle.ags_asm.proofs.KeptLemmas.{keep_taken, keep_free, one_small, not_some, found_there, owned_there}
+use Rattle.ags_asm.proofs.OwnedLemmas.{count_one}
 use Rattle.ags_asm.proofs.half_words.HalfWords.add_waiting.Goals as goal
 
 pub returns-in-Some-clause-step : goal.returns-in-Some-clause-step
@@ -17,3 +19,13 @@ returns-clause-step c = λ codes S cards before left card next made so.
     (omega (arith, c.requires.room)) next made so
     (found_there c.deref.result.now c.args.self.now.owners.items c.args.at 1 c.first_taken.result None c.deref.ensures.value c.first_taken.ensures (not_some c.first_taken.result c.in_default.not-Some)) c.requires.whole refl so.whole
     (owned_there c.args.self.now.owners c.own.new.owners c.deref_mut.result.now c.args.at 1 c.args.number c.deref_mut.ensures.value c.own.ensures) c.requires.not_met
+
+pub returns-in-Some-clause-few : goal.returns-in-Some-clause-few
+returns-in-Some-clause-few c =
+    rw c.in_ok-push.ensures.items (omega (arith, rw c.requires.not_met at c.requires.few, length-append c.args.self.now.waiting.items (c.args.fix_up ∷ [])))
+
+pub returns-clause-few : goal.returns-clause-few
+returns-clause-few c =
+    let owned = owned_there c.args.self.now.owners c.own.new.owners c.deref_mut.result.now c.args.at 1 c.args.number c.deref_mut.ensures.value c.own.ensures in
+    let free = found_there c.deref.result.now c.args.self.now.owners.items c.args.at 1 c.first_taken.result None c.deref.ensures.value c.first_taken.ensures (not_some c.first_taken.result c.in_default.not-Some) in
+    rw (owned, c.in_ok-push.ensures.items) (omega (arith, c.requires.few, length-append c.args.self.now.waiting.items (c.args.fix_up ∷ []), count_one c.args.self.now.owners.items c.args.at c.args.number (omega (arith, c.requires.room, c.requires.whole)) c.requires.positive free))
