@@ -9,20 +9,17 @@ use Rattle.ags_edge.proofs.out_sink.OutSinkSink.put.Goals as goal
 
 -- ---- a failure
 
+failed : (g : Over) (c : goal.After-self-then-eq-1 g) → c.answer_to-answer.result ≡ Failed
+failed g c = search rules
+
 pub returns-then-eq-clause-faults : goal.returns-then-eq-clause-faults
-returns-then-eq-clause-faults g c =
-    let failed : c.answer_to-answer.result ≡ Failed = search rules in
-    rw failed (search rules)
+returns-then-eq-clause-faults g c = rw (failed g c) (search rules)
 
 pub returns-then-eq-clause-counted : goal.returns-then-eq-clause-counted
-returns-then-eq-clause-counted g c =
-    let failed : c.answer_to-answer.result ≡ Failed = search rules in
-    rw (failed, c.saturating_add-self.ensures, c.keep_last.ensures.faults) refl
+returns-then-eq-clause-counted g c = rw (failed g c, c.saturating_add-self.ensures, c.keep_last.ensures.faults) refl
 
 pub returns-then-eq-clause-reason_stays : goal.returns-then-eq-clause-reason_stays
-returns-then-eq-clause-reason_stays g c =
-    let failed : c.answer_to-answer.result ≡ Failed = search rules in
-    λ other. absurd (other failed)
+returns-then-eq-clause-reason_stays g c = λ other. absurd (other (failed g c))
 
 -- ---- none
 
