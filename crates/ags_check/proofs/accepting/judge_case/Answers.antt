@@ -54,3 +54,12 @@ returns-in-Err-clause-judged g c = (
       c.limits.ensures.limits c.in-Err.ensures.posts),
   refl,
 )
+
+pub returns-in-Some-clause-step : goal.returns-in-Some-clause-step
+returns-in-Some-clause-step g c = c.put_posts.ensures.step
+
+pub returns-in-None-clause-step : goal.returns-in-None-clause-step
+returns-in-None-clause-step g c = c.put_posts.ensures.step
+
+pub returns-in-Err-clause-step : goal.returns-in-Err-clause-step
+returns-in-Err-clause-step g c = c.put_posts.ensures.step

@@ -1,3 +1,4 @@
+use Rattle.std.proofs.Common.{rules}
 use Rattle.ags_row.proofs.CellLemmas.{cells_below}
 use Rattle.ags_check.proofs.StartLemmas.{linked_erasable}
 use Rattle.ags_check.proofs.starts.holds_start.Goals as goal
@@ -7,3 +8,6 @@ link_holds_start-requires c = rw c.link.ensures (linked_erasable c.args.row.now.
 
 pub cells_hold_start-requires : goal.cells_hold_start-requires
 cells_hold_start-requires c = rw c.at.ensures (cells_below 0 c.args.row.now.at c.args.row.now.ascending)
+
+pub returns : goal.returns
+returns c = search (rules, c.if-not-link_holds_start.false)
