@@ -3,3 +3,6 @@ use Rattle.ags_tags.proofs.lines.read_row.Goals as goal
 
 pub returns-clause-found : goal.returns-clause-found
 returns-clause-found c = search rules
+
+pub returns-clause-only : goal.returns-clause-only
+returns-clause-only c = search rules depth 3
