@@ -7,6 +7,7 @@ use Rattle.ags_domain.specs.Value.{value_meaning}
 use Rattle.ags_domain.specs.declared.values.Value.{Value}
 use Rattle.ags_ports.specs.declared.machines.Machine.{Machine}
 use Rattle.ags_row.specs.Limit.{Limiting}
+use Rattle.ags_row.specs.declared.ats.At.{At}
 use Rattle.ags_row.specs.declared.rows.Row.{Row}
 use Rattle.ags_verdict.specs.InOrder.{InOrder}
 use Rattle.ags_verdict.specs.Fault.{refusal_of, IsRowJudged, IsRowJudgedAt}
@@ -14,7 +15,9 @@ use Rattle.ags_verdict.specs.declared.verdicts.RowFault.{RowFault}
 use Rattle.ags_verdict.specs.declared.verdicts.Refusal.{Refusal}
 use Rattle.ags_walk.specs.Counting.{HasCases}
 use Rattle.ags_certtype.specs.Cert.{Stated, certificate_of}
-use Rattle.ags_certtype.specs.Edit.{IsNoRow, with_row}
+use Rattle.ags_certtype.specs.Edit.{IsNoRow, ReplacesLimit, with_row}
+use Rattle.ags_certtype.specs.declared.edit_errors.EditError.{EditError}
+use Rattle.ags_certtype.specs.declared.edit_errors.EditError.TheVariants.{BelowUse}
 use Rattle.ags_recheck.specs.Bound.{HaveCasesAt, IsMostOfRow}
 use Rattle.ags_recheck.specs.Joined.{joined}
 use Rattle.ags_recheck.specs.Locations.{has_location}
@@ -158,3 +161,8 @@ module _ (machine : Machine) (image : List (Option ℕ)) (stated : Stated) (item
       (subst (λ (n : ℕ). HaveCasesAt machine image stated.limits one n stated.rows is.others) (sym other_is)
       (subst (λ (n : ℕ). HaveCasesAt machine image stated.limits n row.location stated.rows is.others) (sym (one_is row there)) is.have_others))) in
       omega (arith, within, is.most_is)
+
+-- where a limit is refused the certificate stays
+pub limit_refused : (old new : Stated) (cell : At Value) (told : EditError) → ReplacesLimit old cell (Err told) new → new ≡ old
+limit_refused old new cell BelowUse refused = refused.1
+limit_refused old new cell _ refused = absurd refused

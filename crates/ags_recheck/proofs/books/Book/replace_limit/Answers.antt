@@ -1,6 +1,6 @@
-use Rattle.std.proofs.Common.{rules, ◌≡◌, sym, ap, ◌∙◌, length}
+use Rattle.std.proofs.Common.{rules, ◌≡◌, sym, ap, ◌∙◌, length, refl}
 use Rattle.ags_certtype.specs.Cert.{Stated}
-use Rattle.ags_recheck.proofs.BookLemmas.{book_made}
+use Rattle.ags_recheck.proofs.BookLemmas.{book_made, limit_refused}
 use Rattle.ags_recheck.proofs.books.Book.replace_limit.Goals as goal
 
 pub invariant_of-self-2 : goal.invariant_of-self-2
@@ -13,3 +13,10 @@ invariant_of-self-2 g c =
 pub returns-clause-bounded : goal.returns-clause-bounded
 returns-clause-bounded g c =
     c.rows_have_one_number_of_cases.ensures.some c.self.inside.image c.replace_limit.new.self.limits c.replace_limit.new.self.rows c.get-word.ensures.image
+
+pub invariant_of-self : goal.invariant_of-self
+invariant_of-self g c =
+    rw (limit_refused c.self.inside.cert c.replace_limit.new.self c.args.cell _ c.in_err-replace_limit.ensures) c.self.invariant
+
+pub returns-clause-edited : goal.returns-clause-edited
+returns-clause-edited g c = rw (← c.self.view_is) (c.in_ok-replace_limit.ensures, refl)
