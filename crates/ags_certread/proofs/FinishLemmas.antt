@@ -1,6 +1,6 @@
 -- All statements were gathered without a fault: what comes of them is the certificate that they state.
 use Rattle.std.proofs.Common.{◌≡◌, ℕ, zero, suc, ◌+◌, ◌<◌, ◌≤◌, Bool, true, false, not, ◌&&◌, ◌==◌, refl, sym, ap, ◌∙◌, subst, List, [], ◌∷◌, ◌++◌, length, reverse, get_or, Option, Some, None, arith}
-use Rattle.std.specs.Prelude.{nat_le, nat_lt, IfSome, if◌then◌else◌}
+use Rattle.std.specs.Prelude.{nat_le, nat_lt, Result, Ok, Err, IfOk, IfSome, if◌then◌else◌}
 use Rattle.std.specs.List.{All, list_any, filter_map}
 use Rattle.std.proofs.lemmas.Bool.{eq-eqb}
 use Rattle.std.proofs.lemmas.Bool.Decides.{nat_tests}
@@ -114,6 +114,12 @@ cert_made g limits is are = record {
   few_rows = is.few_rows;
   few_at_one = is.few_at_one;
 }
+
+pub made_is : {E : Type 0} (g : Gathering) (limits : Limiting Value) (result : Result Stated E) → IsFinished g → AreLimitsOf g limits
+    → IfOk result (λ cert. cert ≡ record { start = g.start; limits = limits; init = g.init; rows = g.rows }) → IfOk result (IsCertOfGathering g)
+made_is g limits (Ok cert) is are same = subst (λ (made : Stated). IsCertOfGathering g made) (sym same)
+    (record { is_cert = cert_made g limits is are; start = refl; limits = are; init = refl; rows = refl })
+made_is g limits (Err error) is are same = tt
 
 -- ---- what is sound and has its end is finished
 
