@@ -21,3 +21,18 @@ returns-in-At-clause-untaken c = rw c.in-At.is (c.take_at.ensures.untaken c.args
 
 pub returns-in-Linked-clause-untaken : goal.returns-in-Linked-clause-untaken
 returns-in-Linked-clause-untaken c = rw c.in-Linked.is (c.take_link.ensures.untaken c.args.version)
+
+pub returns-in-Word-clause-taken : goal.returns-in-Word-clause-taken
+returns-in-Word-clause-taken c = rw c.in-Word.is (c.take_word.ensures.taken c.args.version)
+
+pub returns-in-Cell-clause-taken : goal.returns-in-Cell-clause-taken
+returns-in-Cell-clause-taken c = rw c.in-Cell.is (c.take_cell.ensures.taken c.args.version)
+
+pub returns-in-Row-clause-taken : goal.returns-in-Row-clause-taken
+returns-in-Row-clause-taken c = rw c.in-Row.is (c.take_row.ensures.taken c.args.version)
+
+pub returns-in-At-clause-taken : goal.returns-in-At-clause-taken
+returns-in-At-clause-taken c = rw c.in-At.is (c.take_at.ensures.taken c.args.version)
+
+pub returns-in-Linked-clause-taken : goal.returns-in-Linked-clause-taken
+returns-in-Linked-clause-taken c = rw c.in-Linked.is (c.take_link.ensures.taken c.args.version)
