@@ -1,5 +1,6 @@
 use Rattle.std.proofs.Common.{◌≡◌, ◌++◌, ◌∷◌, [], List, ℕ, length, arith, sym, subst, ◌∙◌}
 use Rattle.std.specs.Prelude.{vec_len}
+use Rattle.ags_outside.specs.Taken.{took_both}
 use Rattle.ags_certread.specs.Kept.{Kept}
 use Rattle.ags_certread.specs.NextState.{GoesOn}
 use Rattle.ags_certread.specs.Pieces.{TookCert, took_cert}
@@ -23,3 +24,9 @@ returns-then-is_empty-clause-took c =
     (subst (λ (rest : List ℕ). TookCert r.lines.ports rest r.lines.number r.lines.gathered r.lines.state before) empty
     (subst (λ (k : Kept). took_cert k before) (sym c.self.view_is) took)) c.requires.unbroken
     (subst (λ (l : List ℕ). GoesOn r.lines.state r.lines l new) c.strip_return.ensures goes) c.take.ensures.ports)) c.take.ensures.taken
+
+pub returns-clause-took : goal.returns-clause-took
+returns-clause-took c =
+    on_ok c.end_rest.result
+    (took_both took_cert c.args.self.now c.hold.new.self c.end_rest.new.self c.args.bytes.now (10 ∷ []) c.in_ok-hold.ensures.took)
+    c.end_rest.ensures.took
