@@ -1,7 +1,3 @@
-use Rattle.std.proofs.Common.{◌≡◌, ap}
-use Rattle.ags_domain.specs.declared.values.Value.{Value}
-use Rattle.ags_row.specs.Limit.{Limiting}
-use Rattle.ags_certtype.specs.Cert.{Stated}
 use Rattle.ags_certtype.proofs.EditLemmas.{limit_put_in, limit_put_as}
 use Rattle.ags_certtype.proofs.certs.Cert.replace_limit.Goals as goal
 
