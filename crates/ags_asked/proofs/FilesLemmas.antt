@@ -11,7 +11,7 @@ use Rattle.ags_ports.specs.Machine.{standard_machine}
 use Rattle.ags_program.specs.Files.{Kind, Source, Certificate, Assembly, Pair, Value}
 use Rattle.ags_asked.specs.Loaded.{LoadsPair}
 use Rattle.ags_program.specs.Program.{program, workload_certificate, workload_plan, workload_source}
-use Rattle.ags_program.specs.Work.{Work, JudgePair, Sequel, CountsInstead}
+use Rattle.ags_program.specs.Work.{Work, JudgePair, CountsInstead}
 
 -- ---- what is told
 
