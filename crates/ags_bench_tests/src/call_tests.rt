@@ -56,93 +56,99 @@ fn words_of_no_form(rt: HostRuntime) {
     }
 }
 
+/// Words, and the first file that they name and that is not read.
+const UNREAD: [(&str, Status, &str); 10] = [
+    (
+        "X X X NOTOML",
+        Status::BadMachine,
+        "MACHINE ERROR 1 NotToml\n",
+    ),
+    ("X X X M", Status::AbsentFile, "ABSENT M\n"),
+    ("X FAULT START", Status::AbsentFile, "ABSENT X\n"),
+    (
+        "BAD FAULT START",
+        Status::BadSource,
+        "SOURCE CARD 0000001 ERROR 4 UnknownOperation\n",
+    ),
+    (
+        "LOOP FAULT START",
+        Status::BadCert,
+        "CERTIFICATE LINE 2 ERROR 1 BadLine\n",
+    ),
+    ("LOOP X START EMPTY", Status::AbsentFile, "ABSENT X\n"),
+    (
+        "LOOP GOOD START",
+        Status::BadText,
+        "SCRIPT LINE 1 ERROR 1 BadLine\n",
+    ),
+    (
+        "LOOP GOOD OUT",
+        Status::BadText,
+        "SCRIPT LINE 2 ERROR 2 NoPort\n",
+    ),
+    (
+        "LOOP GOOD MANY",
+        Status::BadText,
+        "SCRIPT LINE 3 ERROR 3 TooManySteps\n",
+    ),
+    ("LOOP OPEN X", Status::AbsentFile, "ABSENT X\n"),
+];
+
 // The machine file comes first, then the source, the certificate and the script.
 #[test]
 fn first_file_that_is_not_read(rt: HostRuntime) {
-    let rows = [
-        (
-            "X X X NOTOML",
-            Status::BadMachine,
-            "MACHINE ERROR 1 NotToml\n",
-        ),
-        ("X X X M", Status::AbsentFile, "ABSENT M\n"),
-        ("X FAULT START", Status::AbsentFile, "ABSENT X\n"),
-        (
-            "BAD FAULT START",
-            Status::BadSource,
-            "SOURCE CARD 0000001 ERROR 4 UnknownOperation\n",
-        ),
-        (
-            "LOOP FAULT START",
-            Status::BadCert,
-            "CERTIFICATE LINE 2 ERROR 1 BadLine\n",
-        ),
-        ("LOOP X START EMPTY", Status::AbsentFile, "ABSENT X\n"),
-        (
-            "LOOP GOOD START",
-            Status::BadText,
-            "SCRIPT LINE 1 ERROR 1 BadLine\n",
-        ),
-        (
-            "LOOP GOOD OUT",
-            Status::BadText,
-            "SCRIPT LINE 2 ERROR 2 NoPort\n",
-        ),
-        (
-            "LOOP GOOD MANY",
-            Status::BadText,
-            "SCRIPT LINE 3 ERROR 3 TooManySteps\n",
-        ),
-        ("LOOP OPEN X", Status::AbsentFile, "ABSENT X\n"),
-    ];
-    for &(line, status, text) in &rows {
+    for &(line, status, text) in &UNREAD {
         expect_line(&rt, line, status, text);
     }
 }
+
+/// Words, and what is told of the verdict and of the start.
+const JUDGED: [(&str, Status, &str); 4] = [
+    (
+        "LOOP GOOD P",
+        Status::Done,
+        "CERTIFIED ROWS 1 CASES 1\nA 000000 Q 000000 X 0 V 0 P 4000 R\nDEVICE 1 LEFT 0 HEARD 0 LAST ------\n",
+    ),
+    (
+        "LOOP GOOD P EMPTY",
+        Status::Done,
+        "CERTIFIED ROWS 1 CASES 1\nA 000000 Q 000000 X 0 V 0 P 4000 R\nDEVICE 1 LEFT 0 HEARD 0 LAST ------\n",
+    ),
+    ("LOOP OPEN P", Status::No, "REFUSED 2 StartUncovered\n"),
+    (
+        "LOOP FROM1 P",
+        Status::No,
+        "CERTIFIED ROWS 1 CASES 1\nOUTSIDE PORT 2001 000000\n",
+    ),
+];
 
 #[test]
 fn verdicts_and_starts(rt: HostRuntime) {
-    let rows = [
-        (
-            "LOOP GOOD P",
-            Status::Done,
-            "CERTIFIED ROWS 1 CASES 1\nA 000000 Q 000000 X 0 V 0 P 4000 R\nDEVICE 1 LEFT 0 HEARD 0 LAST ------\n",
-        ),
-        (
-            "LOOP GOOD P EMPTY",
-            Status::Done,
-            "CERTIFIED ROWS 1 CASES 1\nA 000000 Q 000000 X 0 V 0 P 4000 R\nDEVICE 1 LEFT 0 HEARD 0 LAST ------\n",
-        ),
-        ("LOOP OPEN P", Status::No, "REFUSED 2 StartUncovered\n"),
-        (
-            "LOOP FROM1 P",
-            Status::No,
-            "CERTIFIED ROWS 1 CASES 1\nOUTSIDE PORT 2001 000000\n",
-        ),
-    ];
-    for &(line, status, text) in &rows {
+    for &(line, status, text) in &JUDGED {
         expect_line(&rt, line, status, text);
     }
 }
 
+/// The statuses, each at its number.
+const STATUSES: [Status; 12] = [
+    Status::Done,
+    Status::No,
+    Status::BadSource,
+    Status::BadWords,
+    Status::AbsentFile,
+    Status::ReadFault,
+    Status::WriteFault,
+    Status::BadMachine,
+    Status::BadCert,
+    Status::BadText,
+    Status::LongFile,
+    Status::NoMemory,
+];
+
 #[test]
 fn numbers_of_statuses(rt: HostRuntime) {
-    let statuses = [
-        Status::Done,
-        Status::No,
-        Status::BadSource,
-        Status::BadWords,
-        Status::AbsentFile,
-        Status::ReadFault,
-        Status::WriteFault,
-        Status::BadMachine,
-        Status::BadCert,
-        Status::BadText,
-        Status::LongFile,
-        Status::NoMemory,
-    ];
     let mut number = 0u8;
-    for status in statuses {
+    for status in STATUSES {
         expect_same(&rt, &status.number(), &number);
         number = number.saturating_add(1);
     }

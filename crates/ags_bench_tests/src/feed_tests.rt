@@ -41,15 +41,17 @@ fn expect_script(rt: &(impl AllocGlobal + Abort), script: &str, status: Status, 
     expect_call(rt, &mut devices, &case);
 }
 
+/// Scripts that feed no register, and what is told.
+const NO_FEEDS: [(&str, &str); 3] = [
+    ("FEED 1\n", "NOFEED LINE 1 DEVICE 1\n"),
+    ("FEED 2\n", "NOFEED LINE 1 DEVICE 2\n"),
+    ("FEED 4\nFEED 1\n", "NODEVICE LINE 1 DEVICE 4\n"),
+];
+
 // A device that feeds no input register of the table is told of whatever its plan, and after the number of a device that isn't there.
 #[test]
 fn feeds_of_no_register(rt: HostRuntime) {
-    let rows = [
-        ("FEED 1\n", "NOFEED LINE 1 DEVICE 1\n"),
-        ("FEED 2\n", "NOFEED LINE 1 DEVICE 2\n"),
-        ("FEED 4\nFEED 1\n", "NODEVICE LINE 1 DEVICE 4\n"),
-    ];
-    for &(script, line) in &rows {
+    for &(script, line) in &NO_FEEDS {
         expect_script(&rt, script, Status::No, &[line]);
     }
 }

@@ -60,16 +60,18 @@ fn word_outside_stops_a_cycle(rt: HostRuntime) {
     );
 }
 
+/// Scripts with a number that no device has, and what is told.
+const NO_DEVICES: [(&str, &str); 5] = [
+    ("FEED 4\n", "NODEVICE LINE 1 DEVICE 4\n"),
+    ("FEED 0\n", "NODEVICE LINE 1 DEVICE 0\n"),
+    ("# none\n\nDETACH 4\n", "NODEVICE LINE 3 DEVICE 4\n"),
+    ("FEED 999999999\n", "NODEVICE LINE 1 DEVICE 999999999\n"),
+    ("FEED 3\n", "NOFEED LINE 1 DEVICE 3\n"),
+];
+
 #[test]
 fn numbers_that_no_device_has(rt: HostRuntime) {
-    let rows = [
-        ("FEED 4\n", "NODEVICE LINE 1 DEVICE 4\n"),
-        ("FEED 0\n", "NODEVICE LINE 1 DEVICE 0\n"),
-        ("# none\n\nDETACH 4\n", "NODEVICE LINE 3 DEVICE 4\n"),
-        ("FEED 999999999\n", "NODEVICE LINE 1 DEVICE 999999999\n"),
-        ("FEED 3\n", "NOFEED LINE 1 DEVICE 3\n"),
-    ];
-    for &(script, line) in &rows {
+    for &(script, line) in &NO_DEVICES {
         let mut text = String::new(rt.alloc());
         assert!(&rt; text.push_str(CERTIFIED).is_ok());
         assert!(&rt; text.push_str(line).is_ok());
@@ -114,19 +116,21 @@ fn numbers_close_up(rt: HostRuntime) {
     );
 }
 
+/// Scripts of a line or of few, and what they show.
+const ALONE: [(&str, &str); 6] = [
+    ("", ""),
+    ("STEP 0\nCYCLE 0\nPULSE\n", ""),
+    ("SHOW REG\n", "A 000000 Q 000000 X 0 V 0 P 4000 R\n"),
+    ("STEP 1\nSHOW REG\n", "A 000000 Q 000000 X 0 V 0 P 4001 R\n"),
+    ("SHOW CELL 4036\n", "CELL 4036 001750\n"),
+    ("SHOW OUT 6001\n", "OUT 6001 000000\n"),
+];
+
 #[test]
 fn each_line_alone(rt: HostRuntime) {
     let left =
         "DEVICE 1 LEFT 100 HEARD 0 LAST ------\nDEVICE 2 LEFT 9 HEARD 0 LAST ------\nDEVICE 3 LEFT 0 HEARD 0 LAST ------\n";
-    let rows = [
-        ("", ""),
-        ("STEP 0\nCYCLE 0\nPULSE\n", ""),
-        ("SHOW REG\n", "A 000000 Q 000000 X 0 V 0 P 4000 R\n"),
-        ("STEP 1\nSHOW REG\n", "A 000000 Q 000000 X 0 V 0 P 4001 R\n"),
-        ("SHOW CELL 4036\n", "CELL 4036 001750\n"),
-        ("SHOW OUT 6001\n", "OUT 6001 000000\n"),
-    ];
-    for &(script, lines) in &rows {
+    for &(script, lines) in &ALONE {
         let mut text = String::new(rt.alloc());
         assert!(&rt; text.push_str(CERTIFIED).is_ok());
         assert!(&rt; text.push_str(lines).is_ok());

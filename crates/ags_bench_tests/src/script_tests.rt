@@ -54,53 +54,57 @@ fn each_line_is_read(rt: HostRuntime) {
     expect_commands(&rt, "", &[]);
 }
 
+/// Lines of no form.
+const NO_FORMS: [&str; 20] = [
+    "START 4000",
+    "CELL 0020 000001",
+    "PORT 2001 000001",
+    "SET 2001 000001",
+    "KEY 1",
+    "SHOW DEDA",
+    "FEED",
+    "FEED -1",
+    "FEED 1 2",
+    "FEED 0x1",
+    "FEED 1234567890",
+    "DETACH",
+    "DETACH +1",
+    "DETACH ALL",
+    "DETACH 1 1",
+    "feed 1",
+    "FEED1",
+    "STEP",
+    "PULSE 1",
+    "SHOW CELL 777",
+];
+
 #[test]
 fn lines_of_no_form(rt: HostRuntime) {
-    let lines = [
-        "START 4000",
-        "CELL 0020 000001",
-        "PORT 2001 000001",
-        "SET 2001 000001",
-        "KEY 1",
-        "SHOW DEDA",
-        "FEED",
-        "FEED -1",
-        "FEED 1 2",
-        "FEED 0x1",
-        "FEED 1234567890",
-        "DETACH",
-        "DETACH +1",
-        "DETACH ALL",
-        "DETACH 1 1",
-        "feed 1",
-        "FEED1",
-        "STEP",
-        "PULSE 1",
-        "SHOW CELL 777",
-    ];
-    for line in lines {
+    for line in NO_FORMS {
         expect_fault(&rt, line, 1, ScriptKind::BadLine);
     }
 }
 
+/// Scripts, and the line and the kind of their first fault.
+const FAULTY: [(&str, u32, ScriptKind); 5] = [
+    ("SHOW OUT 2001\n", 1, ScriptKind::NoPort),
+    (
+        "FEED 1\n\n# none\nSHOW OUT 6003\nFEED\n",
+        4,
+        ScriptKind::NoPort,
+    ),
+    ("FEED\nSHOW OUT 6003\n", 1, ScriptKind::BadLine),
+    (
+        "STEP 100000000\nFEED 9\nSTEP 0\nSTEP 1\n",
+        4,
+        ScriptKind::TooManySteps,
+    ),
+    ("CYCLE 5001\n", 1, ScriptKind::TooManySteps),
+];
+
 #[test]
 fn first_fault_of_a_script(rt: HostRuntime) {
-    let rows = [
-        ("SHOW OUT 2001\n", 1, ScriptKind::NoPort),
-        (
-            "FEED 1\n\n# none\nSHOW OUT 6003\nFEED\n",
-            4,
-            ScriptKind::NoPort,
-        ),
-        ("FEED\nSHOW OUT 6003\n", 1, ScriptKind::BadLine),
-        (
-            "STEP 100000000\nFEED 9\nSTEP 0\nSTEP 1\n",
-            4,
-            ScriptKind::TooManySteps,
-        ),
-        ("CYCLE 5001\n", 1, ScriptKind::TooManySteps),
-    ];
-    for &(text, line, kind) in &rows {
+    for &(text, line, kind) in &FAULTY {
         expect_fault(&rt, text, line, kind);
     }
     expect_commands(&rt, "CYCLE 5000\n", &[(1, BenchCommand::Cycle(5000))]);

@@ -1,7 +1,10 @@
-//! Tests of shelves and sinks, in memory and over real files, and of the walk along the files of a command, over what their crates
-//! make public. They stand in a crate of their own, so that the proofs of those crates aren't done a second time for them.
+//! Tests of shelves and sinks, in memory and over real files, of the walk along the files of a command, and of what standard error
+//! says, over what their crates make public. They stand in a crate of their own, so that the proofs of those crates aren't done a
+//! second time for them.
 #![tactic(auto)]
 
+#[cfg(test)]
+mod advice;
 #[cfg(test)]
 mod common;
 #[cfg(test)]

@@ -94,18 +94,20 @@ fn expect_words(rt: &impl Abort, made: &Assembled, place: u16, words: &[u32]) {
 /// A source with lists, a BES and a SYN.
 const LISTS: &[u8] = b" ORG /4000\nT OCT 1,2,3\nE BES 2\nN SYN T+1\n TRA N\n DEC 1,-1\n";
 
+/// The cards of these lists: their spans, places and counts.
+const LISTED_CARDS: [(u32, u32, Option<u16>, u16); 6] = [
+    (0, 10, None, 0),
+    (11, 22, Some(0o4000), 3),
+    (23, 30, None, 0),
+    (31, 40, None, 0),
+    (41, 47, Some(0o4005), 1),
+    (48, 57, Some(0o4006), 2),
+];
+
 #[test]
 fn cards_have_lists_of_words(rt: HostRuntime) {
     let made = assembled(&rt, rt.alloc(), LISTS);
-    let wanted = [
-        (0, 10, None, 0),
-        (11, 22, Some(0o4000), 3),
-        (23, 30, None, 0),
-        (31, 40, None, 0),
-        (41, 47, Some(0o4005), 1),
-        (48, 57, Some(0o4006), 2),
-    ];
-    expect_cards(&rt, &made.cards, &wanted);
+    expect_cards(&rt, &made.cards, &LISTED_CARDS);
     expect_words(&rt, &made, 0o4000, &[1, 2, 3, 0, 0, 0o404001, 1, 0o777777]);
     assert!(&rt; made.image.get(0o4003).is_none());
 }

@@ -1,0 +1,119 @@
+//! What several tests make, and what they assert.
+
+ghost use Rattle.std.specs.Prelude.{◌≡◌, ◌<◌};
+ghost use Rattle.ags_recheck.specs.Edited.{IsOfMemory};
+
+use ags_certtype::{Cert, CertParts, EditError};
+use ags_check::{Verdict, check};
+use ags_domain::{Domain, Value};
+use ags_edits::Edit;
+use ags_image::Image;
+use ags_ports::Machine;
+use ags_recheck::Book;
+use ags_row::{At, Limits, Row, RowParts};
+use ags_steps::Steps;
+use std::alloc::Global;
+use std::process::Abort;
+use std::sync::ledger::Ledger;
+
+/// A row with this value of A, with index 0 and the indicator clear, and one cell if it is given.
+pub(crate) fn row_with(
+    rt: &impl Abort,
+    alloc: Global,
+    location: u16,
+    a: Value,
+    cell: Option<At<Value>>,
+) -> Row<Value> {
+    let mut at = Vec::new(alloc);
+    if let Some(cell) = cell {
+        assert!(rt; at.push(cell).is_ok());
+    }
+    Row::of(RowParts {
+        location,
+        a,
+        q: Value::full(),
+        x: [true, false, false, false, false, false, false, false],
+        v: [true, false],
+        at,
+        link: None,
+    })
+    .expect(rt, "the parts of a row")
+}
+
+/// A row where A may hold any word.
+pub(crate) fn row(rt: &impl Abort, alloc: Global, location: u16) -> Row<Value> {
+    row_with(rt, alloc, location, Value::full(), None)
+}
+
+/// A certificate of some rows, which starts at 4000 octal.
+pub(crate) fn cert_of(
+    rt: &impl Abort,
+    alloc: Global,
+    limits: Limits<Value>,
+    rows: Vec<Row<Value>>,
+) -> Cert {
+    let parts = CertParts {
+        start: 0o4000,
+        limits,
+        init: vec![in alloc; None; 2048].expect(rt, "memory for the start"),
+        rows,
+    };
+    let made = Cert::of(alloc, parts).expect(rt, "memory for a certificate");
+    made.expect(rt, "the parts of a certificate")
+}
+
+/// The book of an image and a certificate on the standard machine.
+pub(crate) fn book_of<L: Ledger>(
+    rt: &impl Abort,
+    alloc: Global,
+    image: Image,
+    cert: Cert,
+    steps: &mut Steps<L>,
+) -> Book {
+    Book::new(alloc, Machine::standard(), image, cert, steps).expect(rt, "memory for a book")
+}
+
+/// Asserts the verdict of a book, and that a check from nothing tells the same.
+pub(crate) fn expect_verdict<L: Ledger>(
+    rt: &impl Abort,
+    book: &Book,
+    wanted: &Verdict,
+    steps: &mut Steps<L>,
+) {
+    let told = book.verdict();
+    assert!(rt; told == *wanted, "{told}");
+    let fresh = check(&Machine::standard(), book.image(), book.cert(), steps);
+    assert!(rt; fresh == *wanted, "{fresh}");
+}
+
+/// Makes an edit, and asserts the verdict after it.
+pub(crate) fn expect_edit<L: Ledger>(
+    rt: &impl Abort,
+    book: &mut Book,
+    edit: Edit,
+    wanted: &Verdict,
+    steps: &mut Steps<L>,
+)
+    requires { IsOfMemory edit }
+{
+    assert!(rt; book.apply(edit, steps).is_ok());
+    expect_verdict(rt, book, wanted, steps);
+}
+
+/// Asserts that an edit is refused, and that the verdict stays.
+pub(crate) fn expect_refused<L: Ledger>(
+    rt: &impl Abort,
+    book: &mut Book,
+    edit: Edit,
+    why: EditError,
+    steps: &mut Steps<L>,
+)
+    requires { IsOfMemory edit }
+{
+    let before = book.verdict();
+    match book.apply(edit, steps) {
+        Ok(()) => panic!(rt; "the edit is made"),
+        Err(error) => assert_eq!(rt; error, why),
+    }
+    expect_verdict(rt, book, &before, steps);
+}

@@ -1,0 +1,151 @@
+//! What several tests make, and what they assert.
+
+ghost use Rattle.std.specs.Prelude.{◌≡◌, ◌<◌, length};
+
+use crate::common::{expect_same, image_of, word};
+use ags_certread::CERT_LIMIT;
+use ags_certtype::Cert;
+use ags_image::Image;
+use ags_ports::Machine;
+use ags_scale::{RowTag, SCALES_LIMIT, Scaled, Scales, Tag, judge, read};
+use ags_steps::Steps;
+use std::alloc::Global;
+use std::marker::Brand;
+use std::process::Abort;
+use std::sync::ledger::{Blank, Ledger};
+
+/// What is wanted of the judge where the certificate is accepted.
+#[derive(Clone, Copy)]
+pub(crate) enum Wanted {
+    /// The scales agree: the numbers of rows and cases.
+    Agree(u32, u64),
+    /// No row holds the start with raw tags.
+    StartMixed,
+    /// Two tags mix at a row and a word, with index 0 and the indicator clear.
+    Mixed(u32, u32, RowTag, Tag),
+    /// A post isn't held: a row, a word and the post's location, with index 0 and the indicator clear.
+    NotHeld(u32, u32, u16),
+}
+
+/// A text of scales, and what is wanted of it.
+pub(crate) type Judging<'a> = (&'a [u8], Wanted);
+
+/// A program and its certificate.
+#[derive(Clone, Copy)]
+pub(crate) struct Program<'a> {
+    /// The words, which stand from 4000 octal on.
+    pub(crate) words: &'a [u32],
+    /// The certificate's text.
+    pub(crate) certificate: &'a [u8],
+}
+
+/// The answer of the judge, with a counter on the ledger of a blank.
+fn scaled_from<L: Ledger>(
+    machine: &Machine,
+    image: &Image,
+    cert: &Cert,
+    scales: &Scales,
+    blank: Blank,
+) -> Scaled
+    requires rows { length scales.now.rows ≡ length cert.now.rows }
+    requires name { blank.name ≡ L.name }
+    requires parts { blank.parts ≡ L.parts }
+    requires some { 0 < L.parts }
+{
+    let mut steps = Steps::<L>::new(blank);
+    judge(machine, image, cert, scales, &mut steps)
+}
+
+/// The answer of the judge.
+fn scaled_of(machine: &Machine, image: &Image, cert: &Cert, scales: &Scales) -> Scaled
+    requires { length scales.now.rows ≡ length cert.now.rows }
+{
+    scaled_from::<Brand>(machine, image, cert, scales, Blank::new(1))
+}
+
+/// The answer of the judge to a program with a text of scales, on the standard machine.
+pub(crate) fn judged(rt: &impl Abort, alloc: Global, program: &Program<'_>, text: &[u8]) -> Scaled {
+    let machine = Machine::standard();
+    let image = image_of(rt, alloc, program.words);
+    assert!(rt; program.certificate.len() <= CERT_LIMIT);
+    let Ok(cert) = ags_certread::read(alloc, program.certificate, &machine.ports) else {
+        panic!(rt; "no certificate");
+    };
+    let rows = cert.rows().len();
+    assert!(rt; rows <= 20_000);
+    assert!(rt; text.len() <= SCALES_LIMIT);
+    let Ok(scales) = read(alloc, text, &machine, rows as u32) else {
+        panic!(rt; "no scales");
+    };
+    scaled_of(&machine, &image, &cert, &scales)
+}
+
+/// Asserts what is wanted of an answer.
+fn expect_scaled(rt: &impl Abort, scaled: &Scaled, wanted: &Wanted) {
+    match (scaled, wanted) {
+        (Scaled::Agree { rows, cases }, Wanted::Agree(all, each)) => {
+            expect_same(rt, &(*rows, *cases), &(*all, *each));
+        }
+        (Scaled::StartMixed, Wanted::StartMixed) => {}
+        (
+            Scaled::Mixed {
+                row,
+                word: order,
+                x,
+                v,
+                left,
+                right,
+            },
+            Wanted::Mixed(at, number, one, other),
+        ) => {
+            expect_same(
+                rt,
+                &(*row, *order, *x, *v),
+                &(*at, word(rt, *number), 0, false),
+            );
+            expect_same(rt, &(*left, *right), &(*one, *other));
+        }
+        (
+            Scaled::NotHeld {
+                row,
+                word: order,
+                x,
+                v,
+                next,
+            },
+            Wanted::NotHeld(at, number, location),
+        ) => {
+            expect_same(
+                rt,
+                &(*row, *order, *x, *v),
+                &(*at, word(rt, *number), 0, false),
+            );
+            expect_same(rt, next, location);
+        }
+        _ => panic!(rt; "another answer"),
+    }
+}
+
+/// Asserts what is wanted of a program with a text of scales.
+pub(crate) fn expect(
+    rt: &impl Abort,
+    alloc: Global,
+    program: &Program<'_>,
+    text: &[u8],
+    wanted: &Wanted,
+) {
+    let scaled = judged(rt, alloc, program, text);
+    expect_scaled(rt, &scaled, wanted);
+}
+
+/// The same, of each of some texts of scales.
+pub(crate) fn expect_each(
+    rt: &impl Abort,
+    alloc: Global,
+    program: &Program<'_>,
+    judgings: &[Judging<'_>],
+) {
+    for (text, wanted) in judgings {
+        expect(rt, alloc, program, text, wanted);
+    }
+}
