@@ -1,5 +1,5 @@
 -- The answer that tells what fails first.
-use Rattle.std.proofs.Common.{ℕ, List}
+use Rattle.std.proofs.Common.{◌≡◌, ℕ, List}
 use Rattle.std.specs.Prelude.{Option}
 use Rattle.ags_domain.specs.declared.values.Value.{Value}
 use Rattle.ags_ports.specs.declared.machines.Machine.{Machine}
@@ -7,6 +7,7 @@ use Rattle.ags_safe.specs.Certificate.{Certificate}
 use Rattle.ags_tags.specs.Tag.{Scaling}
 use Rattle.ags_scale.specs.Scaled.{FailsFirst, IsScaled}
 use Rattle.ags_scale.specs.Telling.{answer_of}
+use Rattle.ags_scale.specs.declared.answers.Scaled.TheVariants.{Agree}
 use Rattle.ags_scale.specs.declared.answers.TagFault.{TagFault}
 use Rattle.ags_scale.specs.declared.answers.TagFault.TheVariants.{Mixes, Loses}
 
@@ -14,3 +15,8 @@ pub told_scaled : (machine : Machine) (image : List (Option ℕ)) (cert : Certif
     → FailsFirst machine image cert scales row fault → IsScaled machine image cert scales (answer_of row fault)
 told_scaled machine image cert scales row (Mixes word x v two) fails = fails
 told_scaled machine image cert scales row (Loses word x v next) fails = fails
+
+-- what fails of a case is told, and not that the scales agree
+pub told_is_no_agreement : (row : ℕ) (fault : TagFault) (rows cases : ℕ) → answer_of row fault ≡ Agree rows cases → ⊥
+told_is_no_agreement row (Mixes word x v two) rows cases is = absurd cc
+told_is_no_agreement row (Loses word x v next) rows cases is = absurd cc
