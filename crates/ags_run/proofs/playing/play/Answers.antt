@@ -23,3 +23,40 @@ returns-in-Err-WriteFault-clause-unplayed g c = played_in_part c.args.machine.no
 
 pub returns-clause-unplayed : goal.returns-clause-unplayed
 returns-clause-unplayed g c = played_in_part c.args.machine.now c.args.image.now (guard_of (option_map (λ cert. cert.now) c.args.guard)) c.args.script.now c.in-Ok.player c.in-Ok.ensures (g.K.Sink.told c.args.out.now) (g.K.Sink.told c.play_commands.new.out) c.in_default-find_outside.ensures c.in-Err-NoMemory.ensures.part
+
+-- what the plays are is told of each at once, whatever this one comes to
+pub returns-in_default-clause-declared : goal.returns-in_default-clause-declared
+returns-in_default-clause-declared g c = c.plays_are_sound.ensures.declared
+
+pub returns-in_default-clause-safe : goal.returns-in_default-clause-safe
+returns-in_default-clause-safe g c = c.plays_are_sound.ensures.safe
+
+pub returns-in-Some-clause-declared : goal.returns-in-Some-clause-declared
+returns-in-Some-clause-declared g c = c.plays_are_sound.ensures.declared
+
+pub returns-in-Some-clause-safe : goal.returns-in-Some-clause-safe
+returns-in-Some-clause-safe g c = c.plays_are_sound.ensures.safe
+
+pub returns-in-Ok-None-clause-declared : goal.returns-in-Ok-None-clause-declared
+returns-in-Ok-None-clause-declared g c = c.plays_are_sound.ensures.declared
+
+pub returns-in-Ok-None-clause-safe : goal.returns-in-Ok-None-clause-safe
+returns-in-Ok-None-clause-safe g c = c.plays_are_sound.ensures.safe
+
+pub returns-in-Ok-Some-clause-declared : goal.returns-in-Ok-Some-clause-declared
+returns-in-Ok-Some-clause-declared g c = c.plays_are_sound.ensures.declared
+
+pub returns-in-Ok-Some-clause-safe : goal.returns-in-Ok-Some-clause-safe
+returns-in-Ok-Some-clause-safe g c = c.plays_are_sound.ensures.safe
+
+pub returns-in-Err-WriteFault-clause-declared : goal.returns-in-Err-WriteFault-clause-declared
+returns-in-Err-WriteFault-clause-declared g c = c.plays_are_sound.ensures.declared
+
+pub returns-in-Err-WriteFault-clause-safe : goal.returns-in-Err-WriteFault-clause-safe
+returns-in-Err-WriteFault-clause-safe g c = c.plays_are_sound.ensures.safe
+
+pub returns-clause-declared : goal.returns-clause-declared
+returns-clause-declared g c = c.plays_are_sound.ensures.declared
+
+pub returns-clause-safe : goal.returns-clause-safe
+returns-clause-safe g c = c.plays_are_sound.ensures.safe
