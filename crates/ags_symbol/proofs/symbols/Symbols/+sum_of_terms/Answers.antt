@@ -2,6 +2,7 @@ use Rattle.std.proofs.Common.{◌≡◌, ◌≤◌, ◌<◌, ◌*◌, ◌+◌, �
 use Rattle.std.specs.Int.{w32}
 use Rattle.std.proofs.lemmas.Int.{ints, to_z-of_z, fits_signed_from_abs}
 use Rattle.std.proofs.lemmas.List.{take_all}
+use Rattle.std.proofs.lemmas.Grind.{common_steps}
 use Rattle.ags_card.specs.declared.terms.Term.{Term}
 use Rattle.ags_symbol.specs.Symbol.{Entry, term_value, sum_of}
 use Rattle.ags_symbol.specs.Bound.{IsAtMost}
@@ -50,3 +51,9 @@ returns-clause-value t c =
     let o = c.in_ok-others.others in
     rw (to_z-of_z w32 v (value_fits c), to_z-of_z w32 o (others_fit c), to_z-of_z w32 (v +ℤ o) (sum_fits c))
     (sum_of_more c.args.self.now c.args.here c.args.terms.now c.first-item.result v o c.in-len1-up.len_at_least c.first-item.is c.in_ok-value.ensures.value c.in_ok-others.ensures.value)
+
+pub returns-in_default-clause-value : goal.returns-in_default-clause-value
+returns-in_default-clause-value t c = grind (arith, common_steps)
+
+pub returns-in_err-others-clause-value : goal.returns-in_err-others-clause-value
+returns-in_err-others-clause-value t c = grind (arith, common_steps)
