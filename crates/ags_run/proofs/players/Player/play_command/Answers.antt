@@ -1,6 +1,7 @@
-use Rattle.std.proofs.Common.{◌≡◌, [], refl, ap, inl, inr}
+use Rattle.std.proofs.Common.{◌≡◌, ℕ, false, [], refl, ap, inl, inr, arith}
 use Rattle.ags_play.specs.Act as act
 use Rattle.ags_play.specs.Act.{acts_of_command}
+use Rattle.ags_outside.specs.Count.{HasCause}
 use Rattle.ags_run.proofs.JoinLemmas.{none_played, plain_played, under_played}
 use Rattle.ags_run.proofs.players.Player.play_command.Goals as goal
 
@@ -32,3 +33,49 @@ returns-in-Start-clause-played g c =
       ]
     ] in
     rw none (none_played (g.K.Sink.told c.args.out.now) c.args.self.now)
+
+-- a command that prints nothing meets no fault
+unfailed : (faults : ℕ) → HasCause faults faults false
+unfailed faults = record { stays = omega arith; cause = λ told. absurd cc; clean = λ told. refl }
+
+pub returns-in-Step-clause-part : goal.returns-in-Step-clause-part
+returns-in-Step-clause-part g c = tt
+
+pub returns-in-Step-clause-faults : goal.returns-in-Step-clause-faults
+returns-in-Step-clause-faults g c = unfailed (g.K.Sink.faults c.args.out.now)
+
+pub returns-in-Pulse-clause-part : goal.returns-in-Pulse-clause-part
+returns-in-Pulse-clause-part g c = tt
+
+pub returns-in-Pulse-clause-faults : goal.returns-in-Pulse-clause-faults
+returns-in-Pulse-clause-faults g c = unfailed (g.K.Sink.faults c.args.out.now)
+
+pub returns-in-Press-clause-part : goal.returns-in-Press-clause-part
+returns-in-Press-clause-part g c = tt
+
+pub returns-in-Press-clause-faults : goal.returns-in-Press-clause-faults
+returns-in-Press-clause-faults g c = unfailed (g.K.Sink.faults c.args.out.now)
+
+pub returns-in-Set-clause-part : goal.returns-in-Set-clause-part
+returns-in-Set-clause-part g c = tt
+
+pub returns-in-Set-clause-faults : goal.returns-in-Set-clause-faults
+returns-in-Set-clause-faults g c = unfailed (g.K.Sink.faults c.args.out.now)
+
+pub returns-in-Feed-clause-part : goal.returns-in-Feed-clause-part
+returns-in-Feed-clause-part g c = tt
+
+pub returns-in-Feed-clause-faults : goal.returns-in-Feed-clause-faults
+returns-in-Feed-clause-faults g c = unfailed (g.K.Sink.faults c.args.out.now)
+
+pub returns-in-Cycle-clause-part : goal.returns-in-Cycle-clause-part
+returns-in-Cycle-clause-part g c = tt
+
+pub returns-in-Cycle-clause-faults : goal.returns-in-Cycle-clause-faults
+returns-in-Cycle-clause-faults g c = unfailed (g.K.Sink.faults c.args.out.now)
+
+pub returns-in-Start-clause-part : goal.returns-in-Start-clause-part
+returns-in-Start-clause-part g c = tt
+
+pub returns-in-Start-clause-faults : goal.returns-in-Start-clause-faults
+returns-in-Start-clause-faults g c = unfailed (g.K.Sink.faults c.args.out.now)
