@@ -19,3 +19,15 @@ returns-clause-content g c = search rules
 
 pub returns-clause-written : goal.returns-clause-written
 returns-clause-written g c = search rules
+
+pub returns-clause-absent_cause : goal.returns-clause-absent_cause
+returns-clause-absent_cause g c = c.answer-status.ensures.absent_cause
+
+pub returns-clause-read_fault : goal.returns-clause-read_fault
+returns-clause-read_fault g c = c.answer-status.ensures.read_fault
+
+pub returns-clause-clean_shelf : goal.returns-clause-clean_shelf
+returns-clause-clean_shelf g c = search rules
+
+pub returns-clause-clean_sink : goal.returns-clause-clean_sink
+returns-clause-clean_sink g c = search rules
