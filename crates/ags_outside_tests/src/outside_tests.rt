@@ -9,6 +9,32 @@ use ags_outside::{FetchError, Pull, SendError, Shelf, SteadyShelf, SteadySink, f
 use std::alloc::Global;
 use std::process::Abort;
 
+/// The files of a shelf, one of which is added twice.
+const FILES: [(&str, &[u8]); 5] = [
+    ("empty", b""),
+    ("short", b"first"),
+    ("other", b"kept"),
+    ("short", b"replaced"),
+    ("five", b"12345"),
+];
+
+/// A name, the limit, and the bytes that are fetched.
+const FETCHED: [(&str, u64, &[u8]); 6] = [
+    ("empty", 10_000, b""),
+    ("short", 10_000, b"replaced"),
+    ("other", 10_000, b"kept"),
+    ("five", 5, b"12345"),
+    ("five", u64::MAX, b"12345"),
+    ("empty", 0, b""),
+];
+
+/// A name, the limit, and why nothing is fetched.
+const REFUSED: [(&str, u64, FetchError); 3] = [
+    ("six", 5, FetchError::Absent),
+    ("five", 0, FetchError::TooLong),
+    ("five", 4, FetchError::TooLong),
+];
+
 /// So many bytes that don't repeat with the pieces in which they are read.
 fn long_file(rt: &impl Abort, alloc: Global, length: u32) -> Vec<u8> {
     let mut bytes = Vec::new(alloc);
@@ -18,167 +44,47 @@ fn long_file(rt: &impl Abort, alloc: Global, length: u32) -> Vec<u8> {
     bytes
 }
 
-/// Whether these bytes are fetched by a name.
-fn is_fetched(alloc: Global, shelf: &mut SteadyShelf, name: &str, bytes: &[u8]) -> bool {
-    match fetch(alloc, shelf, name, 10_000) {
-        Ok(fetched) => fetched.as_slice() == bytes,
-        Err(_) => false,
-    }
-}
-
-/// Expects the bytes of a file.
+/// Expects what is fetched by a name within a limit.
 fn expect_fetched(
     rt: &impl Abort,
     alloc: Global,
     shelf: &mut SteadyShelf,
     name: &str,
-    bytes: &[u8],
+    limit: u64,
+    wanted: Result<&[u8], FetchError>,
 ) {
-    assert!(rt; is_fetched(alloc, shelf, name, bytes), "{name}");
-}
-
-/// The files of a shelf, one of which is added twice, where one has these bytes.
-fn some_files(rt: &impl Abort, alloc: Global, long: &[u8]) -> SteadyShelf {
-    let added: [(&str, &[u8]); 5] = [
-        ("empty", b""),
-        ("long", long),
-        ("short", b"first"),
-        ("other", b"kept"),
-        ("short", b"replaced"),
-    ];
-    shelf_of(rt, alloc, &added)
+    let fetched = fetch(alloc, shelf, name, limit);
+    let told = match &fetched {
+        Ok(bytes) => Ok(bytes.as_slice()),
+        Err(fault) => Err(*fault),
+    };
+    expect_same(rt, &(name, limit, told), &(name, limit, wanted));
 }
 
 #[test]
-fn files_are_fetched_whole(rt: HostRuntime) {
+fn files_are_fetched_whole_or_refused(rt: HostRuntime) {
     let alloc = rt.alloc();
     let long = long_file(&rt, alloc, 10_000);
-    let mut shelf = some_files(&rt, alloc, long.as_slice());
-    expect_fetched(&rt, alloc, &mut shelf, "empty", b"");
-    expect_fetched(&rt, alloc, &mut shelf, "long", long.as_slice());
-    expect_fetched(&rt, alloc, &mut shelf, "short", b"replaced");
-    expect_fetched(&rt, alloc, &mut shelf, "other", b"kept");
-}
-
-/// The files of `absent_and_long_files_are_refused`.
-const FILES: [(&str, &[u8]); 2] = [("five", b"12345"), ("empty", b"")];
-
-/// A name, the limit, and how many bytes are fetched.
-const FETCHED: [(&str, u64, Result<usize, FetchError>); 6] = [
-    ("six", 5, Err(FetchError::Absent)),
-    ("five", 0, Err(FetchError::TooLong)),
-    ("five", 4, Err(FetchError::TooLong)),
-    ("five", 5, Ok(5)),
-    ("five", u64::MAX, Ok(5)),
-    ("empty", 0, Ok(0)),
-];
-
-/// How many bytes are fetched by a name within a limit.
-fn fetched_length<S: Shelf>(
-    alloc: Global,
-    shelf: &mut S,
-    name: &str,
-    limit: u64,
-) -> Result<usize, FetchError> {
-    fetch(alloc, shelf, name, limit).map(|bytes| bytes.len())
-}
-
-#[test]
-fn absent_and_long_files_are_refused(rt: HostRuntime) {
-    let alloc = rt.alloc();
     let mut shelf = shelf_of(&rt, alloc, &FILES);
-    for &(name, limit, wanted) in &FETCHED {
-        let told = fetched_length(alloc, &mut shelf, name, limit);
-        expect_same(&rt, &(name, limit, told), &(name, limit, wanted));
+    assert!(rt; shelf.add("long", &long).is_ok());
+    expect_fetched(&rt, alloc, &mut shelf, "long", 10_000, Ok(&long));
+    for &(name, limit, bytes) in &FETCHED {
+        expect_fetched(&rt, alloc, &mut shelf, name, limit, Ok(bytes));
+    }
+    for &(name, limit, fault) in &REFUSED {
+        expect_fetched(&rt, alloc, &mut shelf, name, limit, Err(fault));
     }
 }
 
-/// A shelf that tells nothing: a file of zeros, after whose last byte it ends or fails.
-#[derive(Drop)]
-struct ZeroShelf {
-    length: usize,
-    fails: bool,
-    faults: u64,
-    asked: Vec<usize>,
-}
-
-impl Shelf for ZeroShelf {
-    ghost told = { λ _ _. Untold };
-
-    ghost faults = { λ shelf. shelf.faults };
-
-    ghost absences = { λ _. 0 };
-
-    fn pull(&mut self, _name: &str, from: u64, into: &mut [u8]) -> Pull {
-        if self.asked.push(into.len()).is_err() {
-            return Pull::NoMemory;
-        }
-        let from = from as usize;
-        if from < self.length {
-            return Pull::Got(into.len().min(self.length - from));
-        }
-        if self.fails {
-            self.faults = self.faults.saturating_add(1);
-            return Pull::Failed;
-        }
-        Pull::End
-    }
-}
-
-/// A file of so many zeros, after whose last byte it fails or ends.
-fn zeros(alloc: Global, length: usize, fails: bool) -> ZeroShelf {
-    ZeroShelf {
-        length,
-        fails,
-        faults: 0,
-        asked: Vec::new(alloc),
-    }
-}
-
-/// The length of a file, the limit, how many bytes are fetched, and for how many bytes each pull asks.
-const PIECES: [(usize, u64, Result<usize, FetchError>, &[usize]); 4] = [
-    (0, 0, Ok(0), &[1]),
-    (5_000, 10_000, Ok(5_000), &[4096, 4096, 4096]),
-    (5_000, 5_000, Ok(5_000), &[4096, 905, 1]),
-    (5_000, 4_096, Err(FetchError::TooLong), &[4096, 1]),
-];
-
-/// Expects how many of so many zeros are fetched within a limit, and for how many bytes each pull asks.
-fn expect_asked(
-    rt: &impl Abort,
-    alloc: Global,
-    length: usize,
-    limit: u64,
-    wanted: Result<usize, FetchError>,
-    asked: &[usize],
-) {
-    let mut shelf = zeros(alloc, length, false);
-    let told = fetched_length(alloc, &mut shelf, "zeros", limit);
-    expect_same(rt, &(length, limit, told), &(length, limit, wanted));
-    expect_same(rt, &shelf.asked.as_slice(), &asked);
-}
-
-#[test]
-fn pieces_are_asked_for_up_to_the_limit(rt: HostRuntime) {
-    for &(length, limit, wanted, asked) in &PIECES {
-        expect_asked(&rt, rt.alloc(), length, limit, wanted, asked);
-    }
-}
-
-#[test]
-fn a_fault_in_mid_file_is_told(rt: HostRuntime) {
-    let mut shelf = zeros(rt.alloc(), 5_000, true);
-    let told = fetched_length(rt.alloc(), &mut shelf, "zeros", 10_000);
-    expect_same(&rt, &told, &Err(FetchError::ReadFault));
-}
-
-/// A shelf that tells nothing: it gives one byte, and from then on what it turns to.
+/// A shelf that tells nothing: a file of zeros, after whose last byte it answers with what it turns to. It keeps for how many bytes
+/// each pull asked.
 #[derive(Drop)]
 struct TurningShelf {
+    length: usize,
     then: Pull,
-    pulls: u64,
     faults: u64,
     absences: u64,
+    asked: Vec<usize>,
 }
 
 impl Shelf for TurningShelf {
@@ -188,10 +94,13 @@ impl Shelf for TurningShelf {
 
     ghost absences = { λ shelf. shelf.absences };
 
-    fn pull(&mut self, _name: &str, _from: u64, _into: &mut [u8]) -> Pull {
-        self.pulls = self.pulls.saturating_add(1);
-        if self.pulls == 1 {
-            return Pull::Got(1);
+    fn pull(&mut self, _name: &str, from: u64, into: &mut [u8]) -> Pull {
+        if self.asked.push(into.len()).is_err() {
+            return Pull::NoMemory;
+        }
+        let from = from as usize;
+        if from < self.length {
+            return Pull::Got(into.len().min(self.length - from));
         }
         match self.then {
             Pull::Got(_) => Pull::Got(1),
@@ -209,50 +118,93 @@ impl Shelf for TurningShelf {
     }
 }
 
-/// Expects how many bytes are fetched within 1 of a shelf that turns to this, by two pulls.
-fn expect_turned(rt: &impl Abort, alloc: Global, then: Pull, wanted: Result<usize, FetchError>) {
+/// The length of a file, what its shelf turns to, the limit, how many bytes are fetched, and for how many bytes each pull asks.
+type Turn = (
+    usize,
+    Pull,
+    u64,
+    Result<usize, FetchError>,
+    &'static [usize],
+);
+
+/// Pieces are asked for up to the limit and one byte beyond it. A file that is cut off is never given as a whole one, and no refusal is
+/// followed by another pull.
+const TURNS: [Turn; 10] = [
+    // files that end
+    (0, Pull::End, 0, Ok(0), &[1]),
+    (1, Pull::End, 1, Ok(1), &[2, 1]),
+    (5_000, Pull::End, 10_000, Ok(5_000), &[4096, 4096, 4096]),
+    (5_000, Pull::End, 5_000, Ok(5_000), &[4096, 905, 1]),
+    (
+        5_000,
+        Pull::End,
+        4_096,
+        Err(FetchError::TooLong),
+        &[4096, 1],
+    ),
+    // a fault after some pieces
+    (
+        5_000,
+        Pull::Failed,
+        10_000,
+        Err(FetchError::ReadFault),
+        &[4096, 4096, 4096],
+    ),
+    // what else comes after one byte
+    (1, Pull::Absent, 1, Err(FetchError::Absent), &[2, 1]),
+    (1, Pull::Failed, 1, Err(FetchError::ReadFault), &[2, 1]),
+    (1, Pull::NoMemory, 1, Err(FetchError::NoMemory), &[2, 1]),
+    (1, Pull::Got(1), 1, Err(FetchError::TooLong), &[2, 1]),
+];
+
+/// Expects of a shelf that turns how many bytes are fetched, and for how many bytes each pull asks.
+fn expect_turned(rt: &impl Abort, alloc: Global, row: &Turn) {
+    let (length, then, limit, wanted, asked) = *row;
     let mut shelf = TurningShelf {
+        length,
         then,
-        pulls: 0,
         faults: 0,
         absences: 0,
+        asked: Vec::new(alloc),
     };
-    let told = fetched_length(alloc, &mut shelf, "turning", 1);
-    expect_same(rt, &(told, shelf.pulls), &(wanted, 2));
+    let told = match fetch(alloc, &mut shelf, "turning", limit) {
+        Ok(bytes) => Ok(bytes.len()),
+        Err(fault) => Err(fault),
+    };
+    expect_same(
+        rt,
+        &(length, limit, told, shelf.asked.as_slice()),
+        &(length, limit, wanted, asked),
+    );
 }
 
-// A file that is cut off is never given as a whole one, and no refusal is followed by another pull.
 #[test]
-fn a_shelf_that_turns_is_asked_twice(rt: HostRuntime) {
-    let alloc = rt.alloc();
-    expect_turned(&rt, alloc, Pull::End, Ok(1));
-    expect_turned(&rt, alloc, Pull::Absent, Err(FetchError::Absent));
-    expect_turned(&rt, alloc, Pull::Failed, Err(FetchError::ReadFault));
-    expect_turned(&rt, alloc, Pull::NoMemory, Err(FetchError::NoMemory));
-    expect_turned(&rt, alloc, Pull::Got(1), Err(FetchError::TooLong));
+fn pieces_are_asked_for_till_the_shelf_turns(rt: HostRuntime) {
+    for row in &TURNS {
+        expect_turned(&rt, rt.alloc(), row);
+    }
 }
 
-/// Sends bytes, after which the sink holds all these.
-fn expect_sent(rt: &impl Abort, sink: &mut SteadySink, bytes: &[u8], all: &[u8]) {
-    assert!(rt; send(sink, bytes).is_ok());
-    assert!(rt; sink.bytes() == all);
-}
+/// Bytes that are sent one after the other, and all that the sink holds then.
+const SENT: [(&[u8], &[u8]); 3] = [
+    (b"", b""),
+    (b"0123456789", b"0123456789"),
+    (b"abc", b"0123456789abc"),
+];
 
-/// Sends bytes to a sink that takes so many at once.
-fn expect_all_sent(rt: &impl Abort, alloc: Global, most: usize) {
-    assert!(rt; 0 < most);
-    let mut sink = SteadySink::new(alloc, most);
-    expect_sent(rt, &mut sink, b"", b"");
-    expect_sent(rt, &mut sink, b"0123456789", b"0123456789");
-    expect_sent(rt, &mut sink, b"abc", b"0123456789abc");
-}
+/// How many bytes a sink takes at once.
+const MOST: [usize; 4] = [1, 3, 10, 11];
 
 #[test]
 fn all_bytes_are_sent(rt: HostRuntime) {
-    expect_all_sent(&rt, rt.alloc(), 1);
-    expect_all_sent(&rt, rt.alloc(), 3);
-    expect_all_sent(&rt, rt.alloc(), 10);
-    expect_all_sent(&rt, rt.alloc(), 11);
+    for &most in &MOST {
+        assert!(rt; 0 < most);
+        let mut sink = SteadySink::new(rt.alloc(), most);
+        for &(bytes, all) in &SENT {
+            let told = send(&mut sink, bytes);
+            expect_same(&rt, &(most, told, sink.bytes()), &(most, Ok(()), all));
+        }
+    }
 }
 
 // No put is made for no bytes, and none after a put that failed.
@@ -265,26 +217,15 @@ const PUTS: [(&[u8], u64, Result<(), SendError>, u64); 5] = [
     (b"12345", 4, Ok(()), 3),
 ];
 
-/// Expects the answer and how many puts are made, where one of them fails.
-fn expect_puts(
-    rt: &impl Abort,
-    bytes: &[u8],
-    fails_at: u64,
-    wanted: Result<(), SendError>,
-    puts: u64,
-) {
-    let mut sink = FailingSink::with_room(fails_at, 2);
-    let told = send(&mut sink, bytes);
-    expect_same(
-        rt,
-        &(fails_at, told, sink.puts()),
-        &(fails_at, wanted, puts),
-    );
-}
-
 #[test]
 fn a_fault_in_mid_text_is_told(rt: HostRuntime) {
     for &(bytes, fails_at, wanted, puts) in &PUTS {
-        expect_puts(&rt, bytes, fails_at, wanted, puts);
+        let mut sink = FailingSink::with_room(fails_at, 2);
+        let told = send(&mut sink, bytes);
+        expect_same(
+            &rt,
+            &(fails_at, told, sink.puts()),
+            &(fails_at, wanted, puts),
+        );
     }
 }

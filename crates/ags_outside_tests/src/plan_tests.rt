@@ -167,8 +167,11 @@ fn expect_run(
     let arguments = arguments_of(rt, alloc, line);
     let mut out = SteadySink::new(alloc, 3);
     let ended = run::<Tiny, SteadyShelf, SteadySink>(alloc, &arguments, shelf, &mut out);
-    expect_same(rt, &(line, ended), &(line, status));
-    expect_same(rt, &out.bytes(), &text.as_bytes());
+    expect_same(
+        rt,
+        &(line, ended, out.bytes()),
+        &(line, status, text.as_bytes()),
+    );
 }
 
 #[test]
