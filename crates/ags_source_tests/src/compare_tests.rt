@@ -1,7 +1,7 @@
 //! Rows over two images. Each location that no row sets has no word.
 
 use crate::common::expect_same;
-use ags_compare::{Compared, compare, images_compare_in_one_way};
+use ags_compare::{Compared, compare};
 use ags_image::Image;
 use ags_word::Word;
 use std::alloc::Global;
@@ -16,30 +16,38 @@ fn image_of(rt: &impl Abort, alloc: Global, words: &[(u16, u32)]) -> Image {
     image
 }
 
-/// Compares the image of one word, 7 at 4000 octal, with the image of some words.
-fn expect_compared(rt: &impl Abort, alloc: Global, words: &[(u16, u32)], wanted: Compared) {
-    let left = image_of(rt, alloc, &[(0o4000, 7)]);
-    let right = image_of(rt, alloc, words);
-    expect_same(rt, &compare(&left, &right), &wanted);
-}
+/// Words, and where the image of one word, 7 at 4000 octal, differs first from their image, with the word that each has there, if they
+/// differ.
+type Row = (
+    &'static [(u16, u32)],
+    Option<(u16, Option<u32>, Option<u32>)>,
+);
 
-/// That the images differ first at a location, with the word that each has there.
-fn differs(location: u16, left: Option<Word>, right: Option<Word>) -> Compared {
-    Compared::Differs {
-        location,
-        left,
-        right,
+/// Images that are compared.
+const COMPARED: [Row; 4] = [
+    (&[(0o4000, 7)], None),
+    (&[], Some((0o4000, Some(7), None))),
+    (&[(0o4001, 5), (0o4000, 7)], Some((0o4001, None, Some(5)))),
+    (&[(0o7777, 0), (0o4000, 7)], Some((0o7777, None, Some(0)))),
+];
+
+/// Where two images differ first, with the word that each has there, if they differ.
+fn difference(left: &Image, right: &Image) -> Option<(u16, Option<u32>, Option<u32>)> {
+    match compare(left, right) {
+        Compared::Equal => None,
+        Compared::Differs {
+            location,
+            left,
+            right,
+        } => Some((location, left.map(Word::number), right.map(Word::number))),
     }
 }
 
 #[test]
 fn images_are_compared(rt: HostRuntime) {
-    let alloc = rt.alloc();
-    expect_compared(&rt, alloc, &[(0o4000, 7)], Compared::Equal);
-    expect_compared(&rt, alloc, &[], differs(0o4000, Word::of(7), None));
-    let more = [(0o4001, 5), (0o4000, 7)];
-    expect_compared(&rt, alloc, &more, differs(0o4001, None, Word::of(5)));
-    let zero = [(0o7777, 0), (0o4000, 7)];
-    expect_compared(&rt, alloc, &zero, differs(0o7777, None, Some(Word::ZERO)));
-    images_compare_in_one_way();
+    let left = image_of(&rt, rt.alloc(), &[(0o4000, 7)]);
+    for &(words, wanted) in &COMPARED {
+        let right = image_of(&rt, rt.alloc(), words);
+        expect_same(&rt, &(words, difference(&left, &right)), &(words, wanted));
+    }
 }

@@ -1,42 +1,35 @@
 //! Sources whose orders name symbols that later cards define, and sources with faults of several phases: worked out by hand from
 //! docs/SOURCE.md, Faults, and decks drawn by chance, whose answer a plain program works out in two passes.
 
-use crate::common::expect_same;
-use crate::two_passes::{Words, assemble_in_two_passes};
-use ags_asm::{
-    AssembleError, Assembled, PlaceFault, Placed, SourceError, SourceKind, WordFault, assemble,
-};
+use crate::common::{assembled, expect_same, made_of};
+use crate::two_passes::{Made, assemble_in_two_passes};
+use ags_asm::{AssembleError, Assembled, PlaceFault, SourceError, SourceKind, WordFault};
 use ags_card::CardFault;
-use ags_image::Image;
-use ags_isa::Codes;
 use std::alloc::Global;
 use std::process::Abort;
 
-/// What a source is assembled as by the standard codes.
-fn assembled(rt: &impl Abort, alloc: Global, source: &[u8]) -> Result<Assembled, AssembleError> {
-    assert!(rt; source.len() <= 4_194_304);
-    assemble(alloc, source, &Codes::standard())
-}
-
-/// The line of a fault.
-fn line_of(rt: &impl Abort, alloc: Global, fault: &SourceError) -> String {
-    format!(in alloc; "{fault}").expect(rt, "memory for a line")
-}
-
 /// Expects this first fault of a source.
 fn expect_fault(rt: &impl Abort, alloc: Global, source: &[u8], card: u32, kind: SourceKind) {
-    let wanted = line_of(rt, alloc, &SourceError { card, kind });
+    let wanted = SourceError { card, kind };
     match assembled(rt, alloc, source) {
-        Err(AssembleError::Source(error)) => {
-            let told = line_of(rt, alloc, &error);
-            expect_same(rt, &told.as_str(), &wanted.as_str());
+        Err(AssembleError::Source(told)) => {
+            assert!(rt; told == wanted, "{told}, and not {wanted}")
         }
-        _ => assert!(rt; false),
+        _ => panic!(rt; "no fault, and not {wanted}"),
     }
 }
 
-/// The rows of `first_faults_are_told`: a source, the card at fault, and its fault.
-const FIRST_FAULTS: [(&[u8], u32, WordFault); 10] = [
+/// Sources whose cards can't be placed, each with the card and the fault: a list or a BES goes beyond the memory, or a symbol is used
+/// early.
+const MISPLACED: [(&[u8], u32, PlaceFault); 4] = [
+    (b" ORG 4095\n OCT 1,2", 2, PlaceFault::PlaceRange),
+    (b" BES X\nX EQU 1", 1, PlaceFault::UndefinedEarly),
+    (b"A SYN X\nX EQU 1", 1, PlaceFault::UndefinedEarly),
+    (b" ORG 4095\n BES 2", 2, PlaceFault::PlaceRange),
+];
+
+/// Sources whose words can't be made, each with the card and the fault.
+const MISMADE: [(&[u8], u32, WordFault); 15] = [
     // a card waits, and a later one takes its place
     (
         b" CLA Y\n ORG 0\n OCT 1\n TRA 5000",
@@ -72,27 +65,56 @@ const FIRST_FAULTS: [(&[u8], u32, WordFault); 10] = [
     (b" CLA Y\n DEC 9B0\nY EQU 1", 2, WordFault::ValueRange),
     // a symbol after END isn't one of the source
     (b" CLA Y\n END\nY EQU 1", 1, WordFault::Undefined),
+    // a list runs into a word in its middle, and one into two of them, of which the least place counts
+    (
+        b" ORG 1\n CLA 5\n ORG 0\n OCT 1,2,3",
+        4,
+        WordFault::PlaceTwice { first: 2 },
+    ),
+    (
+        b" ORG 2\n CLA 5\n ORG 1\n CLA 5\n ORG 0\n DEC 1,2,3",
+        6,
+        WordFault::PlaceTwice { first: 4 },
+    ),
+    // a list stands over a word that waits, and a word in a list
+    (
+        b" CLA Y\n ORG 0\n OCT 1,2\nY EQU 1",
+        3,
+        WordFault::PlaceTwice { first: 1 },
+    ),
+    (
+        b" OCT 1,2,3\n ORG 2\n CLA 5",
+        3,
+        WordFault::PlaceTwice { first: 1 },
+    ),
+    // a decimal doesn't fit, after one that does
+    (b" DEC 1,1B0", 1, WordFault::ValueRange),
 ];
 
 #[test]
 fn first_faults_are_told(rt: HostRuntime) {
-    for &(source, card, fault) in &FIRST_FAULTS {
+    for &(source, card, fault) in &MISPLACED {
+        expect_fault(&rt, rt.alloc(), source, card, SourceKind::Place(fault));
+    }
+    for &(source, card, fault) in &MISMADE {
         expect_fault(&rt, rt.alloc(), source, card, SourceKind::Word(fault));
     }
 }
 
-/// Expects this word at the place 0.
-fn expect_word(rt: &impl Abort, alloc: Global, source: &[u8], word: u32) {
-    let made = assembled(rt, alloc, source)
-        .ok()
-        .expect(rt, "a source without a fault");
-    expect_same(rt, &made.image.word_at(0).number(), &word);
-}
+/// Sources with lists and BES that have no fault: a list that ends at the last place, a BES to the memory's end, and BES of nothing.
+const WITHIN: [&[u8]; 4] = [
+    b" ORG 4094\n OCT 1,2",
+    b" ORG 4095\nE BES 1",
+    b"E BES 0\n CLA E",
+    b"A BES 3\n ORG A\n DEC 1,2 A REMARK",
+];
 
 #[test]
-fn symbols_of_later_cards_are_taken(rt: HostRuntime) {
-    expect_word(&rt, rt.alloc(), b" CLA 5-Y\nY END\nY EQU 3", 0o200004);
-    expect_word(&rt, rt.alloc(), b"X CLA *+Y-X,1\n\nY EQU 7", 0o210007);
+fn lists_within_the_memory_have_no_fault(rt: HostRuntime) {
+    for &source in &WITHIN {
+        let is_made = assembled(&rt, rt.alloc(), source).is_ok();
+        expect_same(&rt, &(source, is_made), &(source, true));
+    }
 }
 
 /// Cards with faults of each phase: of cards, of places and of words. The first card of each is at fault, and what it names is
@@ -170,24 +192,41 @@ fn full_memory(rt: &impl Abort, alloc: Global, behind: &[u8]) -> Vec<u8> {
     source
 }
 
+/// Expects this word at each place of the memory.
+fn expect_each(rt: &impl Abort, made: &Assembled, number: u32) {
+    for place in 0..4096u16 {
+        assert!(rt;
+            made.image.word_at(place).number() == number,
+            "place {place}"
+        );
+    }
+}
+
+/// Lines behind orders that fill the memory, each with the card at fault, and its fault: one order more takes the place of another,
+/// two wait for a symbol that is not defined, and all do.
+const FULL_MEMORY: [(&[u8], u32, WordFault); 3] = [
+    (
+        b" ORG 7\n CLA Y\n CLA Y\nY EQU 9",
+        4098,
+        WordFault::PlaceTwice { first: 8 },
+    ),
+    (
+        b" ORG 7\n CLA Z\n CLA Z\nY EQU 9",
+        4098,
+        WordFault::Undefined,
+    ),
+    (b" ORG 7\n CLA Y", 1, WordFault::Undefined),
+];
+
 #[test]
 fn as_many_orders_wait_as_there_are_places_and_one_more(rt: HostRuntime) {
     let alloc = rt.alloc();
     let source = full_memory(&rt, alloc, b"Y EQU 9");
-    let made = assembled(&rt, alloc, &source)
-        .ok()
-        .expect(&rt, "a source without a fault");
-    for place in 0..4096u16 {
-        assert!(rt; made.image.word_at(place).number() == 0o200011);
+    expect_each(&rt, &made_of(&rt, alloc, &source), 0o200011);
+    for &(behind, card, fault) in &FULL_MEMORY {
+        let source = full_memory(&rt, alloc, behind);
+        expect_fault(&rt, alloc, &source, card, SourceKind::Word(fault));
     }
-    let source = full_memory(&rt, alloc, b" ORG 7\n CLA Y\n CLA Y\nY EQU 9");
-    let taken = SourceKind::Word(WordFault::PlaceTwice { first: 8 });
-    let undefined = SourceKind::Word(WordFault::Undefined);
-    expect_fault(&rt, alloc, &source, 4098, taken);
-    let source = full_memory(&rt, alloc, b" ORG 7\n CLA Z\n CLA Z\nY EQU 9");
-    expect_fault(&rt, alloc, &source, 4098, undefined);
-    let source = full_memory(&rt, alloc, b" ORG 7\n CLA Y");
-    expect_fault(&rt, alloc, &source, 1, undefined);
 }
 
 /// The cards that a deck is drawn of.
@@ -244,34 +283,31 @@ fn drawn(rt: &impl Abort, alloc: Global, seed: u32) -> (Vec<u8>, u32) {
     (source, number)
 }
 
-/// Whether a card stands there, and the image has these words of it.
-fn has_words(image: &Image, card: &Placed, words: &Words) -> bool {
-    if card.place != words.0 || usize::from(card.count) != words.1.len() {
-        return false;
-    }
-    let mut place = card.place.unwrap_or(0);
-    for word in &words.1 {
-        if place >= 4096 || image.word_at(place) != *word {
-            return false;
+/// Expects so many cards of an assembled source, and these words of them.
+fn expect_words(rt: &impl Abort, made: &Assembled, cards: usize, words: &[Made]) {
+    assert!(rt; made.cards.len() == cards);
+    let mut wanted = words.iter();
+    let mut number = 0u32;
+    for card in &made.cards {
+        number = number.saturating_add(1);
+        assert!(rt; card.place.is_some() == (card.count > 0));
+        let mut place = card.place.unwrap_or(0);
+        for _ in 0..card.count {
+            assert!(rt; place < 4096);
+            let told = (number, place, made.image.word_at(place));
+            assert!(rt; wanted.next() == Some(&told));
+            place += 1;
         }
-        place += 1;
     }
-    true
-}
-
-/// Expects these words of the cards of an assembled source.
-fn expect_cards(rt: &impl Abort, made: &Assembled, cards: &[Words]) {
-    assert!(rt; made.cards.len() == cards.len());
-    for (card, words) in made.cards.iter().zip(cards) {
-        assert!(rt; has_words(&made.image, card, words));
-    }
+    assert!(rt; wanted.next().is_none());
 }
 
 /// Expects the answer of the plain program.
 fn expect_same_answer(rt: &impl Abort, alloc: Global, source: &[u8]) {
-    let wanted = assemble_in_two_passes(rt, alloc, source);
+    let mut words = Vec::new(alloc);
+    let wanted = assemble_in_two_passes(rt, alloc, source, &mut words);
     match (assembled(rt, alloc, source), wanted) {
-        (Ok(made), Ok(cards)) => expect_cards(rt, &made, &cards),
+        (Ok(made), Ok(cards)) => expect_words(rt, &made, cards, &words),
         (Err(AssembleError::Source(told)), Err(error)) => assert!(rt; told == error),
         _ => assert!(rt; false),
     }

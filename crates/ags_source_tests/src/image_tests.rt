@@ -15,48 +15,44 @@ const SET: [(u16, u32); 5] = [
     (0o7777, 0o404001),
 ];
 
-/// Locations, whether each has a word then, and its word or 0.
-const HELD: [(u16, bool, u32); 8] = [
-    (0o0000, true, 0o777777),
-    (0o0001, false, 0o000000),
-    (0o3777, false, 0o000000),
-    (0o4000, true, 0o230200),
-    (0o4001, false, 0o000000),
-    (0o4002, true, 0o000000),
-    (0o7776, false, 0o000000),
-    (0o7777, true, 0o404001),
+/// Locations, and the word that each has then, if it has one.
+const HELD: [(u16, Option<u32>); 8] = [
+    (0o0000, Some(0o777777)),
+    (0o0001, None),
+    (0o3777, None),
+    (0o4000, Some(0o230200)),
+    (0o4001, None),
+    (0o4002, Some(0o000000)),
+    (0o7776, None),
+    (0o7777, Some(0o404001)),
 ];
 
 /// Locations of an image in which nothing was set.
 const EMPTY: [u16; 5] = [0o0000, 0o0001, 0o4000, 0o7776, 0o7777];
 
-/// Sets a location's word, which it then has.
-fn set(rt: &impl Abort, image: &mut Image, location: u16, word: Word) {
+/// A location has the word of this number, or none, which reads as 0.
+fn expect_held(rt: &impl Abort, image: &Image, location: u16, number: Option<u32>) {
     assert!(rt; location < 4096);
-    image.set(location, word);
-    expect_same(rt, &image.get(location), &Some(word));
-}
-
-/// A location has a word or none, and this word or 0.
-fn expect_held(rt: &impl Abort, image: &Image, location: u16, held: bool, word: Word) {
-    assert!(rt; location < 4096);
+    let told = image.get(location).map(Word::number);
     expect_same(
         rt,
-        &(image.get(location).is_some(), image.word_at(location)),
-        &(held, word),
+        &(location, told, image.word_at(location).number()),
+        &(location, number, number.unwrap_or(0)),
     );
 }
 
 #[test]
-fn locations(rt: HostRuntime) {
+fn words_are_held(rt: HostRuntime) {
     let mut image = Image::new(rt.alloc()).expect(&rt, "memory for an image");
-    for location in &EMPTY {
-        expect_held(&rt, &image, *location, false, Word::ZERO);
+    for &location in &EMPTY {
+        expect_held(&rt, &image, location, None);
     }
-    for (location, number) in &SET {
-        set(&rt, &mut image, *location, cell(&rt, *number));
+    for &(location, number) in &SET {
+        assert!(rt; location < 4096);
+        image.set(location, cell(&rt, number));
+        expect_held(&rt, &image, location, Some(number));
     }
-    for (location, held, number) in &HELD {
-        expect_held(&rt, &image, *location, *held, cell(&rt, *number));
+    for &(location, number) in &HELD {
+        expect_held(&rt, &image, location, number);
     }
 }

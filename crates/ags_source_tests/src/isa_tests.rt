@@ -37,37 +37,6 @@ const DIGITS: [(&[u8; 3], Order, u32); 27] = [
     (b"TSQ", Order::Tsq, 0o72),
 ];
 
-/// An order has this name, and its standard code is these two octal digits.
-fn expect_coded(rt: &impl Abort, codes: &Codes, name: &[u8; 3], order: Order, digits: u32) {
-    assert!(rt; digits < 64);
-    let decoded = Decoded {
-        order,
-        indexed: true,
-        address: 0o7777,
-    };
-    expect_same(
-        rt,
-        &(
-            order.name().as_bytes(),
-            order_named(name),
-            encode(codes, order, false, 0).number(),
-            decode(codes, cell(rt, digits * 4096 + 0o17777)),
-        ),
-        &(name.as_slice(), Some(order), digits * 4096, Some(decoded)),
-    );
-}
-
-#[test]
-fn names_and_standard_codes(rt: HostRuntime) {
-    let codes = Codes::standard();
-    for (name, order, digits) in &DIGITS {
-        expect_coded(&rt, &codes, name, *order, *digits);
-    }
-    for number in 0..27 {
-        expect_same(&rt, &Order::ALL[number].number(), &number);
-    }
-}
-
 /// An order, its index bit and its address, and the word of the three.
 const WORDS: [(Order, bool, u16, u32); 4] = [
     (Order::Cla, false, 0o4010, 0o204010),
@@ -76,22 +45,6 @@ const WORDS: [(Order, bool, u16, u32); 4] = [
     (Order::Tra, false, 0o4001, 0o404001),
 ];
 
-#[test]
-fn worked_words(rt: HostRuntime) {
-    let codes = Codes::standard();
-    for &(order, indexed, address, number) in &WORDS {
-        assert!(rt; address < 4096);
-        let word = cell(&rt, number);
-        let decoded = Decoded {
-            order,
-            indexed,
-            address,
-        };
-        expect_same(&rt, &encode(&codes, order, indexed, address), &word);
-        expect_same(&rt, &decode(&codes, word), &Some(decoded));
-    }
-}
-
 /// Words of codes that no order has in the standard table: each with the least and the greatest address.
 const NO_ORDERS: [u32; 20] = [
     0o000000, 0o007777, 0o010000, 0o017777, 0o040000, 0o047777, 0o050000, 0o057777, 0o060000,
@@ -99,23 +52,59 @@ const NO_ORDERS: [u32; 20] = [
     0o770000, 0o777777,
 ];
 
-#[test]
-fn other_codes_have_no_order(rt: HostRuntime) {
-    let codes = Codes::standard();
-    for number in &NO_ORDERS {
-        assert!(rt; decode(&codes, cell(&rt, *number)).is_none());
-    }
-}
-
 /// Texts that name no order.
 const NO_NAMES: [&[u8]; 8] = [
     b"", b"CL", b"CLAA", b"cla", b"Cla", b" CLA", b"CLA ", b"XYZ",
 ];
 
+/// The word of an order, its index bit and its address is this one by the standard codes, and read as them.
+fn expect_word(rt: &impl Abort, order: Order, indexed: bool, address: u16, number: u32) {
+    assert!(rt; address < 4096);
+    let codes = Codes::standard();
+    let word = cell(rt, number);
+    let decoded = Decoded {
+        order,
+        indexed,
+        address,
+    };
+    expect_same(
+        rt,
+        &(
+            encode(&codes, order, indexed, address),
+            decode(&codes, word),
+        ),
+        &(word, Some(decoded)),
+    );
+}
+
 #[test]
-fn other_texts_name_no_order(rt: HostRuntime) {
-    for text in &NO_NAMES {
-        assert!(rt; order_named(*text).is_none());
+fn names_and_standard_codes(rt: HostRuntime) {
+    for &(name, order, digits) in &DIGITS {
+        assert!(rt; digits < 64);
+        expect_same(
+            &rt,
+            &(order.name().as_bytes(), order_named(name)),
+            &(name.as_slice(), Some(order)),
+        );
+        expect_word(&rt, order, false, 0, digits * 4096);
+        expect_word(&rt, order, true, 0o7777, digits * 4096 + 0o17777);
+    }
+    for &(order, indexed, address, number) in &WORDS {
+        expect_word(&rt, order, indexed, address, number);
+    }
+    for number in 0..27 {
+        expect_same(&rt, &Order::ALL[number].number(), &number);
+    }
+}
+
+#[test]
+fn other_codes_and_texts_are_no_orders(rt: HostRuntime) {
+    for &number in &NO_ORDERS {
+        let told = decode(&Codes::standard(), cell(&rt, number));
+        expect_same(&rt, &(number, told), &(number, None));
+    }
+    for &text in &NO_NAMES {
+        expect_same(&rt, &(text, order_named(text)), &(text, None));
     }
 }
 

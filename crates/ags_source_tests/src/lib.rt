@@ -19,6 +19,8 @@ mod image_tests;
 #[cfg(test)]
 mod isa_tests;
 #[cfg(test)]
+mod law_tests;
+#[cfg(test)]
 mod listing_tests;
 #[cfg(test)]
 mod places_tests;

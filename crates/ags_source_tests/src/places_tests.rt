@@ -1,11 +1,9 @@
 //! Sources whose cards are placed, and sources that are refused, worked out by hand from docs/SOURCE.md.
 
-use crate::common::{expect_same, parts_of};
+use crate::common::{Parts, expect_cards, expect_same, expect_symbols};
 use ags_card::{Body, read_card};
 use ags_places::{
-    Placed, SourceError, SourceKind, WordFault, card_lines_follow, count_of,
-    each_symbol_has_a_pair, is_end, one_list_of_pairs_fits, place_card, place_of_word,
-    places_are_sums, words_stand_in_the_memory,
+    Placed, SourceError, SourceKind, WordFault, count_of, is_end, place_card, place_of_word,
 };
 use ags_symbol::Symbols;
 use ags_text::{Line, Lines};
@@ -40,47 +38,21 @@ fn placed(rt: &impl Abort, alloc: Global, source: &[u8]) -> (Vec<Placed>, Symbol
     (cards, symbols)
 }
 
-/// Compares cards, each of one word or none, with the spans and the places that are wanted.
-fn expect_cards(rt: &impl Abort, cards: &[Placed], wanted: &[(u32, u32, Option<u16>)]) {
-    expect_same(rt, &cards.len(), &wanted.len());
-    for (card, (start, end, place)) in cards.iter().zip(wanted) {
-        let count = u16::from(place.is_some());
-        expect_same(rt, &parts_of(card), &(*start, *end, *place, count));
-    }
-}
-
-/// Whether the pair of a symbol at this position is of this name, this value and this card.
-fn is_pair(symbols: &Symbols, position: usize, name: &[u8], value: i32, card: u32) -> bool {
-    if position >= symbols.len() {
-        return false;
-    }
-    let (held, defined) = symbols.nth(position);
-    held.bytes() == name && defined.value == value && defined.card == card
-}
-
-/// Expects these pairs of symbols, in order.
-fn expect_symbols(rt: &impl Abort, symbols: &Symbols, wanted: &[(&[u8], i32, u32)]) {
-    expect_same(rt, &symbols.len(), &wanted.len());
-    for (position, (name, value, card)) in wanted.iter().enumerate() {
-        assert!(rt; is_pair(symbols, position, name, *value, *card));
-    }
-}
-
 /// A source with a card of each kind.
 const SOURCE: &[u8] =
     b" ORG /4000\nA OCT 1\r\n* NO CARD\nB BSS 3\nC ORG *+1\n\tTRA D\nD EQU C-*\n DEC 1B1 X\nE END\n ???";
 
-/// The spans and the places of its cards.
-const CARDS: [(u32, u32, Option<u16>); 9] = [
-    (0, 10, None),
-    (11, 18, Some(0o4000)),
-    (20, 29, None),
-    (30, 37, None),
-    (38, 47, None),
-    (48, 54, Some(0o4005)),
-    (55, 64, None),
-    (65, 75, Some(0o4006)),
-    (76, 81, None),
+/// Its cards.
+const CARDS: [Parts; 9] = [
+    (0, 10, None, 0),
+    (11, 18, Some(0o4000), 1),
+    (20, 29, None, 0),
+    (30, 37, None, 0),
+    (38, 47, None, 0),
+    (48, 54, Some(0o4005), 1),
+    (55, 64, None, 0),
+    (65, 75, Some(0o4006), 1),
+    (76, 81, None, 0),
 ];
 
 /// Its symbols, each with its value and its card.
@@ -132,9 +104,4 @@ fn faults_of_words_are_printed(rt: HostRuntime) {
     for &(fault, wanted) in &FAULTS_OF_WORDS_ARE_PRINTED {
         expect_line(&rt, rt.alloc(), fault, wanted);
     }
-    card_lines_follow();
-    each_symbol_has_a_pair();
-    one_list_of_pairs_fits();
-    places_are_sums();
-    words_stand_in_the_memory();
 }

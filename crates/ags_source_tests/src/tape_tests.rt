@@ -1,45 +1,52 @@
 //! Tapes: what is sent of an image, and what is read of a tape.
 
 use crate::common::expect_same;
-use ags_image::{Image, TapeError, read_tape, send_tape, written_tape_reads_back};
+use ags_image::{TapeError, read_tape, send_tape};
 use ags_outside::SteadySink;
 use ags_word::Word;
 use std::alloc::Global;
 use std::process::Abort;
 
-/// The image of a tape without a fault.
-fn image_of(rt: &impl Abort, alloc: Global, text: &[u8]) -> Image {
+/// Tapes, each with the one that is sent of its image, and with the numbers of the words at the first location and at the last one,
+/// where there are some. The last has lines in another order, and no last line feed.
+const TAPES: [(&[u8], &[u8], Option<u32>, Option<u32>); 4] = [
+    (b"4000 000007\n", b"4000 000007\n", None, None),
+    (b"", b"", None, None),
+    (
+        b"0000 000000\n0001 777777\n7777 123456\n",
+        b"0000 000000\n0001 777777\n7777 123456\n",
+        Some(0),
+        Some(0o123456),
+    ),
+    (
+        b"7777 000001\n0000 000002",
+        b"0000 000002\n7777 000001\n",
+        Some(2),
+        Some(1),
+    ),
+];
+
+/// Expects what is sent of a tape's image, and the words at its ends.
+fn expect_image(
+    rt: &impl Abort,
+    alloc: Global,
+    text: &[u8],
+    sent: &[u8],
+    ends: (Option<u32>, Option<u32>),
+) {
     assert!(rt; text.len() <= 100);
-    read_tape(alloc, text).ok().expect(rt, "a good tape")
-}
-
-/// Reads a tape, and sends the same one of its image.
-fn expect_sent_back(rt: &impl Abort, alloc: Global, text: &[u8]) {
-    let image = image_of(rt, alloc, text);
+    let image = read_tape(alloc, text).ok().expect(rt, "a good tape");
+    let told = (
+        image.get(0).map(Word::number),
+        image.get(0o7777).map(Word::number),
+    );
     let mut out = SteadySink::new(alloc, 100);
-    assert!(rt; send_tape(&image, &mut out).is_ok());
-    expect_same(rt, &out.bytes(), &text);
-}
-
-#[test]
-fn tapes_are_read_back(rt: HostRuntime) {
-    let alloc = rt.alloc();
-    expect_sent_back(&rt, alloc, b"4000 000007\n");
-    expect_sent_back(&rt, alloc, b"");
-    expect_sent_back(&rt, alloc, b"0000 000000\n0001 777777\n7777 123456\n");
-    written_tape_reads_back();
-}
-
-/// Expects the words of an image at two locations.
-fn expect_words(rt: &impl Abort, image: &Image, first: Option<Word>, last: Option<Word>) {
-    expect_same(rt, &(image.get(0), image.get(0o7777)), &(first, last));
-}
-
-// lines in any order, and no last line feed
-#[test]
-fn lines_stand_in_any_order(rt: HostRuntime) {
-    let image = image_of(&rt, rt.alloc(), b"7777 000001\n0000 000002");
-    expect_words(&rt, &image, Word::of(2), Word::of(1));
+    let answer = send_tape(&image, &mut out);
+    expect_same(
+        rt,
+        &(text, answer.is_ok(), out.bytes(), told),
+        &(text, true, sent, ends),
+    );
 }
 
 /// Tapes, each with its first fault.
@@ -58,19 +65,14 @@ const FAULTS: [(&[u8], TapeError); 6] = [
     (b"8000 000007\n", TapeError::BadLine { line: 1 }),
 ];
 
-/// The first fault of a tape, if it has one.
-fn fault_of(rt: &impl Abort, alloc: Global, text: &[u8]) -> Option<TapeError> {
-    assert!(rt; text.len() <= 100);
-    read_tape(alloc, text).err()
-}
-
 #[test]
-fn first_faults_are_told(rt: HostRuntime) {
+fn tapes_are_read_and_sent_back(rt: HostRuntime) {
+    for &(text, sent, first, last) in &TAPES {
+        expect_image(&rt, rt.alloc(), text, sent, (first, last));
+    }
     for &(text, fault) in &FAULTS {
-        expect_same(
-            &rt,
-            &(text, fault_of(&rt, rt.alloc(), text)),
-            &(text, Some(fault)),
-        );
+        assert!(rt; text.len() <= 100);
+        let told = read_tape(rt.alloc(), text).err();
+        expect_same(&rt, &(text, told), &(text, Some(fault)));
     }
 }

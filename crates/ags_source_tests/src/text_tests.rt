@@ -1,15 +1,12 @@
-//! Rows worked out by hand from the rules of lines, fields and numbers, and each law called once at types of its own.
+//! Rows worked out by hand from the rules of lines, fields and numbers.
 
 use crate::common::expect_same;
 use ags_text::{
-    Lines, SevenDigits, are_blanks, blanks_have_no_field, bytes_tell_fields, cut_fields_stand,
-    decimal7, digits_of_a_width_are_a_number, first_fault_is_first, lines_follow,
-    lines_make_up_the_text, no_fault_is_faultless, number_has_so_many_digits,
-    number_is_what_digits_write, numbers_are_fields, numeral_writes, octal4, octal6, read_decimal,
-    read_octal, split_field, split_leading_field, standing_fields_are_cut, text_is_cut_in_one_way,
+    Lines, SevenDigits, are_blanks, decimal7, octal4, octal6, read_decimal, read_octal,
+    split_field, split_leading_field,
 };
 use std::alloc::{AllocError, Global};
-use std::test::Fail;
+use std::process::Abort;
 
 /// The lines of a short text: for each the digit of its start, its bytes, and a bar.
 fn shown_lines(alloc: Global, text: &[u8]) -> Result<Vec<u8>, AllocError> {
@@ -44,12 +41,11 @@ const LINES: [(&[u8], &[u8]); 17] = [
 ];
 
 #[test]
-fn texts_are_cut_into_lines(rt: HostRuntime) -> Result<(), Fail> {
-    for (text, wanted) in &LINES {
-        let shown = shown_lines(rt.alloc(), *text)?;
-        expect_same(&rt, &shown.as_slice(), wanted);
+fn texts_are_cut_into_lines(rt: HostRuntime) {
+    for &(text, wanted) in &LINES {
+        let shown = shown_lines(rt.alloc(), text).expect(&rt, "memory for lines");
+        expect_same(&rt, &(text, shown.as_slice()), &(text, wanted));
     }
-    Ok(())
 }
 
 /// A text, what it writes in octal digits, and what in decimal ones.
@@ -96,6 +92,9 @@ const CUTS: [[&[u8]; 5]; 8] = [
     [b" \r 1", b"", b" \r 1", b"\r", b" 1"],
 ];
 
+/// Texts, and whether they are blanks.
+const BLANKS: [(&[u8], bool); 4] = [(b"", true), (b" \t ", true), (b" .", false), (b"\r", false)];
+
 #[test]
 fn texts_are_cut_at_blanks(rt: HostRuntime) {
     for row in &CUTS {
@@ -108,14 +107,9 @@ fn texts_are_cut_at_blanks(rt: HostRuntime) {
             row,
         );
     }
-}
-
-#[test]
-fn blanks_are_told(rt: HostRuntime) {
-    assert!(rt; are_blanks(b""));
-    assert!(rt; are_blanks(b" \t "));
-    assert!(rt; !are_blanks(b" ."));
-    assert!(rt; !are_blanks(b"\r"));
+    for &(text, blank) in &BLANKS {
+        expect_same(&rt, &(text, are_blanks(text)), &(text, blank));
+    }
 }
 
 /// A number and its last seven decimal digits.
@@ -127,43 +121,43 @@ const DECIMAL_DIGITS: [(u32, &str); 5] = [
     (u32::MAX, "4967295"),
 ];
 
+/// A number and its four octal digits.
+const FOUR_DIGITS: [(u32, &[u8; 4]); 4] = [
+    (0, b"0000"),
+    (8, b"0010"),
+    (2048, b"4000"),
+    (4095, b"7777"),
+];
+
+/// A number and its six octal digits.
+const SIX_DIGITS: [(u32, &[u8; 6]); 4] = [
+    (0, b"000000"),
+    (7, b"000007"),
+    (42798, b"123456"),
+    (262143, b"777777"),
+];
+
+/// Expects the last seven decimal digits of a number, printed and as bytes.
+fn expect_decimal(rt: &impl Abort, alloc: Global, number: u32, digits: &str) {
+    let printed = format!(in alloc; "{}", SevenDigits(number)).expect(rt, "memory for digits");
+    expect_same(
+        rt,
+        &(printed.as_str(), decimal7(number).as_slice()),
+        &(digits, digits.as_bytes()),
+    );
+}
+
 #[test]
-fn decimal_digits_are_printed(rt: HostRuntime) -> Result<(), Fail> {
-    let alloc = rt.alloc();
+fn digits_are_printed(rt: HostRuntime) {
     for &(number, digits) in &DECIMAL_DIGITS {
-        let printed = format!(in alloc; "{}", SevenDigits(number))?;
-        expect_same(&rt, &printed.as_str(), &digits);
-        expect_same(&rt, &decimal7(number).as_slice(), &digits.as_bytes());
+        expect_decimal(&rt, rt.alloc(), number, digits);
     }
-    Ok(())
-}
-
-#[test]
-fn octal_digits_are_printed(rt: HostRuntime) {
-    expect_same(&rt, &octal4(0), b"0000");
-    expect_same(&rt, &octal4(8), b"0010");
-    expect_same(&rt, &octal4(2048), b"4000");
-    expect_same(&rt, &octal4(4095), b"7777");
-    expect_same(&rt, &octal6(0), b"000000");
-    expect_same(&rt, &octal6(7), b"000007");
-    expect_same(&rt, &octal6(42798), b"123456");
-    expect_same(&rt, &octal6(262143), b"777777");
-}
-
-#[test]
-fn laws_can_be_called() {
-    first_fault_is_first::<u8, u16>();
-    no_fault_is_faultless::<u8, u16>();
-    numeral_writes();
-    number_is_what_digits_write();
-    number_has_so_many_digits();
-    digits_of_a_width_are_a_number();
-    standing_fields_are_cut();
-    cut_fields_stand();
-    blanks_have_no_field();
-    bytes_tell_fields();
-    numbers_are_fields();
-    lines_make_up_the_text();
-    text_is_cut_in_one_way();
-    lines_follow();
+    for &(number, digits) in &FOUR_DIGITS {
+        assert!(rt; number < 4096);
+        expect_same(&rt, &octal4(number), digits);
+    }
+    for &(number, digits) in &SIX_DIGITS {
+        assert!(rt; number < 262_144);
+        expect_same(&rt, &octal6(number), digits);
+    }
 }

@@ -3,30 +3,26 @@
 
 use ags_asm::{SourceError, SourceKind, WordFault};
 use ags_card::{Body, Card, read_card};
-use ags_decimal::Decimal;
 use ags_isa::{Codes, encode};
-use ags_places::{Unplaced, is_end, place_card, place_of_word};
+use ags_places::{Unplaced, count_of, is_end, place_card};
 use ags_symbol::Symbols;
 use ags_text::Lines;
 use ags_word::Word;
 use std::alloc::Global;
 use std::process::Abort;
 
-/// The lines of a source up to and with the first END, each of which is a card; or the first line that is none.
-fn read_all<'a>(
-    rt: &impl Abort,
-    alloc: Global,
-    source: &'a [u8],
-) -> Result<Vec<&'a [u8]>, SourceError> {
-    let mut lines = Vec::new(alloc);
+/// A card's number, and the place and the word of one of its words.
+pub(crate) type Made = (u32, u16, Word);
+
+/// Reads the lines of a source up to and with the first END, or tells the first that is no card.
+fn read_each(source: &[u8]) -> Result<(), SourceError> {
     let mut number = 0u32;
     for line in Lines::of(source) {
         number = number.saturating_add(1);
-        assert!(rt; lines.push(line.bytes).is_ok());
         match read_card(line.bytes) {
             Ok(card) => {
                 if is_end(&card.body) {
-                    return Ok(lines);
+                    return Ok(());
                 }
             }
             Err(fault) => {
@@ -35,7 +31,7 @@ fn read_all<'a>(
             }
         }
     }
-    Ok(lines)
+    Ok(())
 }
 
 /// The card of a line that is one.
@@ -43,21 +39,20 @@ fn card_of(rt: &impl Abort, line: &[u8]) -> Card {
     read_card(line).ok().expect(rt, "a line that is a card")
 }
 
-/// The places of the cards, and the symbols; or the first card that can't be placed.
+/// Adds the places of the cards, and their symbols, or tells the first card that can't be placed.
 fn place_each(
     rt: &impl Abort,
-    alloc: Global,
-    lines: &[&[u8]],
-) -> Result<(Vec<u16>, Symbols), SourceError> {
-    let mut symbols = Symbols::new(alloc);
-    let mut places = Vec::new(alloc);
+    source: &[u8],
+    symbols: &mut Symbols,
+    places: &mut Vec<u16>,
+) -> Result<(), SourceError> {
     let mut at = 0u16;
     let mut number = 0u32;
-    for line in lines {
+    for line in Lines::of(source) {
         number = number.saturating_add(1);
-        assert!(rt; places.push(at).is_ok());
-        assert!(rt; at <= 4096);
-        match place_card(&mut symbols, at, number, &card_of(rt, line)) {
+        let card = card_of(rt, line.bytes);
+        assert!(rt; at <= 4096 && places.push(at).is_ok());
+        match place_card(symbols, at, number, &card) {
             Ok(next) => at = next,
             Err(Unplaced::Fault(fault)) => {
                 let kind = SourceKind::Place(fault);
@@ -65,34 +60,22 @@ fn place_each(
             }
             Err(Unplaced::NoMemory) => assert!(rt; false),
         }
+        if is_end(&card.body) {
+            break;
+        }
     }
-    Ok((places, symbols))
+    Ok(())
 }
 
-/// Decimals as words, or the fault of one.
-fn decimal_words(
+/// One of the words of a card at a place, over all symbols.
+fn word_of(
     rt: &impl Abort,
-    alloc: Global,
-    numbers: &[Decimal],
-) -> Result<Vec<Word>, WordFault> {
-    let mut words = Vec::new(alloc);
-    for number in numbers {
-        let word = ags_decimal::word(number).ok_or(WordFault::ValueRange)?;
-        assert!(rt; words.push(word).is_ok());
-    }
-    Ok(words)
-}
-
-/// The words of a card at its place, over all symbols.
-fn words_of(
-    rt: &impl Abort,
-    alloc: Global,
     symbols: &Symbols,
     at: u16,
     body: &Body,
-) -> Result<Vec<Word>, WordFault> {
+    position: usize,
+) -> Result<Word, WordFault> {
     assert!(rt; at <= 4096);
-    let mut words = Vec::new(alloc);
     match body {
         Body::Order {
             order,
@@ -103,22 +86,22 @@ fn words_of(
             if value < 0 || value > 4095 {
                 return Err(WordFault::AddressRange { value });
             }
-            let word = encode(&Codes::standard(), *order, *indexed, value as u16);
-            assert!(rt; words.push(word).is_ok());
+            Ok(encode(&Codes::standard(), *order, *indexed, value as u16))
         }
-        Body::Dec(numbers) => return decimal_words(rt, alloc, numbers.items()),
-        Body::Oct(list) => assert!(rt; words.extend_from_slice(list.items()).is_ok()),
-        Body::Comment | Body::Org(_) | Body::Equ(_) | Body::Bss(_) | Body::Bes(_) | Body::End => {}
+        Body::Dec(numbers) => {
+            let number = numbers.items().get(position).expect(rt, "a decimal");
+            ags_decimal::word(number).ok_or(WordFault::ValueRange)
+        }
+        Body::Oct(words) => Ok(*words.items().get(position).expect(rt, "an octal word")),
+        Body::Comment | Body::Org(_) | Body::Equ(_) | Body::Bss(_) | Body::Bes(_) | Body::End => {
+            panic!(rt; "a card without words")
+        }
     }
-    Ok(words)
 }
 
-/// A card's number and the place of its word.
-type Taken = (u32, u16);
-
 /// The number of the card that has a word at this place.
-fn taker_of(taken: &[Taken], place: u16) -> Option<u32> {
-    for (number, other) in taken {
+fn taker_of(words: &[Made], place: u16) -> Option<u32> {
+    for (number, other, _) in words {
         if *other == place {
             return Some(*number);
         }
@@ -126,78 +109,64 @@ fn taker_of(taken: &[Taken], place: u16) -> Option<u32> {
     None
 }
 
-/// Takes so many places from one on for a card, or tells which card has the least of them that is taken.
-fn take_places(
+/// Adds the words of a card of this number at its place, or tells the card's fault: that of a word, or else which card has the least
+/// of the places that is taken.
+fn make_card(
     rt: &impl Abort,
-    taken: &mut Vec<Taken>,
+    symbols: &Symbols,
     number: u32,
     at: u16,
-    count: usize,
+    body: &Body,
+    words: &mut Vec<Made>,
 ) -> Result<(), WordFault> {
-    let mut place = at;
-    for _ in 0..count {
-        if let Some(first) = taker_of(taken, place) {
+    let count = count_of(body);
+    for position in 0..count {
+        word_of(rt, symbols, at, body, usize::from(position))?;
+    }
+    for position in 0..count {
+        let place = at.saturating_add(position);
+        if let Some(first) = taker_of(words, place) {
             return Err(WordFault::PlaceTwice { first });
         }
-        assert!(rt; taken.push((number, place)).is_ok());
-        place = place.saturating_add(1);
+        let word = word_of(rt, symbols, at, body, usize::from(position))?;
+        assert!(rt; words.push((number, place, word)).is_ok());
     }
     Ok(())
 }
 
-/// A card of this number has no words for this fault.
-fn mismade(card: u32, fault: WordFault) -> SourceError {
-    let kind = SourceKind::Word(fault);
-    SourceError { card, kind }
-}
-
-/// A card's place, where it has words, and its words.
-pub(crate) type Words = (Option<u16>, Vec<Word>);
-
-/// Adds the place and the words of a card that stands at a place, or tells the card's fault.
-fn add_words(
+/// Adds the words of all cards at their places, or tells the first card at fault.
+fn make_each(
     rt: &impl Abort,
-    alloc: Global,
+    source: &[u8],
     symbols: &Symbols,
-    line: &[u8],
-    (number, at): Taken,
-    taken: &mut Vec<Taken>,
-    made: &mut Vec<Words>,
+    places: &[u16],
+    words: &mut Vec<Made>,
 ) -> Result<(), SourceError> {
-    let card = card_of(rt, line);
-    let words = match words_of(rt, alloc, symbols, at, &card.body) {
-        Ok(words) => words,
-        Err(fault) => return Err(mismade(number, fault)),
-    };
-    if let Err(fault) = take_places(rt, taken, number, at, words.len()) {
-        return Err(mismade(number, fault));
+    let mut lines = Lines::of(source);
+    let mut number = 0u32;
+    for &at in places {
+        number = number.saturating_add(1);
+        let line = lines.next().expect(rt, "a line of each card");
+        let card = card_of(rt, line.bytes);
+        if let Err(fault) = make_card(rt, symbols, number, at, &card.body, words) {
+            let kind = SourceKind::Word(fault);
+            return Err(SourceError { card: number, kind });
+        }
     }
-    assert!(rt; made.push((place_of_word(at, &card.body), words)).is_ok());
     Ok(())
 }
 
-/// The place and the words of each card of a source, or the source's first fault.
+/// How many cards a source has, or its first fault. The words of the cards are added, one after the other.
 pub(crate) fn assemble_in_two_passes(
     rt: &impl Abort,
     alloc: Global,
     source: &[u8],
-) -> Result<Vec<Words>, SourceError> {
-    let lines = read_all(rt, alloc, source)?;
-    let (places, symbols) = place_each(rt, alloc, &lines)?;
-    let mut taken: Vec<Taken> = Vec::new(alloc);
-    let mut made = Vec::new(alloc);
-    let mut number = 0u32;
-    for (line, at) in lines.iter().zip(&places) {
-        number = number.saturating_add(1);
-        add_words(
-            rt,
-            alloc,
-            &symbols,
-            line,
-            (number, *at),
-            &mut taken,
-            &mut made,
-        )?;
-    }
-    Ok(made)
+    words: &mut Vec<Made>,
+) -> Result<usize, SourceError> {
+    read_each(source)?;
+    let mut symbols = Symbols::new(alloc);
+    let mut places = Vec::new(alloc);
+    place_each(rt, source, &mut symbols, &mut places)?;
+    make_each(rt, source, &symbols, &places, words)?;
+    Ok(places.len())
 }

@@ -20,77 +20,55 @@ const NUMBERS: [(u32, i32); 6] = [
     (0o777777, -1),
 ];
 
-#[test]
-fn numbers_and_values(rt: HostRuntime) {
-    for &(number, value) in &NUMBERS {
-        expect_same(&rt, &cell(&rt, number).value(), &value);
-        expect_same(&rt, &word(&rt, value).number(), &number);
-    }
-    expect_same(&rt, &Word::ZERO.number(), &0);
-}
-
 /// Values that no word has.
 const NO_VALUES: [i32; 4] = [-131_073, 131_072, i32::MIN, i32::MAX];
 
+/// Numbers that no word has.
+const NO_NUMBERS: [u32; 2] = [0o1000000, u32::MAX];
+
 #[test]
-fn other_numbers_have_no_word(rt: HostRuntime) {
-    for value in &NO_VALUES {
-        assert!(rt; Word::from_value(*value).is_none());
+fn numbers_and_values(rt: HostRuntime) {
+    for &(number, value) in &NUMBERS {
+        expect_same(&rt, &(number, cell(&rt, number).value()), &(number, value));
+        expect_same(&rt, &(word(&rt, value).number(), value), &(number, value));
     }
-    assert!(rt; Word::of(0o1000000).is_none());
-    assert!(rt; Word::of(u32::MAX).is_none());
+    expect_same(&rt, &Word::ZERO.number(), &0);
+    for &value in &NO_VALUES {
+        expect_same(&rt, &(value, Word::from_value(value)), &(value, None));
+    }
+    for &number in &NO_NUMBERS {
+        expect_same(&rt, &(number, Word::of(number)), &(number, None));
+    }
 }
 
-/// A, the cell, what is left of their sum, and whether it overflows.
-const SUMS: [(i32, i32, i32, bool); 12] = [
-    (-131072, -131072, 0, true),
-    (-131072, -1, 131071, true),
-    (-131072, 0, -131072, false),
-    (-131072, 131071, -1, false),
-    (-1, -131072, 131071, true),
-    (-1, 1, 0, false),
-    (0, -131072, -131072, false),
-    (1, -1, 0, false),
-    (1, 131071, -131072, true),
-    (131071, -131072, -1, false),
-    (131071, 1, -131072, true),
-    (131071, 131071, -2, true),
+/// A, the cell, what is left of their sum, and whether it overflows, and the same of their difference.
+const SUMS_AND_DIFFERENCES: [(i32, i32, i32, bool, i32, bool); 12] = [
+    (-131072, -131072, 0, true, 0, false),
+    (-131072, -1, 131071, true, -131071, false),
+    (-131072, 0, -131072, false, -131072, false),
+    (-131072, 131071, -1, false, 1, true),
+    (-1, -131072, 131071, true, 131071, false),
+    (-1, 1, 0, false, -2, false),
+    (0, -131072, -131072, false, -131072, true),
+    (1, -1, 0, false, 2, false),
+    (1, 131071, -131072, true, -131070, false),
+    (131071, -131072, -1, false, -1, true),
+    (131071, 1, -131072, true, 131070, false),
+    (131071, 131071, -2, true, 0, false),
 ];
 
 #[test]
-fn sums(rt: HostRuntime) {
-    for &(a, m, result, over) in &SUMS {
+fn sums_and_differences(rt: HostRuntime) {
+    for &(a, m, sum, over, difference, under) in &SUMS_AND_DIFFERENCES {
         expect_same(
             &rt,
-            &word(&rt, a).add(word(&rt, m)),
-            &(word(&rt, result), over),
+            &(a, m, word(&rt, a).add(word(&rt, m))),
+            &(a, m, (word(&rt, sum), over)),
         );
-    }
-}
-
-/// A, the cell, what is left of their difference, and whether it overflows.
-const DIFFERENCES: [(i32, i32, i32, bool); 12] = [
-    (-131072, -131072, 0, false),
-    (-131072, -1, -131071, false),
-    (-131072, 0, -131072, false),
-    (-131072, 131071, 1, true),
-    (-1, -131072, 131071, false),
-    (-1, 1, -2, false),
-    (0, -131072, -131072, true),
-    (1, -1, 2, false),
-    (1, 131071, -131070, false),
-    (131071, -131072, -1, true),
-    (131071, 1, 131070, false),
-    (131071, 131071, 0, false),
-];
-
-#[test]
-fn differences(rt: HostRuntime) {
-    for &(a, m, result, over) in &DIFFERENCES {
         expect_same(
             &rt,
-            &word(&rt, a).sub(word(&rt, m)),
-            &(word(&rt, result), over),
+            &(a, m, word(&rt, a).sub(word(&rt, m))),
+            &(a, m, (word(&rt, difference), under)),
         );
     }
 }
@@ -103,14 +81,6 @@ const NEGATIVES_AND_SIZES: [(i32, i32, i32, bool); 5] = [
     (1, -1, 1, false),
     (131071, -131071, 131071, false),
 ];
-
-#[test]
-fn negatives_and_sizes(rt: HostRuntime) {
-    for &(a, negative, size, over) in &NEGATIVES_AND_SIZES {
-        expect_same(&rt, &word(&rt, a).com(), &(word(&rt, negative), over));
-        expect_same(&rt, &word(&rt, a).abs(), &(word(&rt, size), over));
-    }
-}
 
 /// A, a count, what the shift leaves, and whether it overflows.
 const LEFT_SHIFTS: [(i32, u32, i32, bool); 16] = [
@@ -133,10 +103,18 @@ const LEFT_SHIFTS: [(i32, u32, i32, bool); 16] = [
 ];
 
 #[test]
-fn left_shifts(rt: HostRuntime) {
+fn negatives_sizes_and_left_shifts(rt: HostRuntime) {
+    for &(a, negative, size, over) in &NEGATIVES_AND_SIZES {
+        expect_same(&rt, &word(&rt, a).com(), &(word(&rt, negative), over));
+        expect_same(&rt, &word(&rt, a).abs(), &(word(&rt, size), over));
+    }
     for &(a, count, result, over) in &LEFT_SHIFTS {
         assert!(rt; count < 64);
-        expect_same(&rt, &word(&rt, a).als(count), &(word(&rt, result), over));
+        expect_same(
+            &rt,
+            &(a, count, word(&rt, a).als(count)),
+            &(a, count, (word(&rt, result), over)),
+        );
     }
 }
 
@@ -164,13 +142,13 @@ fn products(rt: HostRuntime) {
         let q = cell(&rt, low);
         expect_same(
             &rt,
-            &word(&rt, a).multiply(word(&rt, m)),
-            &(cell(&rt, high), q, over),
+            &(a, m, word(&rt, a).multiply(word(&rt, m))),
+            &(a, m, (cell(&rt, high), q, over)),
         );
         expect_same(
             &rt,
-            &word(&rt, a).multiply_round(word(&rt, m)),
-            &(cell(&rt, rounded), q, over),
+            &(a, m, word(&rt, a).multiply_round(word(&rt, m))),
+            &(a, m, (cell(&rt, rounded), q, over)),
         );
     }
 }
@@ -263,31 +241,35 @@ const DIVISIONS: [(u32, u32, i32, Option<i32>); 22] = [
 fn divisions(rt: HostRuntime) {
     for &(a, q, m, quotient) in &DIVISIONS {
         let answer = Long::of(cell(&rt, a), cell(&rt, q)).divide(word(&rt, m));
-        expect_same(&rt, &answer.map(Word::value), &quotient);
+        expect_same(&rt, &(a, q, answer.map(Word::value)), &(a, q, quotient));
     }
 }
 
-/// A word's number has these six octal digits, which are read as that word.
-fn expect_digits(rt: &impl Abort, number: u32, digits: &[u8; 6]) {
-    let word = cell(rt, number);
-    expect_same(rt, &word.octal6(), digits);
-    expect_same(rt, &Word::read_octal(digits), &Some(word));
-}
+/// Numbers of words, and their six octal digits, which are read as that word.
+const DIGITS: [(u32, &[u8; 6]); 3] = [(0, b"000000"), (0o1750, b"001750"), (0o777777, b"777777")];
+
+/// Other texts, and the number of the word that each is read as, if it is one.
+const TEXTS: [(&[u8], Option<u32>); 6] = [
+    (b"17", Some(0o17)),
+    (b"", None),
+    (b"0000000", None),
+    (b"8", None),
+    (b"-1", None),
+    (b" 1", None),
+];
 
 #[test]
 fn octal_digits(rt: HostRuntime) {
-    expect_digits(&rt, 0, b"000000");
-    expect_digits(&rt, 0o1750, b"001750");
-    expect_digits(&rt, 0o777777, b"777777");
-    expect_same(&rt, &Word::read_octal(b"17"), &Some(cell(&rt, 0o17)));
-}
-
-/// Texts that are no octal digits of a word.
-const NO_DIGITS: [&[u8]; 5] = [b"", b"0000000", b"8", b"-1", b" 1"];
-
-#[test]
-fn other_texts_are_no_words(rt: HostRuntime) {
-    for text in &NO_DIGITS {
-        assert!(rt; Word::read_octal(*text).is_none());
+    for &(number, digits) in &DIGITS {
+        let word = cell(&rt, number);
+        expect_same(
+            &rt,
+            &(word.octal6(), Word::read_octal(digits)),
+            &(*digits, Some(word)),
+        );
+    }
+    for &(text, number) in &TEXTS {
+        let read = Word::read_octal(text).map(Word::number);
+        expect_same(&rt, &(text, read), &(text, number));
     }
 }

@@ -5,7 +5,7 @@ use ags_asm::assemble;
 use ags_decks::FailingSink;
 use ags_isa::Codes;
 use ags_outside::{Sink, SteadySink};
-use ags_xref::{XrefError, pairs_by_name_ascend, send_xref};
+use ags_xref::{XrefError, send_xref};
 use std::alloc::Global;
 use std::process::Abort;
 
@@ -67,7 +67,6 @@ fn references_are_sent(rt: HostRuntime) {
     for &(source, text) in &REFERENCES_ARE_SENT {
         expect_sent(&rt, rt.alloc(), source, text);
     }
-    pairs_by_name_ascend();
 }
 
 /// Sends the cross reference of `NAMED` to a sink that fails at a put, and looks at the answer and at how many puts there were.
