@@ -29,9 +29,22 @@ fn loaded(
     Core::new(alloc, machine, &image, start).expect(rt, "memory for a core")
 }
 
-/// The report of an order that ran, and did nothing that is told.
-fn ran(rt: &impl Abort, location: u16, number: u32) -> Done {
-    Done {
+/// What is told of an event, with the address of what it takes, stores or gives.
+#[derive(Clone, Copy)]
+enum Told {
+    /// It runs no order.
+    Idle,
+    /// It runs an order that does nothing that is told.
+    Ran,
+    Overflow,
+    Took(u16),
+    Stored(u16),
+    Gave(u16),
+}
+
+/// The report of an event at a location with this word, where what is stored or given is 400000.
+fn report(rt: &impl Abort, location: u16, number: u32, told: Told) -> Done {
+    let mut report = Done {
         ran: true,
         location,
         word: word(rt, number),
@@ -39,86 +52,45 @@ fn ran(rt: &impl Abort, location: u16, number: u32) -> Done {
         stored: None,
         took: None,
         gave: None,
-    }
-}
-
-/// A number at an address.
-fn number_at(rt: &impl Abort, address: u16, number: u32) -> Option<Stored> {
-    Some(Stored {
-        address,
-        word: word(rt, number),
-    })
-}
-
-/// Expects what one event is told to do.
-fn expect(rt: &impl Abort, machine: &Machine, core: &mut Core, event: Event, wanted: Done)
-    requires inputs { length core.old.inputs ≡ length machine.now.ports.inputs }
-    requires outputs { length core.old.outputs ≡ length machine.now.ports.outputs }
-    ensures inputs { length core.new.inputs ≡ length core.old.inputs }
-    ensures outputs { length core.new.outputs ≡ length core.old.outputs }
-{
-    let told = core.act(machine, event);
-    assert_eq!(rt; told, wanted);
-}
-
-/// What a step that runs an order is told to do beside that, with the address of what it takes, stores or gives.
-#[derive(Clone, Copy)]
-enum Told {
-    Nothing,
-    Overflow,
-    Took(u16),
-    Stored(u16),
-    Gave(u16),
-}
-
-/// The report of an order that ran, where what is stored or given is 400000.
-fn report(rt: &impl Abort, order: (u16, u32), told: Told) -> Done {
-    let mut report = ran(rt, order.0, order.1);
+    };
+    let least = word(rt, 0o400000);
     match told {
-        Told::Nothing => {}
+        Told::Idle => report.ran = false,
+        Told::Ran => {}
         Told::Overflow => report.overflow = true,
         Told::Took(address) => report.took = Some(address),
-        Told::Stored(address) => report.stored = number_at(rt, address, 0o400000),
-        Told::Gave(address) => report.gave = number_at(rt, address, 0o400000),
+        Told::Stored(address) => {
+            report.stored = Some(Stored {
+                address,
+                word: least,
+            });
+        }
+        Told::Gave(address) => {
+            report.gave = Some(Stored {
+                address,
+                word: least,
+            });
+        }
     }
     report
 }
 
-/// Expects that a step runs an order, a location and its word, and is told to do this.
-fn expect_step(rt: &impl Abort, machine: &Machine, core: &mut Core, order: (u16, u32), told: Told)
+/// Expects what one event is told to do at a location and its word.
+fn expect(
+    rt: &impl Abort,
+    machine: &Machine,
+    core: &mut Core,
+    event: Event,
+    order: (u16, u32),
+    told: Told,
+)
     requires inputs { length core.old.inputs ≡ length machine.now.ports.inputs }
     requires outputs { length core.old.outputs ≡ length machine.now.ports.outputs }
     ensures inputs { length core.new.inputs ≡ length core.old.inputs }
     ensures outputs { length core.new.outputs ≡ length core.old.outputs }
 {
-    expect(rt, machine, core, Event::Step, report(rt, order, told));
-}
-
-/// Expects what the steps up to 4004 octal are told to do.
-fn expect_sums(rt: &impl Abort, machine: &Machine, core: &mut Core)
-    requires inputs { length core.old.inputs ≡ length machine.now.ports.inputs }
-    requires outputs { length core.old.outputs ≡ length machine.now.ports.outputs }
-    ensures inputs { length core.new.inputs ≡ length core.old.inputs }
-    ensures outputs { length core.new.outputs ≡ length core.old.outputs }
-{
-    expect_step(rt, machine, core, (0o4000, 0o642200), Told::Took(0o2200));
-    expect_step(rt, machine, core, (0o4001, 0o642003), Told::Took(0o2003));
-    expect_step(rt, machine, core, (0o4002, 0o200200), Told::Nothing);
-    expect_step(rt, machine, core, (0o4003, 0o220201), Told::Overflow);
-    expect_step(rt, machine, core, (0o4004, 0o500005), Told::Nothing);
-}
-
-/// Expects what the steps from 4005 octal on are told to do, where A is 400000.
-fn expect_stores(rt: &impl Abort, machine: &Machine, core: &mut Core)
-    requires inputs { length core.old.inputs ≡ length machine.now.ports.inputs }
-    requires outputs { length core.old.outputs ≡ length machine.now.ports.outputs }
-    ensures inputs { length core.new.inputs ≡ length core.old.inputs }
-    ensures outputs { length core.new.outputs ≡ length core.old.outputs }
-{
-    expect_step(rt, machine, core, (0o4005, 0o110010), Told::Stored(0o0015));
-    expect_step(rt, machine, core, (0o4006, 0o104010), Told::Stored(0o4010));
-    expect_step(rt, machine, core, (0o4007, 0o666200), Told::Gave(0o6200));
-    expect_step(rt, machine, core, (0o4010, 0o666003), Told::Gave(0o6003));
+    let done = core.act(machine, event);
+    assert_eq!(rt; done, report(rt, order.0, order.1, told));
 }
 
 /// Transfers from registers, a sum that overflows, stores, and transfers to registers, from 4000 octal on.
@@ -139,14 +111,6 @@ const CELLS: [(u16, u32); 12] = [
     (0o4011, 0o000000),
 ];
 
-/// The report of an event that runs no order at a location with this word.
-fn idle(rt: &impl Abort, location: u16, number: u32) -> Done {
-    Done {
-        ran: false,
-        ..ran(rt, location, number)
-    }
-}
-
 #[test]
 fn events_are_told(rt: HostRuntime) {
     let machine = Machine::standard();
@@ -155,8 +119,93 @@ fn events_are_told(rt: HostRuntime) {
         address: 0o2200,
         word: word(&rt, 7),
     };
-    expect(&rt, &machine, &mut core, put, idle(&rt, 0o4000, 0o642200));
-    expect_sums(&rt, &machine, &mut core);
-    expect_stores(&rt, &machine, &mut core);
-    expect(&rt, &machine, &mut core, Event::Step, idle(&rt, 0o4011, 0));
+    expect(
+        &rt,
+        &machine,
+        &mut core,
+        put,
+        (0o4000, 0o642200),
+        Told::Idle,
+    );
+    expect(
+        &rt,
+        &machine,
+        &mut core,
+        Event::Step,
+        (0o4000, 0o642200),
+        Told::Took(0o2200),
+    );
+    expect(
+        &rt,
+        &machine,
+        &mut core,
+        Event::Step,
+        (0o4001, 0o642003),
+        Told::Took(0o2003),
+    );
+    expect(
+        &rt,
+        &machine,
+        &mut core,
+        Event::Step,
+        (0o4002, 0o200200),
+        Told::Ran,
+    );
+    expect(
+        &rt,
+        &machine,
+        &mut core,
+        Event::Step,
+        (0o4003, 0o220201),
+        Told::Overflow,
+    );
+    expect(
+        &rt,
+        &machine,
+        &mut core,
+        Event::Step,
+        (0o4004, 0o500005),
+        Told::Ran,
+    );
+    // A is 400000 from here on
+    expect(
+        &rt,
+        &machine,
+        &mut core,
+        Event::Step,
+        (0o4005, 0o110010),
+        Told::Stored(0o0015),
+    );
+    expect(
+        &rt,
+        &machine,
+        &mut core,
+        Event::Step,
+        (0o4006, 0o104010),
+        Told::Stored(0o4010),
+    );
+    expect(
+        &rt,
+        &machine,
+        &mut core,
+        Event::Step,
+        (0o4007, 0o666200),
+        Told::Gave(0o6200),
+    );
+    expect(
+        &rt,
+        &machine,
+        &mut core,
+        Event::Step,
+        (0o4010, 0o666003),
+        Told::Gave(0o6003),
+    );
+    expect(
+        &rt,
+        &machine,
+        &mut core,
+        Event::Step,
+        (0o4011, 0),
+        Told::Idle,
+    );
 }

@@ -3,7 +3,7 @@
 use crate::common::{expect_same, word};
 use ags_device::{
     Device, Pad, Recorder, Sensor, Tape, count_at, feeds_at, hear_all, hear_at, hears_at, last_at,
-    laws, left_at, next_at, remove_at,
+    left_at, next_at, remove_at,
 };
 use ags_word::Word;
 use std::alloc::{AllocError, Global};
@@ -42,38 +42,42 @@ fn hear<D: Device>(rt: &impl Abort, device: &mut D, number: u32) {
     assert!(rt; device.hear(word(rt, number)).is_ok());
 }
 
+/// The numbers of a sensor's first word and of what is added, how many words it gives, and their numbers.
+const SENSORS: [(u32, u32, u32, &[u32]); 4] = [
+    (0o000001, 0o777777, 3, &[0o000001, 0o000000, 0o777777]),
+    (0o377777, 0o000001, 2, &[0o377777, 0o400000]),
+    (0o000005, 0o400000, 3, &[0o000005, 0o400005, 0o000005]),
+    (7, 1, 0, &[]),
+];
+
 #[test]
 fn sensor_ramps(rt: HostRuntime) {
-    let mut down = Sensor::new(0o2001, word(&rt, 0o000001), word(&rt, 0o777777), 3);
-    expect_same(&rt, &told(&down), &(Some(0o2001), None, 3, 0, None));
-    expect_words(&rt, &mut down, &[0o000001, 0o000000, 0o777777]);
-    let mut past = Sensor::new(0o2001, word(&rt, 0o377777), word(&rt, 0o000001), 2);
-    expect_words(&rt, &mut past, &[0o377777, 0o400000]);
-    let mut wide = Sensor::new(0o2001, word(&rt, 0o000005), word(&rt, 0o400000), 3);
-    expect_words(&rt, &mut wide, &[0o000005, 0o400005, 0o000005]);
+    for &(first, added, count, numbers) in &SENSORS {
+        let mut sensor = Sensor::new(0o2001, word(&rt, first), word(&rt, added), count);
+        let left = u64::from(count);
+        expect_same(&rt, &told(&sensor), &(Some(0o2001), None, left, 0, None));
+        expect_words(&rt, &mut sensor, numbers);
+    }
+    let mut longest = Sensor::new(0o2001, word(&rt, 7), word(&rt, 0), u32::MAX);
+    expect_same(&rt, &longest.left(), &4_294_967_295);
+    expect_same(&rt, &longest.next(), &Word::of(7));
+    expect_same(&rt, &longest.left(), &4_294_967_294);
+}
+
+/// The words of some numbers.
+fn words(rt: &impl Abort, alloc: Global, numbers: &[u32]) -> Vec<Word> {
+    let mut words = Vec::new(alloc);
+    for number in numbers {
+        assert!(rt; words.push(word(rt, *number)).is_ok());
+    }
+    words
 }
 
 #[test]
-fn sensor_without_a_word(rt: HostRuntime) {
-    let mut sensor = Sensor::new(0o2001, word(&rt, 7), word(&rt, 1), 0);
-    expect_words(&rt, &mut sensor, &[]);
-}
-
-#[test]
-fn longest_sensor(rt: HostRuntime) {
-    let mut sensor = Sensor::new(0o2001, word(&rt, 7), word(&rt, 0), u32::MAX);
-    expect_same(&rt, &sensor.left(), &4_294_967_295);
-    expect_same(&rt, &sensor.next(), &Word::of(7));
-    expect_same(&rt, &sensor.left(), &4_294_967_294);
-}
-
-#[test]
-fn tape_gives_its_words(rt: HostRuntime) -> Result<(), Fail> {
-    let words = vec![in rt.alloc(); word(&rt, 5), word(&rt, 0o777777)]?;
-    let mut tape = Tape::new(0o2002, words);
+fn tape_gives_its_words(rt: HostRuntime) {
+    let mut tape = Tape::new(0o2002, words(&rt, rt.alloc(), &[5, 0o777777]));
     expect_same(&rt, &told(&tape), &(Some(0o2002), None, 2, 0, None));
     expect_words(&rt, &mut tape, &[5, 0o777777]);
-    Ok(())
 }
 
 #[test]
@@ -90,14 +94,22 @@ fn recorder_keeps_what_it_hears(rt: HostRuntime) {
     expect_words(&rt, &mut recorder, &[]);
 }
 
-/// A pad that feeds and hears one address.
-fn pad(alloc: Global, address: u16, digits: &[u8]) -> Result<Option<Pad>, AllocError> {
-    Ok(Pad::new(alloc, address, address, digits.to_vec(alloc)?))
+/// A pad that feeds and hears these addresses, and gives these digits, if they are digits.
+fn pad(rt: &impl Abort, alloc: Global, feeds: u16, hears: u16, digits: &[u8]) -> Option<Pad> {
+    let digits = digits.to_vec(alloc).expect(rt, "memory for digits");
+    Pad::new(alloc, feeds, hears, digits)
 }
 
+/// Digits, and whether a pad has them: none is above 15.
+const DIGITS: [(&[u8], bool); 3] = [(&[0, 16, 3], false), (&[255], false), (&[], true)];
+
 #[test]
-fn pad_gives_digits_and_hears(rt: HostRuntime) -> Result<(), Fail> {
-    let mut pad = pad(rt.alloc(), 0o2200, &[0, 4, 7, 15])?.ok_or("digits")?;
+fn pad_gives_digits_and_hears(rt: HostRuntime) {
+    for &(digits, made) in &DIGITS {
+        let pad = pad(&rt, rt.alloc(), 0o2200, 0o2200, digits);
+        expect_same(&rt, &(digits, pad.is_some()), &(digits, made));
+    }
+    let mut pad = pad(&rt, rt.alloc(), 0o2200, 0o2200, &[0, 4, 7, 15]).expect(&rt, "digits");
     hear(&rt, &mut pad, 0o000037);
     expect_same(
         &rt,
@@ -106,15 +118,6 @@ fn pad_gives_digits_and_hears(rt: HostRuntime) -> Result<(), Fail> {
     );
     expect_words(&rt, &mut pad, &[16, 20, 23, 31]);
     expect_same(&rt, &pad.count(), &1);
-    Ok(())
-}
-
-#[test]
-fn digit_above_15_is_refused(rt: HostRuntime) -> Result<(), Fail> {
-    assert!(rt; pad(rt.alloc(), 0o2200, &[0, 16, 3])?.is_none());
-    assert!(rt; pad(rt.alloc(), 0o2200, &[255])?.is_none());
-    assert!(rt; pad(rt.alloc(), 0o2200, &[])?.is_some());
-    Ok(())
 }
 
 // ---- a kind of one's own
@@ -194,45 +197,82 @@ fn button_gives_its_word_once(rt: HostRuntime) {
 
 // ---- a list of boxes
 
-/// Expects what the device at a position tells of itself.
-fn expect_told(rt: &impl Abort, devices: &Vec<Box<dyn Device>>, position: usize, wanted: &Told) {
-    assert!(rt; position < devices.len());
-    expect_same(rt, &feeds_at(devices, position), &wanted.0);
-    expect_same(rt, &hears_at(devices, position), &wanted.1);
-    expect_same(rt, &left_at(devices, position), &wanted.2);
-    expect_same(rt, &count_at(devices, position), &wanted.3);
-    expect_same(rt, &last_at(devices, position), &wanted.4);
+/// What is done with a list of devices, and what comes of it, where the first number is the position of a device.
+enum Step {
+    /// The device's next word has this number.
+    Next(usize, u32),
+    /// The device hears the word of a number at an address, where it hears that.
+    Hear(usize, u16, u32),
+    /// Each device hears the word of a number at an address, where it hears that.
+    HearAll(u16, u32),
+    /// The device tells this of itself: the addresses that it feeds and hears, how many words it has left and has heard, and the number
+    /// of the last of those.
+    Tell(usize, Option<u16>, Option<u16>, u64, u64, Option<u32>),
+    /// The device is dropped, and so many are left.
+    Remove(usize, usize),
 }
 
-/// Expects the number of the next word of the device at a position.
-fn expect_next(rt: &impl Abort, devices: &mut Vec<Box<dyn Device>>, position: usize, number: u32) {
-    assert!(rt; position < devices.len());
-    expect_same(rt, &next_at(devices, position), &Word::of(number));
-}
+/// Each device of the list of kinds is changed, and they are dropped one by one.
+const STEPS: [Step; 22] = [
+    Step::Next(0, 1),
+    Step::Next(0, 3),
+    Step::Next(1, 5),
+    Step::Next(2, 16),
+    Step::Next(4, 9),
+    Step::HearAll(0o6001, 5),
+    Step::HearAll(0o6001, 7),
+    Step::HearAll(0o6002, 1),
+    Step::Hear(2, 0o6200, 9),
+    Step::Hear(2, 0o2200, 1),
+    Step::Tell(0, Some(0o2001), None, 1, 0, None),
+    Step::Tell(1, Some(0o2002), None, 1, 0, None),
+    Step::Tell(2, Some(0o2200), Some(0o6200), 2, 1, Some(9)),
+    Step::Tell(3, None, Some(0o6001), 0, 2, Some(7)),
+    Step::Tell(4, Some(0o2003), None, 0, 0, None),
+    Step::Remove(3, 4),
+    Step::Tell(3, Some(0o2003), None, 0, 0, None),
+    Step::Remove(0, 3),
+    Step::Next(0, 7),
+    Step::Remove(1, 2),
+    Step::Remove(1, 1),
+    Step::Remove(0, 0),
+];
 
-/// Has the device at a position hear the word of a number at an address, where it hears that.
-fn hear_one(
-    rt: &impl Abort,
-    devices: &mut Vec<Box<dyn Device>>,
-    position: usize,
-    address: u16,
-    number: u32,
-) {
-    assert!(rt; position < devices.len());
-    assert!(rt; hear_at(devices, position, address, word(rt, number)).is_ok());
-}
-
-/// Has each device hear the word of a number at an address, where it hears that.
-fn hear_each(rt: &impl Abort, devices: &mut Vec<Box<dyn Device>>, address: u16, number: u32) {
-    let count = devices.len();
-    assert!(rt; hear_all(devices, count, address, word(rt, number)).is_ok());
-}
-
-/// Drops the device at a position, and expects how many are left.
-fn drop_at(rt: &impl Abort, devices: &mut Vec<Box<dyn Device>>, position: usize, left: usize) {
-    assert!(rt; position < devices.len());
-    remove_at(devices, position);
-    expect_same(rt, &devices.len(), &left);
+/// Does a step with a list of devices, and expects what comes of it.
+fn expect_step(rt: &impl Abort, devices: &mut Vec<Box<dyn Device>>, step: &Step) {
+    match *step {
+        Step::Next(at, number) => {
+            assert!(rt; at < devices.len());
+            expect_same(rt, &(at, next_at(devices, at)), &(at, Word::of(number)));
+        }
+        Step::Hear(at, address, number) => {
+            assert!(rt; at < devices.len());
+            assert!(rt; hear_at(devices, at, address, word(rt, number)).is_ok());
+        }
+        Step::HearAll(address, number) => {
+            let count = devices.len();
+            assert!(rt; hear_all(devices, count, address, word(rt, number)).is_ok());
+        }
+        Step::Tell(at, feeds, hears, left, count, last) => {
+            assert!(rt; at < devices.len());
+            expect_same(
+                rt,
+                &(
+                    feeds_at(devices, at),
+                    hears_at(devices, at),
+                    left_at(devices, at),
+                    count_at(devices, at),
+                    last_at(devices, at).map(Word::number),
+                ),
+                &(feeds, hears, left, count, last),
+            );
+        }
+        Step::Remove(at, left) => {
+            assert!(rt; at < devices.len());
+            remove_at(devices, at);
+            expect_same(rt, &(at, devices.len()), &(at, left));
+        }
+    }
 }
 
 #[test]
@@ -241,10 +281,9 @@ fn kinds_in_one_list(rt: HostRuntime) -> Result<(), Fail> {
     let mut devices: Vec<Box<dyn Device>> = Vec::new(alloc);
     let sensor = Sensor::new(0o2001, word(&rt, 1), word(&rt, 2), 3);
     devices.push(Box::new(alloc, sensor)?)?;
-    let words = vec![in alloc; word(&rt, 5), word(&rt, 7)]?;
-    devices.push(Box::new(alloc, Tape::new(0o2002, words))?)?;
-    let digits = vec![in alloc; 0u8, 4, 15]?;
-    let pad = Pad::new(alloc, 0o2200, 0o6200, digits).ok_or("digits")?;
+    let tape = Tape::new(0o2002, words(&rt, alloc, &[5, 7]));
+    devices.push(Box::new(alloc, tape)?)?;
+    let pad = pad(&rt, alloc, 0o2200, 0o6200, &[0, 4, 15]).ok_or("digits")?;
     devices.push(Box::new(alloc, pad)?)?;
     devices.push(Box::new(alloc, Recorder::new(alloc, 0o6001))?)?;
     let button = Button {
@@ -258,38 +297,7 @@ fn kinds_in_one_list(rt: HostRuntime) -> Result<(), Fail> {
 
 /// Changes each device of the list of kinds, and drops them one by one.
 fn change_and_drop(rt: &impl Abort, devices: &mut Vec<Box<dyn Device>>) {
-    expect_next(rt, devices, 0, 1);
-    expect_next(rt, devices, 0, 3);
-    expect_next(rt, devices, 1, 5);
-    expect_next(rt, devices, 2, 16);
-    expect_next(rt, devices, 4, 9);
-    hear_each(rt, devices, 0o6001, 5);
-    hear_each(rt, devices, 0o6001, 7);
-    hear_each(rt, devices, 0o6002, 1);
-    hear_one(rt, devices, 2, 0o6200, 9);
-    hear_one(rt, devices, 2, 0o2200, 1);
-    expect_told(rt, devices, 0, &(Some(0o2001), None, 1, 0, None));
-    expect_told(rt, devices, 1, &(Some(0o2002), None, 1, 0, None));
-    expect_told(
-        rt,
-        devices,
-        2,
-        &(Some(0o2200), Some(0o6200), 2, 1, Word::of(9)),
-    );
-    expect_told(rt, devices, 3, &(None, Some(0o6001), 0, 2, Word::of(7)));
-    expect_told(rt, devices, 4, &(Some(0o2003), None, 0, 0, None));
-    drop_at(rt, devices, 3, 4);
-    expect_told(rt, devices, 3, &(Some(0o2003), None, 0, 0, None));
-    drop_at(rt, devices, 0, 3);
-    expect_next(rt, devices, 0, 7);
-    drop_at(rt, devices, 1, 2);
-    drop_at(rt, devices, 1, 1);
-    drop_at(rt, devices, 0, 0);
-}
-
-#[test]
-fn laws_can_be_called() {
-    laws::addresses_never_change();
-    laws::sensor_ramps();
-    laws::all_hear_in_order();
+    for step in &STEPS {
+        expect_step(rt, devices, step);
+    }
 }

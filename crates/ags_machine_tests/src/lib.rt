@@ -11,9 +11,9 @@ mod deda_tests;
 #[cfg(test)]
 mod device_tests;
 #[cfg(test)]
-mod machfile_tests;
+mod law_tests;
 #[cfg(test)]
-mod play_tests;
+mod machfile_tests;
 #[cfg(test)]
 mod ports_tests;
 #[cfg(test)]

@@ -2,11 +2,10 @@
 
 use crate::common::expect_same;
 use ags_isa::{Codes, Order};
-use ags_machfile::{MachError, laws, read};
+use ags_machfile::{MachError, read};
 use ags_ports::{Machine, Port, Times};
 use std::alloc::Global;
 use std::process::Abort;
-use std::test::Fail;
 
 /// Each order with the two octal digits of its standard code.
 const CODES: [(&str, &str); 27] = [
@@ -83,68 +82,65 @@ output = [
 ]
 ";
 
+/// One of the two tables of a file.
+#[derive(Clone, Copy)]
+enum Table {
+    Codes,
+    Times,
+}
+
 /// Adds a piece to a text.
 fn add(rt: &impl Abort, text: &mut String, piece: &str) {
     assert!(rt; text.push_str(piece).is_ok());
 }
 
-/// These pieces, one after the other.
-fn joined(rt: &impl Abort, alloc: Global, pieces: &[&str]) -> String {
-    let mut text = String::new(alloc);
-    for piece in pieces {
-        add(rt, &mut text, piece);
-    }
-    text
-}
-
-/// A piece so many times.
-fn repeated(rt: &impl Abort, alloc: Global, piece: &str, count: u32) -> String {
-    let mut text = String::new(alloc);
+/// Adds a piece to a text, so many times.
+fn add_often(rt: &impl Abort, text: &mut String, piece: &str, count: u32) {
     for _ in 0..count {
-        add(rt, &mut text, piece);
+        add(rt, text, piece);
     }
-    text
 }
 
-/// Adds the line of an order's value to a text.
-fn add_line(rt: &impl Abort, text: &mut String, name: &str, value: &str) {
-    add(rt, text, name);
-    add(rt, text, " = ");
-    add(rt, text, value);
-    add(rt, text, "\n");
-}
-
-/// A table of a file, with another value for one order; where that is empty, the order is left out.
-fn table(
-    rt: &impl Abort,
-    alloc: Global,
-    header: &str,
-    rows: &[(&str, &str)],
-    order: &str,
-    other: &str,
-) -> String {
-    let mut text = joined(rt, alloc, &[header, "\n"]);
+/// Adds the rows of a table to a text, with another value for one order; where that is empty, the order is left out.
+fn add_rows(rt: &impl Abort, text: &mut String, rows: &[(&str, &str)], order: &str, other: &str) {
     for &(name, value) in rows {
         let value = if name == order { other } else { value };
         if !value.is_empty() {
-            add_line(rt, &mut text, name, value);
+            add(rt, text, name);
+            add(rt, text, " = ");
+            add(rt, text, value);
+            add(rt, text, "\n");
         }
     }
-    text
 }
 
-/// The line of the fault of a file, and an empty one of a file that gives a machine.
-fn fault_line(rt: &impl Abort, alloc: Global, text: &[u8]) -> String {
-    assert!(rt; text.len() <= 65_536);
-    match read(alloc, text) {
-        Ok(_) => String::new(alloc),
-        Err(fault) => format!(in alloc; "{fault}").expect(rt, "memory for a line"),
+/// Adds a table to a text, with another value for one order, or without it.
+fn add_table(rt: &impl Abort, text: &mut String, table: Table, order: &str, other: &str) {
+    match table {
+        Table::Codes => {
+            add(rt, text, "[codes]\n");
+            add_rows(rt, text, &CODES, order, other);
+        }
+        Table::Times => {
+            add(rt, text, "[times]\n");
+            add_rows(rt, text, &TIMES, order, other);
+        }
     }
+}
+
+/// Expects the line of a fault.
+fn expect_line(rt: &impl Abort, alloc: Global, fault: MachError, wanted: &str) {
+    let line = format!(in alloc; "{fault}").expect(rt, "memory for a line");
+    expect_same(rt, &line.as_str(), &wanted);
 }
 
 /// Reads a file that is refused, and compares the line of its fault.
 fn expect_fault(rt: &impl Abort, alloc: Global, text: &[u8], wanted: &str) {
-    expect_same(rt, &fault_line(rt, alloc, text).as_str(), &wanted);
+    assert!(rt; text.len() <= 65_536);
+    match read(alloc, text) {
+        Ok(_) => panic!(rt; "no fault, and not {wanted}"),
+        Err(fault) => expect_line(rt, alloc, fault, wanted),
+    }
 }
 
 /// Reads a file that gives a machine.
@@ -155,22 +151,14 @@ fn machine(rt: &impl Abort, alloc: Global, text: &[u8]) -> Machine {
         .expect(rt, "a machine file without a fault")
 }
 
-/// Whether the codes and the times of a machine are the standard ones.
-fn has_standard_tables(machine: &Machine) -> bool {
-    machine.codes == Codes::standard() && machine.times == Times::standard()
-}
-
-/// Whether the registers of a machine are those of another.
-fn has_registers_of(machine: &Machine, other: &Machine) -> bool {
-    machine.ports.inputs() == other.ports.inputs()
-        && machine.ports.outputs() == other.ports.outputs()
-}
-
 /// Reads a file, and compares its machine with the standard one.
 fn expect_standard(rt: &impl Abort, alloc: Global, text: &[u8]) {
     let machine = machine(rt, alloc, text);
-    assert!(rt; has_standard_tables(&machine));
-    assert!(rt; has_registers_of(&machine, &Machine::standard()));
+    let ports = Machine::standard().ports;
+    assert!(rt; machine.codes == Codes::standard() && machine.times == Times::standard());
+    assert!(rt;
+        machine.ports.inputs() == ports.inputs() && machine.ports.outputs() == ports.outputs()
+    );
     expect_same(rt, &(machine.deda_in, machine.deda_out), &(0o2200, 0o6200));
 }
 
@@ -183,38 +171,29 @@ fn file_of(
     code: &str,
     time: &str,
 ) -> String {
-    let codes = table(rt, alloc, "[codes]", &CODES, order, code);
-    let times = table(rt, alloc, "[times]", &TIMES, order, time);
-    joined(rt, alloc, &[registers, codes.as_str(), times.as_str()])
+    let mut text = String::new(alloc);
+    add(rt, &mut text, registers);
+    add_table(rt, &mut text, Table::Codes, order, code);
+    add_table(rt, &mut text, Table::Times, order, time);
+    text
 }
 
 #[test]
-fn standard_machine_written_out(rt: HostRuntime) {
+fn standard_machine_is_read(rt: HostRuntime) {
     let alloc = rt.alloc();
+    // written out, and of no table
     let written = file_of(&rt, alloc, REGISTERS, "", "", "");
     expect_standard(&rt, alloc, written.as_bytes());
-    let longest = repeated(&rt, alloc, "#", 65_536);
+    expect_standard(&rt, alloc, b"");
+    expect_standard(&rt, alloc, b"# none\r\nname = \"LM\"\n[panel]\n");
+    let mut longest = String::new(alloc);
+    add_often(&rt, &mut longest, "#", 65_536);
     expect_standard(&rt, alloc, longest.as_bytes());
-}
-
-#[test]
-fn standard_machine_of_no_table(rt: HostRuntime) {
-    expect_standard(&rt, rt.alloc(), b"");
-    expect_standard(&rt, rt.alloc(), b"# none\r\nname = \"LM\"\n[panel]\n");
 }
 
 /// Other registers and another address of the panel.
 const OTHER_REGISTERS: &str =
     "input = [{ address = 4095, once = true }, { address = 0, name = 3 }]\noutput = []\ndeda_in = 7\n";
-
-/// Expects the codes and the times of the orders CLA and DVP.
-fn expect_other_tables(rt: &impl Abort, machine: &Machine) {
-    let codes = &machine.codes;
-    expect_same(rt, &codes.code_of(Order::Cla), &0o36);
-    expect_same(rt, &codes.code_of(Order::Dvp), &0o01);
-    expect_same(rt, &machine.time_of(Order::Cla), &1000);
-    expect_same(rt, &machine.time_of(Order::Dvp), &73);
-}
 
 /// Its input registers.
 const OTHER_INPUTS: [Port; 2] = [
@@ -228,20 +207,29 @@ const OTHER_INPUTS: [Port; 2] = [
     },
 ];
 
-/// Expects the registers of `OTHER_REGISTERS`.
-fn expect_other_registers(rt: &impl Abort, machine: &Machine) {
+/// Expects these registers, and other values of the order CLA than the standard ones.
+fn expect_other(rt: &impl Abort, machine: &Machine) {
     assert!(rt; machine.ports.inputs() == OTHER_INPUTS.as_slice());
     assert!(rt; machine.ports.outputs().is_empty());
     expect_same(rt, &(machine.deda_in, machine.deda_out), &(7, 0o6200));
+    let codes = &machine.codes;
+    expect_same(
+        rt,
+        &(codes.code_of(Order::Cla), codes.code_of(Order::Dvp)),
+        &(0o36, 0o01),
+    );
+    expect_same(
+        rt,
+        &(machine.time_of(Order::Cla), machine.time_of(Order::Dvp)),
+        &(1000, 73),
+    );
 }
 
 #[test]
 fn other_machines(rt: HostRuntime) {
     let alloc = rt.alloc();
     let text = file_of(&rt, alloc, OTHER_REGISTERS, "CLA", "0o74", "1000");
-    let machine = machine(&rt, alloc, text.as_bytes());
-    expect_other_tables(&rt, &machine);
-    expect_other_registers(&rt, &machine);
+    expect_other(&rt, &machine(&rt, alloc, text.as_bytes()));
 }
 
 /// Machine files, each with the line of its fault.
@@ -343,80 +331,46 @@ const FAULTS: [(&[u8], &str); 36] = [
 
 #[test]
 fn faults_of_files(rt: HostRuntime) {
-    for &(text, wanted) in &FAULTS {
-        expect_fault(&rt, rt.alloc(), text, wanted);
-    }
-}
-
-#[test]
-fn too_many_registers_are_a_fault(rt: HostRuntime) {
     let alloc = rt.alloc();
-    let many = repeated(&rt, alloc, "1,", 33);
-    let text = joined(&rt, alloc, &["output = [", many.as_str(), "]"]);
-    expect_fault(
-        &rt,
-        alloc,
-        text.as_bytes(),
-        "MACHINE ERROR 3 BadValue output",
-    );
+    for &(text, wanted) in &FAULTS {
+        expect_fault(&rt, alloc, text, wanted);
+    }
+    // too many registers
+    let mut text = String::new(alloc);
+    add(&rt, &mut text, "output = [");
+    add_often(&rt, &mut text, "1,", 33);
+    add(&rt, &mut text, "]");
+    let wanted = "MACHINE ERROR 3 BadValue output";
+    expect_fault(&rt, alloc, text.as_bytes(), wanted);
+    // want of memory prints nothing
+    expect_line(&rt, alloc, MachError::NoMemory, "");
 }
 
-#[test]
-fn want_of_memory_prints_nothing(rt: HostRuntime) -> Result<(), Fail> {
-    let line = format!(in rt.alloc(); "{}", MachError::NoMemory)?;
-    assert!(rt; line.is_empty());
-    Ok(())
-}
-
-/// Leaves an order out of a table, and looks at the fault, which ends in its name.
-fn expect_missing(
+/// Expects the fault of a table where one order has another value, or none: its line, which ends in these two pieces.
+fn expect_table_fault(
     rt: &impl Abort,
     alloc: Global,
-    header: &str,
-    rows: &[(&str, &str)],
+    table: Table,
     order: &str,
-    fault: &str,
+    value: &str,
+    (fault, named): (&str, &str),
 ) {
-    let text = table(rt, alloc, header, rows, order, "");
-    let wanted = joined(rt, alloc, &[fault, order]);
+    let mut text = String::new(alloc);
+    add_table(rt, &mut text, table, order, value);
+    let mut wanted = String::new(alloc);
+    add(rt, &mut wanted, fault);
+    add(rt, &mut wanted, named);
     expect_fault(rt, alloc, text.as_bytes(), wanted.as_str());
 }
 
 #[test]
 fn missing_orders_are_a_fault(rt: HostRuntime) {
-    let (alloc, codes, times) = (rt.alloc(), "[codes]", "[times]");
     for &(order, _) in &CODES {
-        expect_missing(
-            &rt,
-            alloc,
-            codes,
-            &CODES,
-            order,
-            "MACHINE ERROR 2 MissingKey codes.",
-        );
-        expect_missing(
-            &rt,
-            alloc,
-            times,
-            &TIMES,
-            order,
-            "MACHINE ERROR 2 MissingKey times.",
-        );
+        let missing = ("MACHINE ERROR 2 MissingKey codes.", order);
+        expect_table_fault(&rt, rt.alloc(), Table::Codes, order, "", missing);
+        let missing = ("MACHINE ERROR 2 MissingKey times.", order);
+        expect_table_fault(&rt, rt.alloc(), Table::Times, order, "", missing);
     }
-}
-
-/// Expects the fault of a table where one order has another value.
-fn expect_value_fault(
-    rt: &impl Abort,
-    alloc: Global,
-    header: &str,
-    rows: &[(&str, &str)],
-    order: &str,
-    value: &str,
-    wanted: &str,
-) {
-    let text = table(rt, alloc, header, rows, order, value);
-    expect_fault(rt, alloc, text.as_bytes(), wanted);
 }
 
 /// What is no code.
@@ -428,45 +382,27 @@ const BAD_CODES: [&str; 9] = [
 const BAD_TIMES: [&str; 7] = ["0", "1001", "-1", "10.0", "false", "\"10\"", "{}"];
 
 #[test]
-fn bad_codes_are_a_fault(rt: HostRuntime) {
+fn bad_values_are_a_fault(rt: HostRuntime) {
     for value in &BAD_CODES {
-        let wanted = "MACHINE ERROR 3 BadValue codes.ADD";
-        expect_value_fault(&rt, rt.alloc(), "[codes]", &CODES, "ADD", value, wanted);
+        let bad = ("MACHINE ERROR 3 BadValue codes.", "ADD");
+        expect_table_fault(&rt, rt.alloc(), Table::Codes, "ADD", value, bad);
     }
-}
-
-#[test]
-fn bad_times_are_a_fault(rt: HostRuntime) {
     for value in &BAD_TIMES {
-        let wanted = "MACHINE ERROR 3 BadValue times.TSQ";
-        expect_value_fault(&rt, rt.alloc(), "[times]", &TIMES, "TSQ", value, wanted);
+        let bad = ("MACHINE ERROR 3 BadValue times.", "TSQ");
+        expect_table_fault(&rt, rt.alloc(), Table::Times, "TSQ", value, bad);
     }
 }
 
 #[test]
 fn orders_of_one_code_are_a_fault(rt: HostRuntime) {
     let alloc = rt.alloc();
-    let wanted = "MACHINE ERROR 4 SameCode ADD CLA";
-    expect_value_fault(&rt, alloc, "[codes]", &CODES, "ADD", "0o20", wanted);
+    let same = ("MACHINE ERROR 4 SameCode ", "ADD CLA");
+    expect_table_fault(&rt, alloc, Table::Codes, "ADD", "0o20", same);
     // TSQ and DVP have the code of ABS, and ABS and DVP are the least pair.
-    let mut three = table(&rt, alloc, "[codes]", &CODES[..26], "DVP", "0o62");
-    add_line(&rt, &mut three, "TSQ", "0o62");
-    expect_fault(
-        &rt,
-        alloc,
-        three.as_bytes(),
-        "MACHINE ERROR 4 SameCode ABS DVP",
-    );
-}
-
-#[test]
-fn laws_can_be_called() {
-    laws::table_gives_each_order_its_number();
-    laws::shared_code_is_told_by_the_first_pair();
-    laws::wrong_value_is_told_before_a_missing_address();
-    laws::array_gives_each_entry_its_register();
-    laws::document_gives_the_machine_of_its_parts();
-    laws::file_says_what_its_document_says();
-    laws::file_gives_a_machine_or_a_fault();
-    laws::empty_file_gives_the_standard_machine();
+    let mut three = String::new(alloc);
+    add(&rt, &mut three, "[codes]\n");
+    add_rows(&rt, &mut three, &CODES[..26], "DVP", "0o62");
+    add(&rt, &mut three, "TSQ = 0o62\n");
+    let wanted = "MACHINE ERROR 4 SameCode ABS DVP";
+    expect_fault(&rt, alloc, three.as_bytes(), wanted);
 }

@@ -2,9 +2,6 @@
 
 use crate::common::expect_same;
 use ags_isa::{Codes, Order};
-use ags_ports::run_laws::{
-    StepFact, run_is_a_step_at_each_event, steps_of_a_run_are_those_of_its_parts,
-};
 use ags_ports::{Machine, Port, Ports, Times};
 use std::alloc::Global;
 use std::process::Abort;
@@ -37,19 +34,15 @@ const TIMES: [(u32, &[Order]); 6] = [
     ),
 ];
 
-/// Expects that orders take a time.
-fn expect_times(rt: &impl Abort, machine: &Machine, micros: u32, orders: &[Order]) {
-    for order in orders {
-        expect_same(rt, &machine.time_of(*order), &micros);
-    }
-}
-
 #[test]
 fn standard_times(rt: HostRuntime) {
     let machine = Machine::standard();
     for &(micros, orders) in &TIMES {
-        expect_times(&rt, &machine, micros, orders);
+        for &order in orders {
+            expect_same(&rt, &(order, machine.time_of(order)), &(order, micros));
+        }
     }
+    expect_same(&rt, &machine.times.table()[9], &73);
 }
 
 /// An address, its position among the input registers, and its position among the output registers.
@@ -70,52 +63,29 @@ const FOUND: [(u16, Option<usize>, Option<usize>); 14] = [
     (0o6200, None, Some(6)),
 ];
 
-/// Expects at which position of the inputs and of the outputs an address is found.
-fn expect_found(
-    rt: &impl Abort,
-    ports: &Ports,
-    address: u16,
-    input: Option<usize>,
-    output: Option<usize>,
-) {
-    expect_same(
-        rt,
-        &(ports.find_input(address), ports.find_output(address)),
-        &(input, output),
-    );
-}
-
 #[test]
 fn standard_registers_are_found(rt: HostRuntime) {
-    let ports = Machine::standard().ports;
+    let machine = Machine::standard();
+    let ports = &machine.ports;
     expect_same(&rt, &(ports.inputs().len(), ports.outputs().len()), &(7, 7));
     for &(address, input, output) in &FOUND {
-        expect_found(&rt, &ports, address, input, output);
+        expect_same(
+            &rt,
+            &(
+                address,
+                ports.find_input(address),
+                ports.find_output(address),
+            ),
+            &(address, input, output),
+        );
     }
-}
-
-/// Whether the position of an input register's address is of one that gives each word once.
-fn is_once_at(ports: &Ports, address: u16) -> bool {
-    match ports.find_input(address) {
-        Some(position) => ports.is_once(position),
-        None => false,
-    }
-}
-
-#[test]
-fn panel_register_gives_each_word_once(rt: HostRuntime) {
-    let ports = Machine::standard().ports;
+    // the panel's register gives each word once
     for port in ports.inputs() {
         expect_same(&rt, &port.once, &(port.address == 0o2200));
     }
-    assert!(rt; is_once_at(&ports, 0o2200));
-}
-
-#[test]
-fn standard_tables(rt: HostRuntime) {
-    let machine = Machine::standard();
+    let panel = ports.find_input(0o2200).expect(&rt, "the panel's register");
+    assert!(rt; ports.is_once(panel));
     expect_same(&rt, &machine.codes, &Codes::standard());
-    expect_same(&rt, &machine.times.table()[9], &73);
     expect_same(&rt, &(machine.deda_in, machine.deda_out), &(0o2200, 0o6200));
 }
 
@@ -134,12 +104,14 @@ fn held_ports(rt: &impl Abort, alloc: Global, addresses: &[u16]) -> Vec<Port> {
 
 /// Expects whether registers of these addresses make tables.
 fn expect_ports(rt: &impl Abort, alloc: Global, inputs: &[u16], outputs: &[u16], made: bool) {
-    let inputs = held_ports(rt, alloc, inputs);
-    let outputs = held_ports(rt, alloc, outputs);
+    let ports = Ports::of(
+        &held_ports(rt, alloc, inputs),
+        &held_ports(rt, alloc, outputs),
+    );
     expect_same(
         rt,
-        &Ports::of(inputs.as_slice(), outputs.as_slice()).is_some(),
-        &made,
+        &(inputs, outputs, ports.is_some()),
+        &(inputs, outputs, made),
     );
 }
 
@@ -167,35 +139,15 @@ fn ends_of_registers(rt: HostRuntime) {
     }
 }
 
-/// Expects the time of TSQ in a table where all other orders take 1 microsecond, if there is such a table.
-fn expect_time(rt: &impl Abort, micros: u32, wanted: Option<u32>) {
-    let mut times = [1; 27];
-    times[26] = micros;
-    expect_same(
-        rt,
-        &Times::of(&times).map(|table| table.time_of(Order::Tsq)),
-        &wanted,
-    );
-}
+/// A time of TSQ in a table where all other orders take 1 microsecond, and whether there is such a table.
+const TSQ_TIMES: [(u32, bool); 3] = [(1000, true), (1001, false), (0, false)];
 
 #[test]
 fn ends_of_times(rt: HostRuntime) {
-    expect_time(&rt, 1000, Some(1000));
-    expect_time(&rt, 1001, None);
-    expect_time(&rt, 0, None);
-}
-
-/// That a step reports the location before it.
-struct ReportsLocation;
-
-impl StepFact for ReportsLocation {
-    ghost use Rattle.std.specs.Prelude.{◌≡◌};
-
-    ghost holds = { λ before event moment. moment.report.location ≡ before.location };
-}
-
-#[test]
-fn laws_of_runs_at_a_fact(_rt: HostRuntime) {
-    run_is_a_step_at_each_event::<ReportsLocation>();
-    steps_of_a_run_are_those_of_its_parts::<ReportsLocation>();
+    for &(micros, made) in &TSQ_TIMES {
+        let mut times = [1; 27];
+        times[26] = micros;
+        let told = Times::of(&times).map(|table| table.time_of(Order::Tsq));
+        expect_same(&rt, &told, &if made { Some(micros) } else { None });
+    }
 }

@@ -200,129 +200,134 @@ fn row(rt: &impl Abort, alloc: Global) -> Row<Value> {
     .expect(rt, "the parts of a row")
 }
 
-/// The limits of `guard`.
-fn guard_limits(rt: &impl Abort, alloc: Global) -> Limits<Value> {
+/// A certificate that starts at 4000 octal, with 0 to 9 at the input register 2001 octal, 0 to 22 at 2200, and 5 to 7 in the
+/// cell 17 octal at the start.
+fn guard(rt: &impl Abort, alloc: Global) -> Cert {
     let mut limits: Limits<Value> = Limits::new(alloc).expect(rt, "memory for limits");
     limits.set_input(0o2001, value(rt, 0, 9));
     limits.set_input(0o2200, value(rt, 0, 22));
-    limits
-}
-
-/// What `guard` says of the start.
-fn guard_start(rt: &impl Abort, alloc: Global) -> Vec<Option<Value>> {
     let mut init: Vec<Option<Value>> = vec![in alloc; None; 2048].expect(
         rt,
         "memory for the start",
     );
     init[0o17] = Some(value(rt, 5, 7));
-    init
-}
-
-/// A certificate that starts at 4000 octal, with 0 to 9 at the input register 2001 octal, 0 to 22 at 2200, and 5 to 7 in the
-/// cell 17 octal at the start.
-fn guard(rt: &impl Abort, alloc: Global) -> Cert {
     let mut rows = Vec::new(alloc);
     assert!(rt; rows.push(row(rt, alloc)).is_ok());
     let parts = CertParts {
         start: 0o4000,
-        limits: guard_limits(rt, alloc),
-        init: guard_start(rt, alloc),
+        limits,
+        init,
         rows,
     };
     let made = Cert::of(alloc, parts).expect(rt, "memory for a certificate");
     made.expect(rt, "the parts of a certificate")
 }
 
-/// Plays a script under the guard, where the cell 4000 octal is assembled with a jump to itself, and looks that it shows one output
-/// register and ends so.
-fn expect_guarded(
-    rt: &impl Abort,
-    alloc: Global,
-    cert: &Cert,
-    script: &str,
-    wanted: Result<Played, PlayError>,
-) {
-    let text = "OUT 6001 000000\n";
-    expect_play(
-        rt,
-        alloc,
-        &[(0o4000, 0o404000)],
-        script,
-        Some(cert),
-        text,
-        wanted,
-    );
+/// How a play under the guard ends.
+#[derive(Clone, Copy)]
+enum Ending {
+    /// So many steps and puts are counted.
+    Played(u64, u64),
+    /// A register is put a word outside its limit.
+    Input(u16, u32),
+    /// The script starts elsewhere than the certificate.
+    Place(u16, u16),
+    /// A cell or a register has a word at the start that the certificate doesn't allow.
+    Cell(u16, u32),
+    Port(u16, u32),
 }
 
-/// The error at a register that is put a word outside its limit.
-fn out_of_limit(rt: &impl Abort, address: u16, number: u32) -> Result<Played, PlayError> {
-    Err(PlayError::InputRange {
-        address,
-        word: word(rt, number),
-    })
-}
-
-#[test]
-fn guard_stops_words(rt: HostRuntime) {
-    let alloc = rt.alloc();
-    let cert = guard(&rt, alloc);
-    let script = "CELL 0017 000006\nSET 2001 000011\nSHOW OUT 6001\nSET 2002 777777\nSTEP 3\n";
-    expect_guarded(&rt, alloc, &cert, script, Ok(Played { steps: 3, puts: 2 }));
-    let script = "CELL 0017 000006\nSHOW OUT 6001\nSET 2001 000012\nSHOW OUT 6001\n";
-    expect_guarded(&rt, alloc, &cert, script, out_of_limit(&rt, 0o2001, 10));
-    let script =
-        "CELL 0017 000006\nKEY CLR 0 4 7 RO\nFEED\nFEED\nSHOW OUT 6001\nFEED\nSHOW OUT 6001\n";
-    expect_guarded(&rt, alloc, &cert, script, out_of_limit(&rt, 0o2200, 0o27));
-}
-
-/// Plays a script under the guard, where the cell 21 octal is assembled with 2, and looks that it shows nothing and stops at that
-/// start.
-fn expect_outside(rt: &impl Abort, alloc: Global, cert: &Cert, script: &str, outside: Outside) {
-    let wanted = Err(PlayError::StartOutside(outside));
-    expect_play(
-        rt,
-        alloc,
-        &[(0o21, 0o000002)],
-        script,
-        Some(cert),
-        "",
-        wanted,
-    );
-}
-
-/// The cell at an address that has a word at the start.
-fn cell(rt: &impl Abort, address: u16, number: u32) -> Outside {
-    Outside::Cell {
-        address,
-        word: word(rt, number),
-    }
-}
-
-/// The register at an address that has a word at the start.
-fn register(rt: &impl Abort, address: u16, number: u32) -> Outside {
-    Outside::Port {
-        address,
-        word: word(rt, number),
-    }
-}
-
-#[test]
-fn guard_stops_starts(rt: HostRuntime) {
-    let alloc = rt.alloc();
-    let cert = guard(&rt, alloc);
-    let elsewhere = Outside::Place {
-        script: 0o4001,
-        cert: 0o4000,
+/// The answer of a play that ends so.
+fn answer_of(rt: &impl Abort, ending: Ending) -> Result<Played, PlayError> {
+    let outside = match ending {
+        Ending::Played(steps, puts) => return Ok(Played { steps, puts }),
+        Ending::Input(address, number) => {
+            return Err(PlayError::InputRange {
+                address,
+                word: word(rt, number),
+            });
+        }
+        Ending::Place(script, cert) => Outside::Place { script, cert },
+        Ending::Cell(address, number) => Outside::Cell {
+            address,
+            word: word(rt, number),
+        },
+        Ending::Port(address, number) => Outside::Port {
+            address,
+            word: word(rt, number),
+        },
     };
-    expect_outside(&rt, alloc, &cert, "START 4001\nSHOW REG\n", elsewhere);
-    let script = "CELL 0017 000010\nCELL 0020 000001\nSHOW REG\n";
-    expect_outside(&rt, alloc, &cert, script, cell(&rt, 0o17, 8));
-    let script = "PORT 2001 000012\nCELL 0017 000005\nCELL 0020 000001\nSHOW REG\n";
-    expect_outside(&rt, alloc, &cert, script, cell(&rt, 0o20, 1));
-    let script = "CELL 0017 000007\nCELL 0021 000003\nSHOW REG\n";
-    expect_outside(&rt, alloc, &cert, script, cell(&rt, 0o21, 3));
-    let script = "CELL 0017 000005\nPORT 2200 000027\nPORT 2001 000012\nSHOW REG\n";
-    expect_outside(&rt, alloc, &cert, script, register(&rt, 0o2001, 10));
+    Err(PlayError::StartOutside(outside))
+}
+
+/// TRA 4000, a jump to itself.
+const JUMPS: &[(u16, u32)] = &[(0o4000, 0o404000)];
+
+/// The word 2.
+const TWO: &[(u16, u32)] = &[(0o21, 0o000002)];
+
+/// The words in the cells, a script, what it prints under the guard, and how it ends.
+const GUARDED: [(&[(u16, u32)], &str, &str, Ending); 8] = [
+    // words are stopped
+    (
+        JUMPS,
+        "CELL 0017 000006\nSET 2001 000011\nSHOW OUT 6001\nSET 2002 777777\nSTEP 3\n",
+        "OUT 6001 000000\n",
+        Ending::Played(3, 2),
+    ),
+    (
+        JUMPS,
+        "CELL 0017 000006\nSHOW OUT 6001\nSET 2001 000012\nSHOW OUT 6001\n",
+        "OUT 6001 000000\n",
+        Ending::Input(0o2001, 10),
+    ),
+    (
+        JUMPS,
+        "CELL 0017 000006\nKEY CLR 0 4 7 RO\nFEED\nFEED\nSHOW OUT 6001\nFEED\nSHOW OUT 6001\n",
+        "OUT 6001 000000\n",
+        Ending::Input(0o2200, 0o27),
+    ),
+    // starts are stopped
+    (
+        TWO,
+        "START 4001\nSHOW REG\n",
+        "",
+        Ending::Place(0o4001, 0o4000),
+    ),
+    (
+        TWO,
+        "CELL 0017 000010\nCELL 0020 000001\nSHOW REG\n",
+        "",
+        Ending::Cell(0o17, 8),
+    ),
+    (
+        TWO,
+        "PORT 2001 000012\nCELL 0017 000005\nCELL 0020 000001\nSHOW REG\n",
+        "",
+        Ending::Cell(0o20, 1),
+    ),
+    (
+        TWO,
+        "CELL 0017 000007\nCELL 0021 000003\nSHOW REG\n",
+        "",
+        Ending::Cell(0o21, 3),
+    ),
+    (
+        TWO,
+        "CELL 0017 000005\nPORT 2200 000027\nPORT 2001 000012\nSHOW REG\n",
+        "",
+        Ending::Port(0o2001, 10),
+    ),
+];
+
+#[test]
+fn guard_stops_words_and_starts(rt: HostRuntime) {
+    let alloc = rt.alloc();
+    let cert = guard(&rt, alloc);
+    for &(cells, script, text, ending) in &GUARDED {
+        let wanted = answer_of(&rt, ending);
+        expect_play(&rt, alloc, cells, script, Some(&cert), text, wanted);
+    }
 }
 
 /// Plays a script of two lines that are shown into a sink that fails at a put, and looks at the answer.
@@ -335,11 +340,16 @@ fn expect_fault_at(rt: &impl Abort, alloc: Global, at: u64, wanted: Result<Playe
     expect_same(rt, &(at, answer), &(at, wanted));
 }
 
-// Each line is put as one piece, so that the two lines take two puts.
+/// The put that fails, and the answer: each line is put as one piece, so that the two lines take two puts.
+const FAULTS: [(u64, Result<Played, PlayError>); 3] = [
+    (1, Err(PlayError::WriteFault)),
+    (2, Err(PlayError::WriteFault)),
+    (3, Ok(Played { steps: 1, puts: 0 })),
+];
+
 #[test]
 fn fault_in_mid_script_is_told(rt: HostRuntime) {
-    let alloc = rt.alloc();
-    expect_fault_at(&rt, alloc, 1, Err(PlayError::WriteFault));
-    expect_fault_at(&rt, alloc, 2, Err(PlayError::WriteFault));
-    expect_fault_at(&rt, alloc, 3, Ok(Played { steps: 1, puts: 0 }));
+    for &(at, wanted) in &FAULTS {
+        expect_fault_at(&rt, rt.alloc(), at, wanted);
+    }
 }

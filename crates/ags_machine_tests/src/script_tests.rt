@@ -3,17 +3,35 @@
 use crate::common::{expect_same, word};
 use ags_deda::Key;
 use ags_ports::Machine;
-use ags_script::{Command, Script, ScriptError, ScriptKind, laws, read};
+use ags_script::{Command, Script, ScriptError, ScriptKind, read};
 use std::alloc::Global;
 use std::process::Abort;
 
-/// The script of a text without a fault.
-fn script_of(rt: &impl Abort, alloc: Global, text: &[u8]) -> Script {
-    assert!(rt; text.len() <= 4_194_304);
-    read(alloc, text, &Machine::standard())
-        .ok()
-        .expect(rt, "a script without a fault")
-}
+/// The keys of a readout.
+const READOUT: [Command; 5] = [
+    Command::Press(Key::Clr),
+    Command::Press(Key::Digit(0)),
+    Command::Press(Key::Digit(4)),
+    Command::Press(Key::Digit(7)),
+    Command::Press(Key::ReadOut),
+];
+
+/// The other keys.
+const OTHER_KEYS: [Command; 5] = [
+    Command::Press(Key::Plus),
+    Command::Press(Key::Minus),
+    Command::Press(Key::Digit(9)),
+    Command::Press(Key::Hold),
+    Command::Press(Key::Entr),
+];
+
+/// What is shown.
+const SHOWS: [Command; 4] = [
+    Command::ShowReg,
+    Command::ShowCell(0o7777),
+    Command::ShowOut(0o6200),
+    Command::ShowDeda,
+];
 
 /// Whether the commands of a script are these.
 fn are_commands(script: &Script, wanted: &[Command]) -> bool {
@@ -25,121 +43,79 @@ fn are_commands(script: &Script, wanted: &[Command]) -> bool {
     script.len() == wanted.len()
 }
 
-/// Compares the commands of each script with those that are wanted.
-fn expect_scripts(rt: &impl Abort, alloc: Global, rows: &[(&[u8], &[Command])]) {
-    for (row, (text, wanted)) in rows.iter().enumerate() {
-        assert!(rt;
-            are_commands(&script_of(rt, alloc, text), wanted),
-            "row {row}"
-        );
-    }
+/// Expects these commands of a script.
+fn expect_commands(rt: &impl Abort, alloc: Global, text: &[u8], wanted: &[Command]) {
+    assert!(rt; text.len() <= 4_194_304);
+    let script = read(alloc, text, &Machine::standard())
+        .ok()
+        .expect(rt, "a script without a fault");
+    expect_same(rt, &(text, are_commands(&script, wanted)), &(text, true));
 }
 
-/// How many commands a script has, or its first fault.
-fn answer(
+#[test]
+fn words_and_steps_are_read(rt: HostRuntime) {
+    let alloc = rt.alloc();
+    let word = word(&rt, 0o1750);
+    let text = b"PORT 2001 001750\nSTART 0017\nCELL 3777 001750\n# STEP\nSTEP 000000012\nCYCLE 0\n";
+    let wanted = [
+        Command::Port {
+            address: 0o2001,
+            word,
+        },
+        Command::Start(0o17),
+        Command::Cell {
+            address: 0o3777,
+            word,
+        },
+        Command::Step(12),
+        Command::Cycle(0),
+    ];
+    expect_commands(&rt, alloc, text, &wanted);
+    let wanted = [Command::Set {
+        address: 0o2200,
+        word,
+    }];
+    expect_commands(&rt, alloc, b"SET 2200 001750\n", &wanted);
+    let wanted = [Command::Cycle(5000), Command::Step(0)];
+    expect_commands(&rt, alloc, b"CYCLE 5000\nSTEP 0\n", &wanted);
+    let wanted = [Command::Step(100_000_000)];
+    expect_commands(&rt, alloc, b"STEP 100000000", &wanted);
+}
+
+#[test]
+fn keys_pulses_and_shows_are_read(rt: HostRuntime) {
+    let alloc = rt.alloc();
+    expect_commands(&rt, alloc, b"KEY CLR 0 4 7 RO\n", &READOUT);
+    let text = b"\tKEY \t+ -\r\nKEY 9 HOLD ENTR";
+    expect_commands(&rt, alloc, text, &OTHER_KEYS);
+    let pulses = [Command::Pulse, Command::Feed];
+    expect_commands(&rt, alloc, b"PULSE\nFEED \n", &pulses);
+    let text = b"SHOW REG\nSHOW CELL 7777\nSHOW OUT 6200\nSHOW DEDA\n";
+    expect_commands(&rt, alloc, text, &SHOWS);
+    // lines that do nothing
+    expect_commands(&rt, alloc, b"\n \t\n\r\n#\x00\xff\n", &[]);
+    expect_commands(&rt, alloc, &[b' '; 512], &[]);
+}
+
+/// Expects the line and the kind of the first fault of a script for a machine.
+fn expect_fault(
     rt: &impl Abort,
     alloc: Global,
     text: &[u8],
     machine: &Machine,
-) -> Result<usize, ScriptError> {
+    line: u32,
+    kind: ScriptKind,
+) {
     assert!(rt; text.len() <= 4_194_304);
-    read(alloc, text, machine).map(|script| script.len())
-}
-
-/// Compares the first fault of a script with the line and the kind that are wanted.
-fn expect_fault(rt: &impl Abort, alloc: Global, text: &[u8], line: u32, kind: ScriptKind) {
-    let told = answer(rt, alloc, text, &Machine::standard());
+    let told = match read(alloc, text, machine) {
+        Ok(script) => Ok(script.len()),
+        Err(error) => Err(error),
+    };
     expect_same(
         rt,
         &(text, told),
         &(text, Err(ScriptError::At { line, kind })),
     );
-}
-
-#[test]
-fn words_and_steps_are_read(rt: HostRuntime) {
-    let word = word(&rt, 0o1750);
-    let rows: [(&[u8], &[Command]); 4] = [
-        (
-            b"PORT 2001 001750\nSTART 0017\nCELL 3777 001750\n# STEP\nSTEP 000000012\nCYCLE 0\n",
-            &[
-                Command::Port {
-                    address: 0o2001,
-                    word,
-                },
-                Command::Start(0o17),
-                Command::Cell {
-                    address: 0o3777,
-                    word,
-                },
-                Command::Step(12),
-                Command::Cycle(0),
-            ],
-        ),
-        (
-            b"SET 2200 001750\n",
-            &[Command::Set {
-                address: 0o2200,
-                word,
-            }],
-        ),
-        (
-            b"CYCLE 5000\nSTEP 0\n",
-            &[Command::Cycle(5000), Command::Step(0)],
-        ),
-        (b"STEP 100000000", &[Command::Step(100_000_000)]),
-    ];
-    expect_scripts(&rt, rt.alloc(), &rows);
-}
-
-#[test]
-fn keys_are_read(rt: HostRuntime) {
-    let rows: [(&[u8], &[Command]); 2] = [
-        (
-            b"KEY CLR 0 4 7 RO\n",
-            &[
-                Command::Press(Key::Clr),
-                Command::Press(Key::Digit(0)),
-                Command::Press(Key::Digit(4)),
-                Command::Press(Key::Digit(7)),
-                Command::Press(Key::ReadOut),
-            ],
-        ),
-        (
-            b"\tKEY \t+ -\r\nKEY 9 HOLD ENTR",
-            &[
-                Command::Press(Key::Plus),
-                Command::Press(Key::Minus),
-                Command::Press(Key::Digit(9)),
-                Command::Press(Key::Hold),
-                Command::Press(Key::Entr),
-            ],
-        ),
-    ];
-    expect_scripts(&rt, rt.alloc(), &rows);
-}
-
-#[test]
-fn pulses_and_shows_are_read(rt: HostRuntime) {
-    let rows: [(&[u8], &[Command]); 2] = [
-        (b"PULSE\nFEED \n", &[Command::Pulse, Command::Feed]),
-        (
-            b"SHOW REG\nSHOW CELL 7777\nSHOW OUT 6200\nSHOW DEDA\n",
-            &[
-                Command::ShowReg,
-                Command::ShowCell(0o7777),
-                Command::ShowOut(0o6200),
-                Command::ShowDeda,
-            ],
-        ),
-    ];
-    expect_scripts(&rt, rt.alloc(), &rows);
-}
-
-#[test]
-fn lines_that_do_nothing_are_skipped(rt: HostRuntime) {
-    let rows: [(&[u8], &[Command]); 2] = [(b"\n \t\n\r\n#\x00\xff\n", &[]), (&[b' '; 512], &[])];
-    expect_scripts(&rt, rt.alloc(), &rows);
 }
 
 /// Scripts, each with the line and the kind of its first fault.
@@ -167,15 +143,8 @@ const FAULTS: [(&[u8], u32, ScriptKind); 14] = [
     (b"SHOW REG\nPORT 2001 000000", 2, ScriptKind::BadLine),
 ];
 
-#[test]
-fn first_faults_are_told(rt: HostRuntime) {
-    for &(text, line, kind) in &FAULTS {
-        expect_fault(&rt, rt.alloc(), text, line, kind);
-    }
-}
-
 /// Lines that are malformed where they stand alone.
-const MALFORMED: [&[u8]; 22] = [
+const MALFORMED: [&[u8]; 24] = [
     b"STEP",
     b"CELL 4000 000000",
     b"CELL 0000",
@@ -198,32 +167,32 @@ const MALFORMED: [&[u8]; 22] = [
     b"SHOW deda",
     b" # STEP 1",
     b"step 1",
+    &[b' '; 513],
+    &[b'#'; 513],
 ];
 
 #[test]
-fn lines_of_no_form_are_malformed(rt: HostRuntime) {
-    for line in &MALFORMED {
-        expect_fault(&rt, rt.alloc(), line, 1, ScriptKind::BadLine);
+fn first_faults_are_told(rt: HostRuntime) {
+    let machine = Machine::standard();
+    for &(text, line, kind) in &FAULTS {
+        expect_fault(&rt, rt.alloc(), text, &machine, line, kind);
     }
-}
-
-#[test]
-fn long_lines_are_malformed(rt: HostRuntime) {
-    expect_fault(&rt, rt.alloc(), &[b' '; 513], 1, ScriptKind::BadLine);
-    expect_fault(&rt, rt.alloc(), &[b'#'; 513], 1, ScriptKind::BadLine);
-}
-
-#[test]
-fn panel_must_be_connected(rt: HostRuntime) {
-    let machine = Machine {
+    for &line in &MALFORMED {
+        expect_fault(&rt, rt.alloc(), line, &machine, 1, ScriptKind::BadLine);
+    }
+    // the panel has to be connected
+    let other = Machine {
         deda_in: 0o2003,
-        ..Machine::standard()
+        ..machine
     };
-    let wanted = ScriptError::At {
-        line: 2,
-        kind: ScriptKind::NoPort,
-    };
-    assert!(rt; answer(&rt, rt.alloc(), b"PULSE\nFEED", &machine) == Err(wanted));
+    expect_fault(
+        &rt,
+        rt.alloc(),
+        b"PULSE\nFEED",
+        &other,
+        2,
+        ScriptKind::NoPort,
+    );
 }
 
 /// Compares the line of an error with the one that is wanted.
@@ -250,11 +219,4 @@ fn faults_are_printed(rt: HostRuntime) {
         expect_printed(&rt, alloc, ScriptError::At { line, kind }, printed);
     }
     expect_printed(&rt, alloc, ScriptError::NoMemory, "");
-}
-
-#[test]
-fn laws_can_be_called() {
-    laws::lines_spell_what_is_read();
-    laws::script_means_one_thing();
-    laws::scripts_suit_their_machine();
 }

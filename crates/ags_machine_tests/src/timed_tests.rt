@@ -6,7 +6,7 @@ use crate::common::{expect_same, word};
 use ags_core::Core;
 use ags_image::Image;
 use ags_ports::{Done, Machine, Phase};
-use ags_timed::{Watcher, laws, run_for};
+use ags_timed::{Watcher, run_for};
 use std::alloc::Global;
 use std::process::Abort;
 
@@ -59,11 +59,6 @@ fn started(rt: &impl Abort, alloc: Global, machine: &Machine, number: u32) -> Co
     Core::new(alloc, machine, &image, START).expect(rt, "memory for a core")
 }
 
-/// Expects in which phase and where a core is.
-fn expect_state(rt: &impl Abort, core: &Core, phase: Phase, location: u16) {
-    expect_same(rt, &(core.phase(), core.location()), &(phase, location));
-}
-
 /// Runs from a core with just a word for some microseconds, and looks at what the row says of it.
 fn expect_run(rt: &impl Abort, alloc: Global, machine: &Machine, row: &Timed) {
     let (number, micros, steps, ran, spent, phase, location) = *row;
@@ -75,13 +70,18 @@ fn expect_run(rt: &impl Abort, alloc: Global, machine: &Machine, row: &Timed) {
         last: 0,
     };
     let told = run_for(&mut core, machine, micros, &mut watcher);
+    assert!(rt; steps == 0 || watcher.last == START);
     expect_same(
         rt,
-        &(watcher.steps, watcher.ran, told),
-        &(steps, ran, spent),
+        &(
+            watcher.steps,
+            watcher.ran,
+            told,
+            core.phase(),
+            core.location(),
+        ),
+        &(steps, ran, spent, phase, location),
     );
-    assert!(rt; steps == 0 || watcher.last == START);
-    expect_state(rt, &core, phase, location);
 }
 
 #[test]
@@ -90,9 +90,4 @@ fn timed_runs(rt: HostRuntime) {
     for row in &TIMED {
         expect_run(&rt, rt.alloc(), &machine, row);
     }
-}
-
-#[test]
-fn laws_can_be_called() {
-    laws::each_state_has_one_timed_run();
 }
