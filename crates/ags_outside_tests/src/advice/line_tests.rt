@@ -1,5 +1,5 @@
 //! What is said of each line that tells how a run ended: one row a kind, in tables of a few rows, since the proof of a test grows with
-//! the table that it reads, and faster than that.
+//! the table that it reads.
 
 use crate::advice::common::{SEEN, expect_said};
 use ags_advice::{Program, Seen};
@@ -17,8 +17,8 @@ fn expect_lines(rt: &impl Abort, alloc: Global, program: Program, rows: &[Row]) 
     }
 }
 
-/// Faults of a source.
-const SOURCE: [Row; 16] = [
+/// Faults of a source, the first eight kinds.
+const SOURCE_1: [Row; 8] = [
     (
         "SOURCE CARD 0000029 ERROR 1 BadByte\n",
         "F:29: BadByte: a card, a comment too, has tabs and the characters from the space to the tilde, and no other byte",
@@ -51,6 +51,15 @@ const SOURCE: [Row; 16] = [
         "SOURCE CARD 0000036 ERROR 8 BadDecimal\n",
         "F:36: BadDecimal: a number of DEC is as -1.5E2B10: 1 to 10 digits, E and B or none, net power of ten -12 to 12, scale -30 to 60; no blank stands after a comma",
     ),
+];
+
+#[test]
+fn source_1_lines_say_what_is_wanted(rt: HostRuntime) {
+    expect_lines(&rt, rt.alloc(), Program::Ags, &SOURCE_1);
+}
+
+/// Faults of a source, the other kinds.
+const SOURCE_2: [Row; 8] = [
     (
         "SOURCE CARD 0000037 ERROR 9 BadOctal\n",
         "F:37: BadOctal: each number of OCT is an optional sign and 1 to 6 octal digits, with a comma between each two",
@@ -86,12 +95,12 @@ const SOURCE: [Row; 16] = [
 ];
 
 #[test]
-fn source_lines_say_what_is_wanted(rt: HostRuntime) {
-    expect_lines(&rt, rt.alloc(), Program::Ags, &SOURCE);
+fn source_2_lines_say_what_is_wanted(rt: HostRuntime) {
+    expect_lines(&rt, rt.alloc(), Program::Ags, &SOURCE_2);
 }
 
-/// Faults of a certificate, and its first line; and the same of a text of edits.
-const CERTIFICATE: [Row; 17] = [
+/// Faults of a certificate, the first kinds.
+const CERTIFICATE_1: [Row; 5] = [
     (
         "CERTIFICATE LINE 7 ERROR 1 BadLine\n",
         "F:7: BadLine: in capitals and in this order come START p, CELL c value, INIT c value, IN p value, OUT p value, MAY p, then ROW p A value Q value X digits V digits with AT c value and in version 2 LINK c k after it, and END last; a value is ANY, RANGE n m or WORDS w .. with 1 to 16 w that ascend; the digits ascend without blanks; p and c have 4 octal digits, w has 6, n and m are decimal, -131072 to 131071, k -262143 to 262143; c is erasable, IN and OUT name registers; a comment has # in column 1; a line has at most 512 bytes",
@@ -112,6 +121,15 @@ const CERTIFICATE: [Row; 17] = [
         "CERTIFICATE LINE 11 ERROR 5 OutsideGlobal\n",
         "F:11: OutsideGlobal: each word that INIT or AT states of a cell is one of its CELL line: narrow the one, or widen the other",
     ),
+];
+
+#[test]
+fn certificate_1_lines_say_what_is_wanted(rt: HostRuntime) {
+    expect_lines(&rt, rt.alloc(), Program::Ags, &CERTIFICATE_1);
+}
+
+/// Faults of a certificate, the other kinds, and its first line.
+const CERTIFICATE_2: [Row; 5] = [
     (
         "CERTIFICATE LINE 12 ERROR 6 NoZero\n",
         "F:12: NoZero: an input register that holds its word once is 0 when it was read, so the value of its IN line holds 0",
@@ -132,7 +150,106 @@ const CERTIFICATE: [Row; 17] = [
         "CERTIFICATE LINE 1 ERROR 1 BadLine\n",
         "F:1: BadLine: this is read as a certificate, whose line 1 is AGSCERT 1 or AGSCERT 2",
     ),
-    // of a text of edits
+];
+
+#[test]
+fn certificate_2_lines_say_what_is_wanted(rt: HostRuntime) {
+    expect_lines(&rt, rt.alloc(), Program::Ags, &CERTIFICATE_2);
+}
+
+/// Faults of a listing and of a script.
+const TEXT: [Row; 5] = [
+    (
+        "LISTING LINE 7 ERROR 1 BadLine\n",
+        "F:7: BadLine: columns 1-7 are digits, 9-12 and 14-19 octal digits in both or spaces in both, 8, 13 and 20 spaces",
+    ),
+    (
+        "LISTING LINE 8 ERROR 2 PlaceTwice 4000\n",
+        "F:8: PlaceTwice 4000: a place has a word in one line of a listing alone",
+    ),
+    (
+        "SCRIPT LINE 7 ERROR 1 BadLine\n",
+        "F:7: BadLine: this is read as a script: START p once, CELL c w and PORT p w come first, then STEP n, PULSE, SET p w, KEY k .., FEED, CYCLE n, SHOW REG, SHOW CELL c, SHOW OUT p and SHOW DEDA; p and c have 4 octal digits, w has 6, n is decimal, of 1 to 9 digits, k is 0 to 9, +, -, CLR, ENTR, RO or HOLD; the c of CELL is 0000 to 3777; a comment has # in column 1",
+    ),
+    (
+        "SCRIPT LINE 8 ERROR 2 NoPort\n",
+        "F:8: NoPort: PORT and SET name an input register of the machine, SHOW OUT an output one, and FEED needs the panel's; docs/MACHINE.md, Registers, has their addresses",
+    ),
+    (
+        "SCRIPT LINE 9 ERROR 3 TooManySteps\n",
+        "F:9: TooManySteps: the counts of all STEP lines, and 20,000 times those of all CYCLE lines, come to at most 100,000,000",
+    ),
+];
+
+#[test]
+fn text_lines_say_what_is_wanted(rt: HostRuntime) {
+    expect_lines(&rt, rt.alloc(), Program::Ags, &TEXT);
+}
+
+/// Faults of a text of times, and of one of scales.
+const TIMES_AND_SCALES_1: [Row; 6] = [
+    (
+        "TIMES LINE 7 ERROR 1 BadLine\n",
+        "F:7: BadLine: a line is TIME r n, both of 1 to 5 digits, and END is last",
+    ),
+    (
+        "TIMES LINE 8 ERROR 2 Version\n",
+        "F:8: Version: line 1 is AGSTIME 1, and there is no other version",
+    ),
+    (
+        "TIMES LINE 9 ERROR 3 Twice\n",
+        "F:9: Twice: a row has one TIME line at most",
+    ),
+    (
+        "TIMES LINE 10 ERROR 4 NoRow\n",
+        "F:10: NoRow: the r of TIME r n is the number of a row of the certificate, counted from 1",
+    ),
+    (
+        "TIMES LINE 11 ERROR 5 TimeRange\n",
+        "F:11: TimeRange: the n of TIME r n, a row's bound, is 1 to 20,000 microseconds",
+    ),
+    (
+        "SCALES LINE 7 ERROR 1 BadLine\n",
+        "F:7: BadLine: a line is CELL c n, IN p n, OUT p n or ROW r a q, and END is last; c and p have 4 octal digits, n is -128 to 127, a and q are ANY, RAW or as n; IN and OUT name registers",
+    ),
+];
+
+#[test]
+fn times_and_scales_1_lines_say_what_is_wanted(rt: HostRuntime) {
+    expect_lines(&rt, rt.alloc(), Program::Ags, &TIMES_AND_SCALES_1);
+}
+
+/// The same, further kinds, and their first lines.
+const TIMES_AND_SCALES_2: [Row; 5] = [
+    (
+        "SCALES LINE 8 ERROR 2 Version\n",
+        "F:8: Version: line 1 is AGSSCALE 1, and there is no other version",
+    ),
+    (
+        "SCALES LINE 9 ERROR 3 Twice\n",
+        "F:9: Twice: an address stands in one line at most of each of CELL, IN and OUT, and a row in one ROW line",
+    ),
+    (
+        "SCALES LINE 10 ERROR 4 NoRow\n",
+        "F:10: NoRow: the r of ROW r a q is the number of a row of the certificate, counted from 1",
+    ),
+    (
+        "TIMES LINE 1 ERROR 1 BadLine\n",
+        "F:1: BadLine: this is read as a text of times, whose line 1 is AGSTIME 1",
+    ),
+    (
+        "SCALES LINE 1 ERROR 1 BadLine\n",
+        "F:1: BadLine: this is read as a text of scales, whose line 1 is AGSSCALE 1",
+    ),
+];
+
+#[test]
+fn times_and_scales_2_lines_say_what_is_wanted(rt: HostRuntime) {
+    expect_lines(&rt, rt.alloc(), Program::Ags, &TIMES_AND_SCALES_2);
+}
+
+/// Faults of a text of edits, and its first line.
+const EDITS: [Row; 7] = [
     (
         "EDITS LINE 7 ERROR 1 BadLine\n",
         "F:7: BadLine: a line is WORD p w, CELL c value or ROW r p A .. (the row's number, then its location), with its AT and LINK lines after it, and END is last; p has 4 octal digits, w has 6; CELL, AT and LINK name erasable cells",
@@ -164,87 +281,41 @@ const CERTIFICATE: [Row; 17] = [
 ];
 
 #[test]
-fn certificate_lines_say_what_is_wanted(rt: HostRuntime) {
-    expect_lines(&rt, rt.alloc(), Program::Ags, &CERTIFICATE);
+fn edits_lines_say_what_is_wanted(rt: HostRuntime) {
+    expect_lines(&rt, rt.alloc(), Program::Ags, &EDITS);
 }
 
-/// Faults of other texts.
-const TEXT: [Row; 16] = [
-    // of a listing and of a script
+/// Faults of a machine file.
+const MACHINE: [Row; 5] = [
     (
-        "LISTING LINE 7 ERROR 1 BadLine\n",
-        "F:7: BadLine: columns 1-7 are digits, 9-12 and 14-19 octal digits in both or spaces in both, 8, 13 and 20 spaces",
+        "MACHINE ERROR 1 NotToml\n",
+        "F: NotToml: a machine file is one TOML document in UTF-8, with texts in quotes and numbers as 1025 or 0o2001; an empty one gives the standard machine",
     ),
     (
-        "LISTING LINE 8 ERROR 2 PlaceTwice 4000\n",
-        "F:8: PlaceTwice 4000: a place has a word in one line of a listing alone",
+        "MACHINE ERROR 2 MissingKey codes.ADD\n",
+        "F: MissingKey codes.ADD: codes and times, where given, have all 27 orders by name; each entry of input and output has an address",
     ),
     (
-        "SCRIPT LINE 7 ERROR 1 BadLine\n",
-        "F:7: BadLine: this is read as a script: START p once, CELL c w and PORT p w come first, then STEP n, PULSE, SET p w, KEY k .., FEED, CYCLE n, SHOW REG, SHOW CELL c, SHOW OUT p and SHOW DEDA; p and c have 4 octal digits, w has 6, n is decimal, of 1 to 9 digits, k is 0 to 9, +, -, CLR, ENTR, RO or HOLD; the c of CELL is 0000 to 3777; a comment has # in column 1",
+        "MACHINE ERROR 3 BadValue input.3\n",
+        "F: BadValue input.3: codes are even, 0 to 62, times 1 to 1000, addresses 0 to 4095, all without quotes; once is true or false; input and output are at most 32 tables each",
     ),
     (
-        "SCRIPT LINE 8 ERROR 2 NoPort\n",
-        "F:8: NoPort: PORT and SET name an input register of the machine, SHOW OUT an output one, and FEED needs the panel's; docs/MACHINE.md, Registers, has their addresses",
+        "MACHINE ERROR 4 SameCode ADD SUB\n",
+        "F: SameCode ADD SUB: no two of the 27 orders have one code",
     ),
     (
-        "SCRIPT LINE 9 ERROR 3 TooManySteps\n",
-        "F:9: TooManySteps: the counts of all STEP lines, and 20,000 times those of all CYCLE lines, come to at most 100,000,000",
-    ),
-    // of a text of times and of one of scales, and their first lines
-    (
-        "TIMES LINE 7 ERROR 1 BadLine\n",
-        "F:7: BadLine: a line is TIME r n, both of 1 to 5 digits, and END is last",
-    ),
-    (
-        "TIMES LINE 8 ERROR 2 Version\n",
-        "F:8: Version: line 1 is AGSTIME 1, and there is no other version",
-    ),
-    (
-        "TIMES LINE 9 ERROR 3 Twice\n",
-        "F:9: Twice: a row has one TIME line at most",
-    ),
-    (
-        "TIMES LINE 10 ERROR 4 NoRow\n",
-        "F:10: NoRow: the r of TIME r n is the number of a row of the certificate, counted from 1",
-    ),
-    (
-        "TIMES LINE 11 ERROR 5 TimeRange\n",
-        "F:11: TimeRange: the n of TIME r n, a row's bound, is 1 to 20,000 microseconds",
-    ),
-    (
-        "SCALES LINE 7 ERROR 1 BadLine\n",
-        "F:7: BadLine: a line is CELL c n, IN p n, OUT p n or ROW r a q, and END is last; c and p have 4 octal digits, n is -128 to 127, a and q are ANY, RAW or as n; IN and OUT name registers",
-    ),
-    (
-        "SCALES LINE 8 ERROR 2 Version\n",
-        "F:8: Version: line 1 is AGSSCALE 1, and there is no other version",
-    ),
-    (
-        "SCALES LINE 9 ERROR 3 Twice\n",
-        "F:9: Twice: an address stands in one line at most of each of CELL, IN and OUT, and a row in one ROW line",
-    ),
-    (
-        "SCALES LINE 10 ERROR 4 NoRow\n",
-        "F:10: NoRow: the r of ROW r a q is the number of a row of the certificate, counted from 1",
-    ),
-    (
-        "TIMES LINE 1 ERROR 1 BadLine\n",
-        "F:1: BadLine: this is read as a text of times, whose line 1 is AGSTIME 1",
-    ),
-    (
-        "SCALES LINE 1 ERROR 1 BadLine\n",
-        "F:1: BadLine: this is read as a text of scales, whose line 1 is AGSSCALE 1",
+        "MACHINE ERROR 5 SamePort 2001\n",
+        "F: SamePort 2001: no two registers of one direction have one address; an input and an output register may",
     ),
 ];
 
 #[test]
-fn text_lines_say_what_is_wanted(rt: HostRuntime) {
-    expect_lines(&rt, rt.alloc(), Program::Ags, &TEXT);
+fn machine_lines_say_what_is_wanted(rt: HostRuntime) {
+    expect_lines(&rt, rt.alloc(), Program::Ags, &MACHINE);
 }
 
-/// Items of the verdict, and what comes of an edit.
-const VERDICT: [Row; 16] = [
+/// Items of the verdict, the first five.
+const REFUSAL_1: [Row; 5] = [
     (
         "REFUSED 1 InitRange 0017 000000\n",
         "C: InitRange 0017 000000: a cell begins as a word of its CELL line: widen that, mend the card, or write INIT where no card has a word there (docs/CHECKER.md, The verdict)",
@@ -265,6 +336,15 @@ const VERDICT: [Row; 16] = [
         "REFUSED 5 BadPort ROW 1 WORD 642003\n",
         "C: BadPort ROW 1 WORD 642003: INP names an input register of the machine, and OUT an output register; /2001 is octal, and 2001 decimal (docs/CHECKER.md, The verdict)",
     ),
+];
+
+#[test]
+fn refusal_1_lines_say_what_is_wanted(rt: HostRuntime) {
+    expect_lines(&rt, rt.alloc(), Program::Ags, &REFUSAL_1);
+}
+
+/// Items of the verdict, the other five.
+const REFUSAL_2: [Row; 5] = [
     (
         "REFUSED 6 FixedWrite ROW 1 WORD 304000 AT 4000\n",
         "C: FixedWrite ROW 1 WORD 304000 AT 4000: a store goes to an erasable cell, 0000 to 3777: mend the address, or allow fewer words of a cell that is run (docs/CHECKER.md, The verdict)",
@@ -285,7 +365,15 @@ const VERDICT: [Row; 16] = [
         "REFUSED 10 NotCovered ROW 4 WORD 400017 X 0 V 0 NEXT 0017\n",
         "C: NotCovered ROW 4 WORD 400017 X 0 V 0 NEXT 0017: a row at NEXT has to hold all that this order leaves, where X and V here are from before it: in A, Q, X, V and the cells of its AT lines, and its LINK; bin/ags-explain tells what is left (docs/CHECKER.md, The verdict)",
     ),
-    // of an edit
+];
+
+#[test]
+fn refusal_2_lines_say_what_is_wanted(rt: HostRuntime) {
+    expect_lines(&rt, rt.alloc(), Program::Ags, &REFUSAL_2);
+}
+
+/// What comes of an edit.
+const EDIT: [Row; 6] = [
     (
         "EDIT 3 NOTMADE 1 NoRow\n",
         "F: EDIT 3 NOTMADE 1 NoRow: the r of ROW r is the number of a row of the certificate, counted from 1",
@@ -313,34 +401,12 @@ const VERDICT: [Row; 16] = [
 ];
 
 #[test]
-fn verdict_lines_say_what_is_wanted(rt: HostRuntime) {
-    expect_lines(&rt, rt.alloc(), Program::Ags, &VERDICT);
+fn edit_lines_say_what_is_wanted(rt: HostRuntime) {
+    expect_lines(&rt, rt.alloc(), Program::Ags, &EDIT);
 }
 
-/// What else ends a run.
-const OTHER: [Row; 15] = [
-    // faults of a machine file
-    (
-        "MACHINE ERROR 1 NotToml\n",
-        "F: NotToml: a machine file is one TOML document in UTF-8, with texts in quotes and numbers as 1025 or 0o2001; an empty one gives the standard machine",
-    ),
-    (
-        "MACHINE ERROR 2 MissingKey codes.ADD\n",
-        "F: MissingKey codes.ADD: codes and times, where given, have all 27 orders by name; each entry of input and output has an address",
-    ),
-    (
-        "MACHINE ERROR 3 BadValue input.3\n",
-        "F: BadValue input.3: codes are even, 0 to 62, times 1 to 1000, addresses 0 to 4095, all without quotes; once is true or false; input and output are at most 32 tables each",
-    ),
-    (
-        "MACHINE ERROR 4 SameCode ADD SUB\n",
-        "F: SameCode ADD SUB: no two of the 27 orders have one code",
-    ),
-    (
-        "MACHINE ERROR 5 SamePort 2001\n",
-        "F: SamePort 2001: no two registers of one direction have one address; an input and an output register may",
-    ),
-    // what a certificate does not declare
+/// What a certificate does not declare.
+const OUTSIDE: [Row; 4] = [
     (
         "OUTSIDE START 4000 4001\n",
         "F: OUTSIDE START 4000 4001: the script starts where the certificate does: its START names that location, or it has none",
@@ -357,7 +423,15 @@ const OTHER: [Row; 15] = [
         "OUTSIDE IN 2001 001751\n",
         "F: OUTSIDE IN 2001 001751: it is the script's first word, put by SET, FEED or CYCLE, that isn't one of its register's IN line: put another, or widen that; bin/ags-explain -g tells its line",
     ),
-    // what comes of bounds and of scales
+];
+
+#[test]
+fn outside_lines_say_what_is_wanted(rt: HostRuntime) {
+    expect_lines(&rt, rt.alloc(), Program::Ags, &OUTSIDE);
+}
+
+/// What comes of bounds and of scales.
+const ORDER: [Row; 4] = [
     (
         "OVER ROW 3 WORD 224005 X 0 V 0 NEXT ---- NEEDS 10 BOUND 9\n",
         "F: OVER ROW 3 WORD 224005 X 0 V 0 NEXT ---- NEEDS 10 BOUND 9: a row needs its order's time and, but at DLY, the least bound of a row that covers what is next; a row without a TIME line has 20,000; rows of a subroutine may be written once for each caller",
@@ -374,7 +448,15 @@ const OTHER: [Row; 15] = [
         "NOTHELD ROW 3 WORD 224005 X 0 V 0 NEXT 4006\n",
         "F: NOTHELD ROW 3 WORD 224005 X 0 V 0 NEXT 4006: a row at NEXT that covers what this order leaves has to have its tags or ANY: mend the tags there, or of this row; docs/SCALES.md has what each order leaves; a cell without a CELL line is raw",
     ),
-    // a file that is absent, or too long
+];
+
+#[test]
+fn order_lines_say_what_is_wanted(rt: HostRuntime) {
+    expect_lines(&rt, rt.alloc(), Program::Ags, &ORDER);
+}
+
+/// A file that is absent, or too long.
+const FILE: [Row; 2] = [
     ("ABSENT G H\n", "G H: there is no file of this name"),
     (
         "LONG F 4194304\n",
@@ -383,8 +465,8 @@ const OTHER: [Row; 15] = [
 ];
 
 #[test]
-fn other_lines_say_what_is_wanted(rt: HostRuntime) {
-    expect_lines(&rt, rt.alloc(), Program::Ags, &OTHER);
+fn file_lines_say_what_is_wanted(rt: HostRuntime) {
+    expect_lines(&rt, rt.alloc(), Program::Ags, &FILE);
 }
 
 /// What `agsbench` says of lines of its own.

@@ -79,18 +79,8 @@ const UNREAD: [(ErrorKind, &str); 3] = [
     ),
 ];
 
-/// Why the output couldn't be written, where that is known, and what is said, or an empty text for a pipe that was closed.
-const UNWRITTEN: [(Option<ErrorKind>, &str); 3] = [
-    (
-        Some(ErrorKind::StorageFull),
-        "the output can't be written: its device is full",
-    ),
-    (None, "the output can't be written"),
-    (Some(ErrorKind::BrokenPipe), ""),
-];
-
 #[test]
-fn files_and_outputs_are_told_with_the_reason(rt: HostRuntime) {
+fn file_that_is_not_read_is_named_with_the_reason(rt: HostRuntime) {
     for &(reason, said) in &UNREAD {
         let seen = Seen {
             unread: Some(reason),
@@ -102,6 +92,20 @@ fn files_and_outputs_are_told_with_the_reason(rt: HostRuntime) {
     let seen = Seen { file: None, ..SEEN };
     let said = "a file: it can't be read";
     expect_said(&rt, rt.alloc(), Program::Ags, 5, seen, Some(said));
+}
+
+/// Why the output couldn't be written, where that is known, and what is said, or an empty text for a pipe that was closed.
+const UNWRITTEN: [(Option<ErrorKind>, &str); 3] = [
+    (
+        Some(ErrorKind::StorageFull),
+        "the output can't be written: its device is full",
+    ),
+    (None, "the output can't be written"),
+    (Some(ErrorKind::BrokenPipe), ""),
+];
+
+#[test]
+fn output_that_is_not_written_is_told_but_for_a_closed_pipe(rt: HostRuntime) {
     for &(unwritten, said) in &UNWRITTEN {
         let seen = Seen {
             line: "REFUSED 2 StartUncovered\n",
