@@ -3,7 +3,7 @@
 use ags_certtype::{Cert, CertParts};
 use ags_domain::{Domain, Range, Value};
 use ags_image::Image;
-use ags_row::{At, Limits, Link, Post, Row, RowParts, covers};
+use ags_row::{Limits, Link, Post, Row, RowParts, covers};
 use ags_word::Word;
 use std::alloc::Global;
 use std::fmt::Debug;
@@ -44,27 +44,53 @@ pub(crate) fn image_of(rt: &impl Abort, alloc: Global, from: u16, words: &[u32])
     image
 }
 
+/// One thing that limits say.
+#[derive(Clone, Copy)]
+pub(crate) enum Limit {
+    /// An erasable cell holds the words between two values.
+    Cell(u16, i32, i32),
+    /// An input register does.
+    Input(u16, i32, i32),
+    /// An output register does.
+    Output(u16, i32, i32),
+    /// A location is named as a place of an overflow.
+    Place(u16),
+}
+
 /// Limits that hold each word.
 pub(crate) fn full_limits<D: Domain>(rt: &impl Abort, alloc: Global) -> Limits<D> {
     Limits::new(alloc).expect(rt, "memory for limits")
 }
 
-/// Adds a cell, with what it may hold, to those that a row names.
-pub(crate) fn add_cell(rt: &impl Abort, cells: &mut Vec<At<Value>>, address: u16, value: Value) {
-    assert!(rt; cells.push(At { address, value }).is_ok());
+/// Limits that hold each word, but for what is said.
+pub(crate) fn limits_of(rt: &impl Abort, alloc: Global, said: &[Limit]) -> Limits<Value> {
+    let mut limits = full_limits(rt, alloc);
+    for &limit in said {
+        match limit {
+            Limit::Cell(address, least, greatest) => {
+                assert!(rt; address < 2048);
+                limits.set_cell(address, value(rt, (least, greatest)));
+            }
+            Limit::Input(address, least, greatest) => {
+                assert!(rt; address < 4096);
+                limits.set_input(address, value(rt, (least, greatest)));
+            }
+            Limit::Output(address, least, greatest) => {
+                assert!(rt; address < 4096);
+                limits.set_output(address, value(rt, (least, greatest)));
+            }
+            Limit::Place(location) => {
+                assert!(rt; location < 4096);
+                limits.name_place(location);
+            }
+        }
+    }
+    limits
 }
 
-/// The parts of a row where A and Q may hold any word, with index 0 and some indicators.
-pub(crate) fn open_parts(location: u16, v: [bool; 2], at: Vec<At<Value>>) -> RowParts<Value> {
-    RowParts {
-        location,
-        a: Value::full(),
-        q: Value::full(),
-        x: [true, false, false, false, false, false, false, false],
-        v,
-        at,
-        link: None,
-    }
+/// Adds one to a list.
+pub(crate) fn add<T: Drop>(rt: &impl Abort, list: &mut Vec<T>, one: T) {
+    assert!(rt; list.push(one).is_ok());
 }
 
 /// The row of parts that make one.
@@ -72,8 +98,26 @@ pub(crate) fn row_of<D: Domain>(rt: &impl Abort, parts: RowParts<D>) -> Row<D> {
     Row::of(parts).expect(rt, "the parts of a row")
 }
 
+/// The parts of a row where A and Q may hold any word, with index 0 and some indicators, that names no cell.
+pub(crate) fn open_parts(
+    alloc: Global,
+    location: u16,
+    v: [bool; 2],
+    link: Option<Link>,
+) -> RowParts<Value> {
+    RowParts {
+        location,
+        a: Value::full(),
+        q: Value::full(),
+        x: [true, false, false, false, false, false, false, false],
+        v,
+        at: Vec::new(alloc),
+        link,
+    }
+}
+
 /// A row at each of some locations, where A and Q may hold any word, with index 0, some indicators and, where told, a link.
-pub(crate) fn open_rows(
+fn open_rows(
     rt: &impl Abort,
     alloc: Global,
     locations: &[u16],
@@ -82,28 +126,32 @@ pub(crate) fn open_rows(
 ) -> Vec<Row<Value>> {
     let mut rows = Vec::new(alloc);
     for location in locations {
-        let mut parts = open_parts(*location, v, Vec::new(alloc));
-        parts.link = link;
-        assert!(rt; rows.push(row_of(rt, parts)).is_ok());
+        add(
+            rt,
+            &mut rows,
+            row_of(rt, open_parts(alloc, *location, v, link)),
+        );
     }
     rows
 }
 
-/// A certificate of some rows under some limits, with what is stated of the cell 0020 at the start; it starts at 4000.
+/// A certificate of such rows under limits that say so, with what is stated of the cell 0020 at the start; it starts at 4000.
 pub(crate) fn certificate(
     rt: &impl Abort,
     alloc: Global,
-    limits: Limits<Value>,
+    said: &[Limit],
     stated: Option<Value>,
-    rows: Vec<Row<Value>>,
+    locations: &[u16],
+    v: [bool; 2],
+    link: Option<Link>,
 ) -> Cert {
     let mut init = vec![in alloc; None; 2048].expect(rt, "memory for the start");
     init[0o20] = stated;
     let parts = CertParts {
         start: 0o4000,
-        limits,
+        limits: limits_of(rt, alloc, said),
         init,
-        rows,
+        rows: open_rows(rt, alloc, locations, v, link),
     };
     let made = Cert::of(alloc, parts).expect(rt, "memory for a certificate");
     made.expect(rt, "the parts of a certificate")

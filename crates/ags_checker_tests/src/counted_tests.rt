@@ -3,7 +3,7 @@
 
 ghost use Rattle.std.specs.Prelude.{◌≡◌, ◌<◌};
 
-use crate::common::{certificate, expect_same, full_limits, image_of, open_rows, value, word};
+use crate::common::{Limit, certificate, expect_same, image_of, word};
 use ags_certread::{CERT_LIMIT, read};
 use ags_certtype::Cert;
 use ags_check::{Accepting, Refusal, RowFault, Verdict, check, refusal_of};
@@ -162,23 +162,15 @@ fn expect_judged(
     expect_same(rt, &judged.cases, &cases);
 }
 
-/// The limits of the rows: the cell 20 octal and the output register 6001 hold 0 to 5, the cell 22 octal 0 to 15.
-fn limits(rt: &impl Abort, alloc: Global) -> Limits<Value> {
-    let mut limits = full_limits(rt, alloc);
-    limits.set_cell(0o20, value(rt, (0, 5)));
-    limits.set_cell(0o22, value(rt, (0, 15)));
-    limits.set_output(0o6001, value(rt, (0, 5)));
-    limits
-}
+/// The limits of the rows.
+const LIMITS: [Limit; 3] = [
+    Limit::Cell(0o20, 0, 5),
+    Limit::Cell(0o22, 0, 15),
+    Limit::Output(0o6001, 0, 5),
+];
 
-/// A certificate with rows at 4000 octal and at one other location, with index 0 and both indicators: two cases a word.
-fn two_rows(rt: &impl Abort, alloc: Global, second: u16) -> Cert {
-    let rows = open_rows(rt, alloc, &[0o4000, second], [true, true], None);
-    certificate(rt, alloc, limits(rt, alloc), None, rows)
-}
-
-/// Asserts what is refused in the second of two rows, where the first goes to it, and how many cases were judged: both of the first row,
-/// and of the second those up to the one that fails.
+/// Asserts what is refused in the second of two rows with index 0 and both indicators, of two cases a word, where the first at 4000 octal
+/// goes to it, and how many cases were judged: both of the first row, and of the second those up to the one that fails.
 fn expect_refused(
     rt: &impl Abort,
     alloc: Global,
@@ -190,7 +182,8 @@ fn expect_refused(
     assert!(rt; second < 4096);
     let words = [0o400000 + u32::from(second), number];
     let image = image_of(rt, alloc, 0o4000, &words);
-    let cert = two_rows(rt, alloc, second);
+    let locations = [0o4000, second];
+    let cert = certificate(rt, alloc, &LIMITS, None, &locations, [true, true], None);
     expect_judged(rt, &image, &cert, &Err(refusal), cases);
 }
 

@@ -4,6 +4,7 @@ use crate::common::{expect_same, range, value, value_if, word};
 use ags_domain::{Domain, Operands, Range, Value, WordSet};
 use ags_word::Word;
 use std::alloc::Global;
+use std::fmt::Debug;
 use std::process::Abort;
 
 /// An operation with a count, or without one.
@@ -54,7 +55,7 @@ const LEAST: (i32, i32) = (-131_072, -131_072);
 /// An operation, the ends of A and of the cell, and those of what it leaves.
 type Interval = (Operation, (i32, i32), (i32, i32), (i32, i32));
 
-const INTERVALS: [Interval; 29] = [
+const INTERVALS: [Interval; 32] = [
     (Operation::Add, (-1000, 1000), (-125, 125), (-1125, 1125)),
     (Operation::High, (-3, 5), (65536, 65536), (-2, 2)),
     (Operation::Round, (-3, 5), (65536, 65536), (-1, 3)),
@@ -89,25 +90,11 @@ const INTERVALS: [Interval; 29] = [
     (Operation::Lls(0), FULL, (0, 0), FULL),
     (Operation::High, LEAST, (1, 1), (-1, -1)),
     (Operation::Round, LEAST, (1, 1), (-1, -1)),
+    // shifts to the right
+    (Operation::Lrs(1), (-1, 3), (0, 0), (-1, 1)),
+    (Operation::Lrs(0), FULL, (0, 0), FULL),
+    (Operation::Lrs(63), FULL, (0, 0), (-1, 0)),
 ];
-
-/// Expects the ends of what an operation on two ranges leaves.
-fn expect_interval(rt: &impl Abort, operation: Operation, a: Range, m: Range, ends: Range) {
-    expect_same(rt, &answer(rt, operation, &a, &m), &Ok(ends));
-}
-
-#[test]
-fn intervals(rt: HostRuntime) {
-    for &(operation, a, m, ends) in &INTERVALS {
-        expect_interval(
-            &rt,
-            operation,
-            range(&rt, a),
-            range(&rt, m),
-            range(&rt, ends),
-        );
-    }
-}
 
 /// Intervals that are asked of values too.
 const INTERVALS_OF_VALUES: [Interval; 2] = [
@@ -120,42 +107,27 @@ const INTERVALS_OF_VALUES: [Interval; 2] = [
     ),
 ];
 
-/// Expects the ends of what an operation on two values leaves.
-fn expect_value(rt: &impl Abort, operation: Operation, a: Value, m: Value, ends: Value) {
-    expect_same(rt, &answer(rt, operation, &a, &m), &Ok(ends));
+/// Expects what an operation on two sets leaves, or the operands that overflow.
+fn expect_left<D: Domain + PartialEq + Debug>(
+    rt: &impl Abort,
+    operation: Operation,
+    a: D,
+    m: D,
+    left: Result<D, Operands>,
+) {
+    expect_same(rt, &answer(rt, operation, &a, &m), &left);
 }
 
 #[test]
-fn intervals_of_values(rt: HostRuntime) {
-    for &(operation, a, m, ends) in &INTERVALS_OF_VALUES {
-        expect_value(
-            &rt,
-            operation,
-            value(&rt, a),
-            value(&rt, m),
-            value(&rt, ends),
-        );
+fn intervals(rt: HostRuntime) {
+    for &(operation, a, m, ends) in &INTERVALS {
+        let left = Ok(range(&rt, ends));
+        expect_left(&rt, operation, range(&rt, a), range(&rt, m), left);
     }
-}
-
-/// Asserts that an operation on two ranges overflows, and tells the words of these numbers: of A, of Q and of the cell.
-fn assert_overflow(
-    rt: &impl Abort,
-    operation: Operation,
-    a: (i32, i32),
-    m: (i32, i32),
-    numbers: (u32, u32, u32),
-) {
-    let told = Operands {
-        a: word(rt, numbers.0),
-        q: word(rt, numbers.1),
-        m: word(rt, numbers.2),
-    };
-    expect_same(
-        rt,
-        &answer(rt, operation, &range(rt, a), &range(rt, m)),
-        &Err(told),
-    );
+    for &(operation, a, m, ends) in &INTERVALS_OF_VALUES {
+        let left = Ok(value(&rt, ends));
+        expect_left(&rt, operation, value(&rt, a), value(&rt, m), left);
+    }
 }
 
 /// An operation, the ends of A and of the cell, and the numbers of the words that it tells: of A, of Q and of the cell.
@@ -214,22 +186,12 @@ const OVERFLOWS: [Overflow; 17] = [
 #[test]
 fn operations_that_overflow(rt: HostRuntime) {
     for &(operation, a, m, numbers) in &OVERFLOWS {
-        assert_overflow(&rt, operation, a, m, numbers);
-    }
-}
-
-/// The ends of A, a count, and the ends of what the shift to the right leaves.
-const RIGHT_SHIFTS: [((i32, i32), u32, (i32, i32)); 3] = [
-    ((-1, 3), 1, (-1, 1)),
-    (FULL, 0, FULL),
-    (FULL, 63, (-1, 0)),
-];
-
-#[test]
-fn right_shifts(rt: HostRuntime) {
-    for &(a, count, ends) in &RIGHT_SHIFTS {
-        assert!(rt; count < 64);
-        expect_same(&rt, &range(&rt, a).lrs_high(count), &range(&rt, ends));
+        let told = Operands {
+            a: word(&rt, numbers.0),
+            q: word(&rt, numbers.1),
+            m: word(&rt, numbers.2),
+        };
+        expect_left(&rt, operation, range(&rt, a), range(&rt, m), Err(told));
     }
 }
 
@@ -238,45 +200,24 @@ fn pair(rt: &impl Abort, first: u32, second: u32) -> Value {
     Value::of_word(word(rt, first)).join(&Value::of_word(word(rt, second)))
 }
 
-/// The set of a value's words, if they are few.
-fn set_of(value: &Value) -> Option<Value> {
-    match value.few() {
-        Some(words) => Some(Value::Words(words)),
-        None => None,
-    }
-}
-
 #[test]
 fn joins(rt: HostRuntime) {
     let sixteen = value(&rt, (-8, 7));
     let more = value(&rt, (-8, 8));
-    expect_same(&rt, &set_of(&more), &None);
+    expect_same(&rt, &more.few(), &None);
+    let words = sixteen.few().expect(&rt, "sixteen words");
     let ends = pair(&rt, 7, 0o777770);
-    expect_same(&rt, &set_of(&sixteen), &Some(sixteen.join(&ends)));
+    expect_same(&rt, &sixteen.join(&ends), &Value::Words(words));
     expect_same(&rt, &sixteen.join(&pair(&rt, 8, 7)), &more);
-}
-
-/// Expects whether a value is within another.
-fn expect_within(rt: &impl Abort, part: &Value, whole: &Value, wanted: bool) {
-    expect_same(rt, &part.within(whole), &wanted);
 }
 
 #[test]
 fn inclusions(rt: HostRuntime) {
     let sixteen = value(&rt, (-8, 7));
     let ends = pair(&rt, 7, 0o777770);
-    expect_within(&rt, &ends, &sixteen, true);
-    expect_within(&rt, &sixteen, &ends, false);
-    expect_within(&rt, &value(&rt, (7, 7)), &ends, true);
-}
-
-#[test]
-fn parts(rt: HostRuntime) {
-    let ends = pair(&rt, 7, 0o777770);
-    expect_same(&rt, &ends.negative(), &Some(pair(&rt, 0o777770, 0o777770)));
-    expect_same(&rt, &ends.rest(), &Some(pair(&rt, 7, 7)));
-    expect_same(&rt, &Value::of_word(Word::ZERO).negative(), &None);
-    expect_same(&rt, &value(&rt, (-2, -1)).rest(), &None);
+    expect_same(&rt, &ends.within(&sixteen), &true);
+    expect_same(&rt, &sixteen.within(&ends), &false);
+    expect_same(&rt, &value(&rt, (7, 7)).within(&ends), &true);
 }
 
 /// Parts of the range of -5 to 5.
@@ -291,42 +232,47 @@ const RANGE_PARTS: [(i32, i32, Option<(i32, i32)>); 8] = [
     (i32::MIN, i32::MAX, Some((-5, 5))),
 ];
 
-/// The range of two values, where they are told.
-fn range_if(rt: &impl Abort, ends: Option<(i32, i32)>) -> Option<Range> {
-    match ends {
-        Some(ends) => Some(range(rt, ends)),
-        None => None,
-    }
+/// Expects the part of a set between two values.
+fn expect_part<D: Domain + PartialEq + Debug>(
+    rt: &impl Abort,
+    whole: D,
+    least: i32,
+    greatest: i32,
+    part: Option<D>,
+) {
+    let told = whole.between(least, greatest);
+    expect_same(rt, &(least, greatest, told), &(least, greatest, part));
 }
 
 #[test]
-fn parts_of_a_range_between_values(rt: HostRuntime) {
-    for (least, greatest, wanted) in &RANGE_PARTS {
-        let part = range(&rt, (-5, 5)).between(*least, *greatest);
-        expect_same(&rt, &part, &range_if(&rt, *wanted));
-        let kept = value(&rt, (-5, 5)).between(*least, *greatest);
-        expect_same(&rt, &kept, &value_if(&rt, *wanted));
+fn parts_of_a_range(rt: HostRuntime) {
+    let ends = (-5, 5);
+    for &(least, greatest, part) in &RANGE_PARTS {
+        let kept = value_if(&rt, part);
+        expect_part(&rt, value(&rt, ends), least, greatest, kept);
+        let part = match part {
+            Some(part) => Some(range(&rt, part)),
+            None => None,
+        };
+        expect_part(&rt, range(&rt, ends), least, greatest, part);
     }
+    expect_same(&rt, &value(&rt, (-2, -1)).rest(), &None);
 }
 
 // A part of a set is a set again, also where it has one word alone.
 #[test]
-fn parts_of_a_set_between_values(rt: HostRuntime) {
+fn parts_of_a_set(rt: HostRuntime) {
     let words = pair(&rt, 7, 0o777770);
-    expect_same(&rt, &words.between(-9, 9), &Some(words));
-    expect_same(
-        &rt,
-        &words.between(-8, 6),
-        &Some(pair(&rt, 0o777770, 0o777770)),
-    );
-    expect_same(&rt, &words.between(7, 262_143), &Some(pair(&rt, 7, 7)));
-    expect_same(&rt, &words.between(-7, 6), &None);
-    expect_same(&rt, &words.between(i32::MAX, i32::MIN), &None);
-}
-
-/// Asserts that no set is made of these words.
-fn assert_no_set(rt: &impl Abort, words: &[Word]) {
-    expect_same(rt, &WordSet::of(words), &None);
+    let negative = Some(pair(&rt, 0o777770, 0o777770));
+    let rest = Some(pair(&rt, 7, 7));
+    expect_same(&rt, &words.negative(), &negative);
+    expect_same(&rt, &words.rest(), &rest);
+    expect_same(&rt, &Value::of_word(Word::ZERO).negative(), &None);
+    expect_part(&rt, words, -9, 9, Some(words));
+    expect_part(&rt, words, -8, 6, negative);
+    expect_part(&rt, words, 7, 262_143, rest);
+    expect_part(&rt, words, -7, 6, None);
+    expect_part(&rt, words, i32::MAX, i32::MIN, None);
 }
 
 /// Ends that no range has.
@@ -337,9 +283,9 @@ fn makers(rt: HostRuntime) {
     for &(least, greatest) in &BAD_ENDS {
         expect_same(&rt, &Range::of(least, greatest), &None);
     }
-    assert_no_set(&rt, &[]);
-    assert_no_set(&rt, &[word(&rt, 2), word(&rt, 2)]);
-    assert_no_set(&rt, &[Word::ZERO; 17]);
+    expect_same(&rt, &WordSet::of(&[]), &None);
+    expect_same(&rt, &WordSet::of(&[word(&rt, 2); 2]), &None);
+    expect_same(&rt, &WordSet::of(&[Word::ZERO; 17]), &None);
 }
 
 /// Expects the text of a value.
@@ -404,14 +350,6 @@ fn walked(operation: Operation, a: i64, m: i64) -> Option<(i64, i64)> {
     Some((least, greatest))
 }
 
-/// The least and the greatest value of a range.
-fn ends_of(hull: Range) -> (i64, i64) {
-    (
-        i64::from(hull.least().value()),
-        i64::from(hull.greatest().value()),
-    )
-}
-
 /// Asserts that an operation overflows at some operands, by whole numbers.
 fn expect_overflowing(rt: &impl Abort, operation: Operation, words: Operands) {
     let left = left_in_a(
@@ -428,7 +366,10 @@ fn told(rt: &impl Abort, operation: Operation, a: i32, m: i32) -> Option<(i64, i
     let first = range(rt, (a, a.wrapping_add(6)));
     let second = range(rt, (m, m.wrapping_add(6)));
     match answer(rt, operation, &first, &second) {
-        Ok(hull) => Some(ends_of(hull)),
+        Ok(hull) => Some((
+            i64::from(hull.least().value()),
+            i64::from(hull.greatest().value()),
+        )),
         Err(words) => {
             expect_overflowing(rt, operation, words);
             None
@@ -450,38 +391,30 @@ const WALKED: [Operation; 10] = [
     Operation::Over,
 ];
 
-/// Compares the answer of an operation on two small ranges, which begin at these values, with a walk.
-fn expect_walked(rt: &impl Abort, operation: Operation, a: i32, m: i32) {
-    let ends = walked(operation, i64::from(a), i64::from(m));
-    expect_same(rt, &told(rt, operation, a, m), &ends);
-}
-
 /// A number among so many values around 0.
 fn around_zero(number: i32, size: i32) -> i32 {
     number.rem_euclid(size.max(1)).wrapping_sub(size / 2)
 }
 
-/// Around how many values the first ranges of a step begin: every third is small.
-fn size_of(step: i32) -> i32 {
-    if step.rem_euclid(3) == 0 {
-        200
-    } else {
-        262_000
+/// Around how many values the first and the second ranges of a step begin: of three steps the first has small ones, the second has its
+/// second ranges near 0, and the third has neither.
+fn sizes_of(step: i32) -> (i32, i32) {
+    match step.rem_euclid(3) {
+        0 => (200, 262_000),
+        1 => (262_000, 20),
+        _ => (262_000, 262_000),
     }
-}
-
-/// Around how many values the second ranges of a step begin: every third is near 0.
-fn near_of(step: i32) -> i32 {
-    if step.rem_euclid(3) == 1 { 20 } else { 262_000 }
 }
 
 #[test]
 fn small_ranges_by_a_walk(rt: HostRuntime) {
-    for operation in &WALKED {
+    for &operation in &WALKED {
         for step in 0..120i32 {
-            let a = around_zero(step.wrapping_mul(7919), size_of(step));
-            let m = around_zero(step.wrapping_mul(104_729), near_of(step));
-            expect_walked(&rt, *operation, a, m);
+            let (size, near) = sizes_of(step);
+            let a = around_zero(step.wrapping_mul(7919), size);
+            let m = around_zero(step.wrapping_mul(104_729), near);
+            let ends = walked(operation, i64::from(a), i64::from(m));
+            expect_same(&rt, &told(&rt, operation, a, m), &ends);
         }
     }
 }

@@ -3,8 +3,6 @@
 #![tactic(auto)]
 
 #[cfg(test)]
-mod answered_tests;
-#[cfg(test)]
 mod check_tests;
 #[cfg(test)]
 mod common;
@@ -13,16 +11,12 @@ mod counted_tests;
 #[cfg(test)]
 mod domain_tests;
 #[cfg(test)]
+mod law_tests;
+#[cfg(test)]
 mod link_tests;
 #[cfg(test)]
-mod posts_tests;
-#[cfg(test)]
 mod row_tests;
-#[cfg(test)]
-mod safe_tests;
 #[cfg(test)]
 mod start_tests;
 #[cfg(test)]
 mod transfer_tests;
-#[cfg(test)]
-mod verdict_tests;

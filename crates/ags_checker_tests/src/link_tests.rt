@@ -1,21 +1,23 @@
 //! What an order leaves of the link of A to a cell, and what TMI tells of the linked cell.
 
-use crate::common::{expect_same, full_limits, row_of, value};
-use crate::transfer_tests::{alone, judged_in_row, limits};
+use crate::common::{expect_same, row_of, value};
+use crate::transfer_tests::{Limited, alone, judged_in_row, limits};
 use ags_domain::Value;
 use ags_posts::{PostPair, Stop};
-use ags_row::{At, Limits, Link, Post, Row, RowParts};
+use ags_row::{At, Link, Post, RowParts};
 use std::alloc::Global;
 use std::process::Abort;
 
-/// A row with index 2 and a clear indicator where A may hold the words between two values, with a link.
-fn linked_row(
+/// The posts of a word in a row with a link, with index 2 and a clear indicator, where A may hold the words between two values.
+fn posts_in(
     rt: &impl Abort,
     alloc: Global,
     location: u16,
     ends: (i32, i32),
     link: Link,
-) -> Row<Value> {
+    limited: Limited,
+    number: u32,
+) -> Result<PostPair<Value>, Stop<Value>> {
     let parts = RowParts {
         location,
         a: value(rt, ends),
@@ -25,42 +27,9 @@ fn linked_row(
         at: Vec::new(alloc),
         link: Some(link),
     };
-    row_of(rt, parts)
-}
-
-/// The posts of a word in a row with a link, where A may hold the words between two values.
-fn posts_in(
-    rt: &impl Abort,
-    alloc: Global,
-    limits: &Limits<Value>,
-    location: u16,
-    ends: (i32, i32),
-    link: Link,
-    number: u32,
-) -> Result<PostPair<Value>, Stop<Value>> {
-    let base = linked_row(rt, alloc, location, ends, link);
-    judged_in_row(rt, alloc, limits, &base, number, 2, false)
-}
-
-/// The same at 4000, under limits of some cells.
-fn posts_at(
-    rt: &impl Abort,
-    alloc: Global,
-    ends: (i32, i32),
-    link: Link,
-    named: bool,
-    number: u32,
-) -> Result<PostPair<Value>, Stop<Value>> {
-    let limits = limits(rt, alloc, named);
-    posts_in(rt, alloc, &limits, 0o4000, ends, link, number)
-}
-
-/// The link of the one post of an answer.
-fn link_of(rt: &impl Abort, told: Result<PostPair<Value>, Stop<Value>>) -> Option<Link> {
-    match told {
-        Ok(pair) => pair.first.expect(rt, "a post").link,
-        Err(_) => panic!(rt; "a stop"),
-    }
+    let base = row_of(rt, parts);
+    let limits = limits(rt, alloc, limited);
+    judged_in_row(rt, alloc, &limits, &base, number, 2, false)
 }
 
 /// What becomes of a link.
@@ -131,141 +100,166 @@ const LINKS: [LinkRow; 33] = [
     (0o666002, 0o20, Fate::Kept, Fate::Kept),
 ];
 
-/// Expects what becomes of a link (c, 10), where A may hold the words of value 1 and 2.
-fn expect_link(rt: &impl Abort, alloc: Global, number: u32, address: u16, wanted: Fate) {
-    let link = Link {
-        address,
-        offset: 10,
-    };
-    let told = link_of(rt, posts_at(rt, alloc, (1, 2), link, false, number));
-    expect_same(rt, &told, &link_after(link, wanted));
+/// The ends of A, the offset of a link to the cell 0040, the limits, an order with the word 7 of 4100, and what becomes
+/// of the link.
+type OffsetRow = ((i32, i32), i32, Limited, u32, Fate);
+
+const OFFSETS: [OffsetRow; 9] = [
+    // offsets at their limits
+    (
+        (1, 2),
+        262_136,
+        Limited::Some,
+        0o244100,
+        Fate::Moved(262_143),
+    ),
+    ((1, 2), 262_137, Limited::Some, 0o244100, Fate::Gone),
+    ((1, 2), 262_143, Limited::Some, 0o244100, Fate::Gone),
+    (
+        (1, 2),
+        262_143,
+        Limited::Some,
+        0o224100,
+        Fate::Moved(262_136),
+    ),
+    (
+        (1, 2),
+        -262_136,
+        Limited::Some,
+        0o224100,
+        Fate::Moved(-262_143),
+    ),
+    ((1, 2), -262_137, Limited::Some, 0o224100, Fate::Gone),
+    (
+        (1, 2),
+        -262_143,
+        Limited::Some,
+        0o244100,
+        Fate::Moved(-262_136),
+    ),
+    // a place that is named keeps the link where no operands overflow, and has none where some do
+    ((1, 2), 10, Limited::SomeAndPlace, 0o224100, Fate::Moved(3)),
+    (
+        (1, 131_071),
+        10,
+        Limited::SomeAndPlace,
+        0o224100,
+        Fate::Gone,
+    ),
+];
+
+/// Expects what a word at 4000 makes of a link.
+fn expect_link(
+    rt: &impl Abort,
+    alloc: Global,
+    ends: (i32, i32),
+    link: Link,
+    limited: Limited,
+    number: u32,
+    fate: Fate,
+) {
+    match posts_in(rt, alloc, 0o4000, ends, link, limited, number) {
+        Ok(
+            PostPair {
+                first: Some(post),
+                ..
+            },
+        ) => {
+            expect_same(rt, &(number, post.link), &(number, link_after(link, fate)));
+        }
+        _ => panic!(rt; "no post of the word {number}"),
+    }
 }
 
 #[test]
 fn links_by_order(rt: HostRuntime) {
-    for (number, touched, to_touched, to_other) in &LINKS {
-        expect_link(&rt, rt.alloc(), *number, *touched, *to_touched);
-        expect_link(&rt, rt.alloc(), *number, 0o40, *to_other);
+    for &(number, touched, to_touched, to_other) in &LINKS {
+        for (address, fate) in [(touched, to_touched), (0o40, to_other)] {
+            let offset = 10;
+            let link = Link { address, offset };
+            expect_link(&rt, rt.alloc(), (1, 2), link, Limited::Some, number, fate);
+        }
     }
 }
-
-/// The offset of a link, if there is one.
-fn offset_of(link: Option<Link>) -> Option<i32> {
-    match link {
-        Some(link) => Some(link.offset),
-        None => None,
-    }
-}
-
-/// Offsets of a link to the cell 0040, an order with the word 7 of 4100, and the offset after it.
-const OFFSETS: [(i32, u32, Option<i32>); 7] = [
-    (262_136, 0o244100, Some(262_143)),
-    (262_137, 0o244100, None),
-    (262_143, 0o244100, None),
-    (262_143, 0o224100, Some(262_136)),
-    (-262_136, 0o224100, Some(-262_143)),
-    (-262_137, 0o224100, None),
-    (-262_143, 0o244100, Some(-262_136)),
-];
 
 #[test]
-fn offsets_at_their_limits(rt: HostRuntime) {
-    for (offset, number, wanted) in &OFFSETS {
-        let link = Link {
-            address: 0o40,
-            offset: *offset,
-        };
-        let told = link_of(&rt, posts_at(&rt, rt.alloc(), (1, 2), link, false, *number));
-        expect_same(&rt, &offset_of(told), wanted);
+fn links_by_offset(rt: HostRuntime) {
+    for &(ends, offset, limited, number, fate) in &OFFSETS {
+        let address = 0o40;
+        let link = Link { address, offset };
+        expect_link(&rt, rt.alloc(), ends, link, limited, number, fate);
     }
-}
-
-// A place that is named keeps the link where no operands overflow, and has none where some do.
-#[test]
-fn link_at_a_named_place(rt: HostRuntime) {
-    let alloc = rt.alloc();
-    let link = Link {
-        address: 0o40,
-        offset: 10,
-    };
-    let fits = posts_at(&rt, alloc, (1, 2), link, true, 0o224100);
-    expect_same(&rt, &link_of(&rt, fits), &link_after(link, Fate::Moved(3)));
-    let overflows = posts_at(&rt, alloc, (1, 131_071), link, true, 0o224100);
-    expect_same(&rt, &link_of(&rt, overflows), &None);
 }
 
 /// What a post of TMI says: where it goes, the ends of A, and those of the linked cell.
 type Way = (u16, (i32, i32), (i32, i32));
 
-/// The post of a way, with a link.
-fn way(rt: &impl Abort, link: Link, way: Way) -> Post<Value> {
-    let (next, a, cell) = way;
-    Post {
-        next,
-        a: value(rt, a),
-        q: value(rt, (5, 6)),
-        x: 2,
-        v0: true,
-        v1: false,
-        stored: None,
-        code: None,
-        narrowed: Some(At {
-            address: link.address,
-            value: value(rt, cell),
+/// The post of a way, if there is one, with a link.
+fn post_of(rt: &impl Abort, link: Link, way: Option<Way>) -> Option<Post<Value>> {
+    match way {
+        Some((next, a, cell)) => Some(Post {
+            next,
+            a: value(rt, a),
+            q: value(rt, (5, 6)),
+            x: 2,
+            v0: true,
+            v1: false,
+            stored: None,
+            code: None,
+            narrowed: Some(At {
+                address: link.address,
+                value: value(rt, cell),
+            }),
+            link: Some(link),
         }),
-        link: Some(link),
-    }
-}
-
-/// The same, where there is such a way.
-fn way_if(rt: &impl Abort, link: Link, told: Option<Way>) -> Option<Post<Value>> {
-    match told {
-        Some(told) => Some(way(rt, link, told)),
         None => None,
     }
 }
 
 /// The ends of A, the offset of a link to the cell 0020, which holds 2 to 4, and the ways of TMI 0030 at 4000.
-const TESTS: [((i32, i32), i32, Option<Way>, Option<Way>); 6] = [
+const TESTS: [((i32, i32), i32, [Option<Way>; 2]); 6] = [
     // both parts leave some of the cell
     (
         (-2, 3),
         4,
-        Some((0o30, (-2, -1), (2, 3))),
-        Some((0o4001, (0, 3), (4, 4))),
+        [
+            Some((0o30, (-2, -1), (2, 3))),
+            Some((0o4001, (0, 3), (4, 4))),
+        ],
     ),
     // a part is empty by the range of A
-    ((1, 3), 1, Some((0o4001, (1, 3), (2, 4))), None),
-    ((-3, -1), 5, Some((0o30, (-3, -1), (2, 4))), None),
+    ((1, 3), 1, [Some((0o4001, (1, 3), (2, 4))), None]),
+    ((-3, -1), 5, [Some((0o30, (-3, -1), (2, 4))), None]),
     // a part is empty by the link
-    ((-2, 3), 1, Some((0o4001, (0, 3), (2, 4))), None),
-    ((-2, 3), 5, Some((0o30, (-2, -1), (3, 4))), None),
+    ((-2, 3), 1, [Some((0o4001, (0, 3), (2, 4))), None]),
+    ((-2, 3), 5, [Some((0o30, (-2, -1), (3, 4))), None]),
     // both are: no state is in the row
-    ((-2, 3), 100, None, None),
+    ((-2, 3), 100, [None, None]),
 ];
+
+/// Expects the ways of TMI 0030 at 4000.
+fn expect_ways(
+    rt: &impl Abort,
+    alloc: Global,
+    ends: (i32, i32),
+    offset: i32,
+    ways: [Option<Way>; 2],
+) {
+    let address = 0o20;
+    let link = Link { address, offset };
+    let told = posts_in(rt, alloc, 0o4000, ends, link, Limited::Some, 0o460030);
+    let pair = PostPair {
+        first: post_of(rt, link, ways[0]),
+        second: post_of(rt, link, ways[1]),
+    };
+    expect_same(rt, &(ends, offset, told), &(ends, offset, Ok(pair)));
+}
 
 #[test]
 fn ways_of_tmi_with_a_link(rt: HostRuntime) {
-    for (ends, offset, first, second) in &TESTS {
-        let link = Link {
-            address: 0o20,
-            offset: *offset,
-        };
-        let wanted = PostPair {
-            first: way_if(&rt, link, *first),
-            second: way_if(&rt, link, *second),
-        };
-        let told = posts_at(&rt, rt.alloc(), *ends, link, false, 0o460030);
-        expect_same(&rt, &told, &Ok(wanted));
+    for &(ends, offset, ways) in &TESTS {
+        expect_ways(&rt, rt.alloc(), ends, offset, ways);
     }
-}
-
-/// The cell 0020 with the word of TMI 0030.
-fn own_cell(rt: &impl Abort) -> Option<At<Value>> {
-    Some(At {
-        address: 0o20,
-        value: alone(rt, 0o460030),
-    })
 }
 
 /// The posts of TMI 0030 in the cell 0020, which A is linked to, where A may hold the words of value 1 to 3.
@@ -274,12 +268,9 @@ fn run_from_linked_cell(
     alloc: Global,
     offset: i32,
 ) -> Result<PostPair<Value>, Stop<Value>> {
-    let link = Link {
-        address: 0o20,
-        offset,
-    };
-    let limits = full_limits(rt, alloc);
-    posts_in(rt, alloc, &limits, 0o20, (1, 3), link, 0o460030)
+    let address = 0o20;
+    let link = Link { address, offset };
+    posts_in(rt, alloc, address, (1, 3), link, Limited::Nothing, 0o460030)
 }
 
 // The cell holds the order's own word, whose value is -106472.
@@ -288,9 +279,16 @@ fn link_to_the_cell_that_is_run(rt: HostRuntime) {
     let alloc = rt.alloc();
     let pair = run_from_linked_cell(&rt, alloc, -106_474).expect(&rt, "posts");
     let post = pair.first.expect(&rt, "a post");
+    let own = Some(At {
+        address: 0o20,
+        value: alone(&rt, 0o460030),
+    });
     expect_same(&rt, &post.next, &0o21);
-    expect_same(&rt, &post.code, &own_cell(&rt));
-    expect_same(&rt, &post.narrowed, &own_cell(&rt));
-    let none = run_from_linked_cell(&rt, alloc, -106_476).expect(&rt, "posts");
-    assert!(rt; none.first.is_none() && none.second.is_none());
+    expect_same(&rt, &post.code, &own);
+    expect_same(&rt, &post.narrowed, &own);
+    let none = PostPair {
+        first: None,
+        second: None,
+    };
+    expect_same(&rt, &run_from_linked_cell(&rt, alloc, -106_476), &Ok(none));
 }
