@@ -1,62 +1,17 @@
 //! Certificates that were worked out outside the crate.
 
-use crate::common::{expect_same, range};
-use ags_certtype::{Cert, CertParts};
-use ags_domain::{Domain, Range, Value};
-use ags_row::{At, Limits, Row, RowParts};
+use crate::common::{Held, Limit, OPEN, Said, add, certificate, expect_same, row, value};
+use ags_certtype::Cert;
 use std::alloc::Global;
 use std::process::Abort;
 
-/// A row where all may stand with index 0 and a clear indicator, and that says of the cell 17 octal that it is 1 to 9.
-fn row(rt: &impl Abort, alloc: Global, location: u16) -> Row<Value> {
-    let mut at = Vec::new(alloc);
-    let cell = At {
-        address: 0o17,
-        value: range(rt, 1, 9),
-    };
-    assert!(rt; at.push(cell).is_ok());
-    Row::of(RowParts {
-        location,
-        a: Value::full(),
-        q: Value::full(),
-        x: [true, false, false, false, false, false, false, false],
-        v: [true, false],
-        at,
-        link: None,
-    })
-    .expect(rt, "the parts of a row")
-}
+/// A row that says of the cell 17 octal that it is 1 to 9.
+const ROW: Said = Said {
+    at: (Some((0o17, Held::Range(1, 9))), None),
+    ..OPEN
+};
 
-/// So many rows at each location from 4000 octal on.
-fn rows(rt: &impl Abort, alloc: Global, locations: u16, rows_at_each: u16) -> Vec<Row<Value>> {
-    let mut rows = Vec::new(alloc);
-    for location in 0..locations {
-        for _ in 0..rows_at_each {
-            assert!(rt; location < 2048);
-            assert!(rt; rows.push(row(rt, alloc, 0o4000 + location)).is_ok());
-        }
-    }
-    rows
-}
-
-/// Limits that hold each word, but for the cell 17 octal, whose limit is 0 to a greatest value.
-fn limits(rt: &impl Abort, alloc: Global, greatest: i32) -> Limits<Value> {
-    let mut limits: Limits<Value> = Limits::new(alloc).expect(rt, "memory for limits");
-    limits.set_cell(0o17, range(rt, 0, greatest));
-    limits
-}
-
-/// A start that says of the cell 17 octal alone that it is 5 to 7.
-fn init(rt: &impl Abort, alloc: Global) -> Vec<Option<Value>> {
-    let mut init: Vec<Option<Value>> = vec![in alloc; None; 2048].expect(
-        rt,
-        "memory for the start",
-    );
-    init[0o17] = Some(range(rt, 5, 7));
-    init
-}
-
-/// The certificate, if there is one, of so many rows at each location from 4000 octal on, and of 5 to 7 at the start in the cell 17
+/// The certificate, if there is one, of so many such rows at each location from 4000 octal on, and of 5 to 7 at the start in the cell 17
 /// octal, whose limit is 0 to a greatest value.
 fn made(
     rt: &impl Abort,
@@ -65,20 +20,38 @@ fn made(
     rows_at_each: u16,
     greatest: i32,
 ) -> Option<Cert> {
-    let parts = CertParts {
-        start: 0o4000,
-        limits: limits(rt, alloc, greatest),
-        init: init(rt, alloc),
-        rows: rows(rt, alloc, locations, rows_at_each),
-    };
-    Cert::of(alloc, parts).expect(rt, "memory for a certificate")
+    let mut rows = Vec::new(alloc);
+    for place in 0..locations {
+        assert!(rt; place < 2048);
+        let said = Said {
+            location: 0o4000 + place,
+            ..ROW
+        };
+        for _ in 0..rows_at_each {
+            add(rt, &mut rows, row(rt, alloc, &said));
+        }
+    }
+    let limits = [Limit::Cell(0o17, Held::Range(0, greatest))];
+    certificate(
+        rt,
+        alloc,
+        0o4000,
+        &limits,
+        &[(0o17, Held::Range(5, 7))],
+        rows,
+    )
 }
 
 /// Expects what a certificate of 1024 rows says of its start, and of the cell 17 octal.
 fn expect_parts(rt: &impl Abort, cert: &Cert) {
     expect_same(rt, &(cert.start(), cert.rows().len()), &(0o4000, 1024));
-    expect_same(rt, &cert.limits().cell(0o17), &range(rt, 0, 9));
-    expect_same(rt, &cert.init(0o17), &Some(range(rt, 5, 7)));
+    let first = Some(value(rt, Held::Range(5, 7)));
+    let limit = value(rt, Held::Range(0, 9));
+    expect_same(
+        rt,
+        &(cert.limits().cell(0o17), cert.init(0o17)),
+        &(limit, first),
+    );
     expect_same(rt, &cert.init(0o20), &None);
 }
 

@@ -1,10 +1,10 @@
 //! Certificates whose reading or whose first fault was worked out outside the crate.
 
-use crate::common::expect_same;
+use crate::common::{Held, expect_same, value};
 use ags_certread::{CERT_LIMIT, read};
 use ags_certtext::{CertError, CertKind};
 use ags_certtype::Cert;
-use ags_domain::{Range, Value};
+use ags_domain::Value;
 use ags_ports::Ports;
 use ags_row::{Link, Row};
 use std::alloc::Global;
@@ -16,59 +16,42 @@ fn reading(rt: &impl Abort, alloc: Global, text: &[u8]) -> Result<Cert, CertErro
     read(alloc, text, &Ports::standard())
 }
 
-/// The first fault of a text, if it has one.
-fn fault(rt: &impl Abort, alloc: Global, text: &[u8]) -> Option<CertError> {
-    match reading(rt, alloc, text) {
-        Ok(_) => None,
-        Err(error) => Some(error),
-    }
-}
-
 /// A certificate with a line of each kind.
 const TEXT: &[u8] =
     b"AGSCERT 1\r\n# a comment\nSTART 4000\nCELL 0017 RANGE -5 9\n\nINIT 0017 RANGE 0 9\nIN 2200 RANGE 0 31\nOUT 6001 WORDS 000001 777777\nMAY 4001\nROW 4000 A ANY Q WORDS 404001 X 0127 V 01\nAT 0020 RANGE 1 2\n AT\t0017 RANGE 3 4 \nROW 4000 A ANY Q ANY X 0 V 1\nAT 0017 RANGE 3 3\nEND\n\n# behind the end\n";
 
 /// Expects what `TEXT` says of the start, of a cell and of named places.
 fn expect_statements(rt: &impl Abort, cert: &Cert) {
-    let cell = Value::Range(Range::of(-5, 9).expect(rt, "a range"));
-    expect_same(rt, &cert.limits().cell(0o17), &cell);
-    expect_same(
-        rt,
-        &(cert.limits().may(0o4001), cert.limits().may(0o4000)),
-        &(true, false),
-    );
-    expect_same(
-        rt,
-        &(cert.init(0o17).is_some(), cert.init(0o20).is_some()),
-        &(true, false),
-    );
+    let limits = cert.limits();
+    expect_same(rt, &limits.cell(0o17), &value(rt, Held::Range(-5, 9)));
+    let told = [
+        limits.may(0o4001),
+        limits.may(0o4000),
+        cert.init(0o17).is_some(),
+        cert.init(0o20).is_some(),
+    ];
+    expect_same(rt, &told, &[true, false, true, false]);
     expect_same(rt, &(cert.start(), cert.rows().len()), &(0o4000, 2));
 }
 
 /// Expects the first row of `TEXT`.
 fn expect_first_row(rt: &impl Abort, row: &Row<Value>) {
+    let [first, second] = row.at() else {
+        panic!(rt; "not two cells");
+    };
+    let told = [row.location(), first.address, second.address];
+    expect_same(rt, &told, &[0o4000, 0o17, 0o20]);
     let x = [true, true, true, false, false, false, false, true];
-    expect_same(
-        rt,
-        &(row.location(), row.x(), row.v()),
-        &(0o4000, x, [true, true]),
-    );
-    match row.at() {
-        [first, second] => {
-            expect_same(rt, &(first.address, second.address), &(0o17, 0o20));
-        }
-        _ => panic!(rt; "not two cells"),
-    }
+    expect_same(rt, &(row.x(), row.v()), &(x, [true, true]));
 }
 
 #[test]
 fn a_certificate_is_read(rt: HostRuntime) {
     let cert = reading(&rt, rt.alloc(), TEXT).expect(&rt, "a certificate");
     expect_statements(&rt, &cert);
-    match cert.rows() {
-        [first, ..] => expect_first_row(&rt, first),
-        _ => panic!(rt; "no row"),
-    }
+    let rows = cert.rows();
+    assert!(&rt; !rows.is_empty());
+    expect_first_row(&rt, &rows[0]);
 }
 
 /// A certificate of version 2 whose rows have a link before, between and after their cells, and none.
@@ -103,7 +86,8 @@ fn links_are_read_among_the_cells_of_their_rows(rt: HostRuntime) {
     assert!(&rt; rows.len() == LINKS.len());
     for number in 0..LINKS.len() {
         let row = &rows[number];
-        expect_same(&rt, &(row.link(), row.at().len()), &(LINKS[number], 2));
+        let told = (number, row.link(), row.at().len());
+        expect_same(&rt, &told, &(number, LINKS[number], 2));
     }
 }
 
@@ -231,8 +215,10 @@ const FAULTS: [(&[u8], u32, CertKind); 36] = [
 
 /// Expects the line and the kind of a text's first fault.
 fn expect_fault(rt: &impl Abort, alloc: Global, text: &[u8], line: u32, kind: CertKind) {
-    let wanted = CertError::At { line, kind };
-    assert!(rt; fault(rt, alloc, text) == Some(wanted));
+    match reading(rt, alloc, text) {
+        Ok(_) => panic!(rt; "a certificate in place of a fault in line {line}"),
+        Err(error) => expect_same(rt, &error, &CertError::At { line, kind }),
+    }
 }
 
 #[test]
@@ -242,18 +228,13 @@ fn first_faults_are_told(rt: HostRuntime) {
     }
 }
 
-/// Adds a text, so many times.
-fn add(rt: &impl Abort, text: &mut Vec<u8>, line: &[u8], count: usize) {
-    for _ in 0..count {
-        assert!(rt; text.extend_from_slice(line).is_ok());
-    }
-}
-
 #[test]
 fn rows_are_counted(rt: HostRuntime) {
     let alloc = rt.alloc();
-    let mut text = Vec::new(alloc);
-    add(&rt, &mut text, b"AGSCERT 1\n", 1);
-    add(&rt, &mut text, b"ROW 4000 A ANY Q ANY X 0 V 0\n", 513);
+    let mut text = Vec::from_slice(alloc, b"AGSCERT 1\n").expect(&rt, "memory");
+    for _ in 0..513 {
+        let row = b"ROW 4000 A ANY Q ANY X 0 V 0\n";
+        assert!(&rt; text.extend_from_slice(row).is_ok());
+    }
     expect_fault(&rt, alloc, text.as_slice(), 514, CertKind::TooManyRows);
 }

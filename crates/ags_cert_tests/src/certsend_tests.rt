@@ -1,19 +1,16 @@
 //! Certificates whose texts were worked out outside the crate: octal numbers are typed as octal.
 
-use crate::common::{expect_same, range};
+use crate::common::{Held, Limit, OPEN, Said, add, certificate, expect_same, row};
 use ags_certread::{CERT_LIMIT, read};
 use ags_certsend::{send_cert, sent_certificate_reads_back, sent_lines_are_read};
-use ags_certtype::{Cert, CertParts};
+use ags_certtype::Cert;
 use ags_decks::FailingSink;
-use ags_domain::{Domain, Range, Value, WordSet};
 use ags_outside::{SendError, SteadySink};
 use ags_ports::Ports;
-use ags_row::{At, Limits, Row, RowParts};
-use ags_word::Word;
 use std::alloc::Global;
 use std::process::Abort;
 
-/// The text of `return_word`.
+/// The text of `RETURN_WORD_PARTS`.
 const RETURN_WORD: &[u8] = b"AGSCERT 1\nSTART 4000\n\
     ROW 4000 A ANY Q ANY X 0 V 0\n\
     ROW 4001 A ANY Q ANY X 0 V 0\n\
@@ -24,8 +21,8 @@ const RETURN_WORD: &[u8] = b"AGSCERT 1\nSTART 4000\n\
     AT 0017 WORDS 404001\n\
     END\n";
 
-/// The text of `one_of_each`.
-const ONE_OF_EACH: &[u8] = b"AGSCERT 1\nSTART 4001\n\
+/// The text of `EACH_KIND_PARTS`.
+const EACH_KIND: &[u8] = b"AGSCERT 1\nSTART 4001\n\
     CELL 0020 RANGE -5 7\n\
     CELL 3777 WORDS 000000 777777\n\
     INIT 0000 ANY\n\
@@ -41,7 +38,7 @@ const ONE_OF_EACH: &[u8] = b"AGSCERT 1\nSTART 4001\n\
     ROW 4000 A ANY Q ANY X 5 V 1\n\
     END\n";
 
-/// The text of `two_sets`: its row is as long a line as a certificate has.
+/// The text of `TWO_SETS_PARTS`: its row is as long a line as a certificate has.
 const TWO_SETS: &[u8] = b"AGSCERT 1\nSTART 4000\n\
     ROW 4000 A WORDS 000001 000002 000003 000004 000005 000006 000007 000010 \
     000011 000012 000013 000014 000015 000016 000017 000020 Q WORDS \
@@ -82,203 +79,136 @@ const UNLINKED: &[u8] = b"AGSCERT 2\nROW 4000 A ANY Q ANY X 0 V 0\nEND\n";
 /// `UNLINKED` as it is sent.
 const PLAIN: &[u8] = b"AGSCERT 1\nSTART 4000\nROW 4000 A ANY Q ANY X 0 V 0\nEND\n";
 
-/// The value that is a set of some words, by their numbers.
-fn words(rt: &impl Abort, alloc: Global, numbers: &[u32]) -> Value {
-    let mut list = Vec::new(alloc);
-    for number in numbers {
-        let word = Word::of(*number).expect(rt, "a word");
-        assert!(rt; list.push(word).is_ok());
-    }
-    Value::Words(WordSet::of(list.as_slice()).expect(rt, "the words of a set"))
-}
-
-/// A row of `return_word`: whether Q holds the word alone, and whether the cell does.
-fn row(rt: &impl Abort, alloc: Global, location: u16, in_q: bool, in_cell: bool) -> Row<Value> {
-    let q = if in_q {
-        words(rt, alloc, &[0o404001])
-    } else {
-        Value::full()
-    };
-    let mut at = Vec::new(alloc);
-    if in_cell {
-        let cell = At {
-            address: 0o17,
-            value: words(rt, alloc, &[0o404001]),
-        };
-        assert!(rt; at.push(cell).is_ok());
-    }
-    Row::of(RowParts {
-        location,
-        a: Value::full(),
-        q,
-        x: [true, false, false, false, false, false, false, false],
-        v: [true, false],
-        at,
-        link: None,
-    })
-    .expect(rt, "the parts of a row")
-}
-
-/// The certificate of some parts, with nothing stated of the start but of two cells.
-fn made(
-    rt: &impl Abort,
-    alloc: Global,
+/// A certificate, as a constant says it: its start, limits, what is stated of some cells at the start, and its rows.
+struct Parts {
     start: u16,
-    limits: Limits<Value>,
-    firsts: [Option<Value>; 2],
-    rows: Vec<Row<Value>>,
-) -> Cert {
-    let mut init: Vec<Option<Value>> = vec![in alloc; None; 2048].expect(
-        rt,
-        "memory for the start",
-    );
-    init[0] = firsts[0];
-    init[0o3777] = firsts[1];
-    let parts = CertParts {
-        start,
-        limits,
-        init,
-        rows,
-    };
-    Cert::of(alloc, parts)
-        .expect(rt, "memory for a certificate")
-        .expect(rt, "the parts of a certificate")
+    limits: &'static [Limit],
+    firsts: &'static [(u16, Held)],
+    rows: &'static [Said],
 }
 
-/// The rows of `return_word`: the location, whether Q holds the word alone, and whether the cell does.
-const ROWS: [(u16, bool, bool); 5] = [
-    (0o4000, false, false),
-    (0o4001, false, false),
-    (0o4002, true, false),
-    (0o4003, false, true),
-    (0o17, false, true),
-];
+/// The certificate that is said.
+fn made(rt: &impl Abort, alloc: Global, parts: &Parts) -> Cert {
+    let mut rows = Vec::new(alloc);
+    for said in parts.rows {
+        add(rt, &mut rows, row(rt, alloc, said));
+    }
+    let made = certificate(rt, alloc, parts.start, parts.limits, parts.firsts, rows);
+    made.expect(rt, "the parts of a certificate")
+}
+
+/// The word that comes back to 4001 octal.
+const BACK: Held = Held::Word(0o404001);
 
 /// The certificate of a program that puts 404001 into Q and comes back over a cell.
-fn return_word(rt: &impl Abort, alloc: Global) -> Cert {
-    let mut rows = Vec::new(alloc);
-    for &(location, in_q, in_cell) in &ROWS {
-        assert!(rt; rows.push(row(rt, alloc, location, in_q, in_cell)).is_ok());
-    }
-    let limits: Limits<Value> = Limits::new(alloc).expect(rt, "memory for limits");
-    made(rt, alloc, 0o4000, limits, [None, None], rows)
-}
-
-/// The limits of `one_of_each`.
-fn some_limits(rt: &impl Abort, alloc: Global) -> Limits<Value> {
-    let mut limits: Limits<Value> = Limits::new(alloc).expect(rt, "memory for limits");
-    limits.set_cell(0o3777, words(rt, alloc, &[0, 0o777777]));
-    limits.set_cell(0o20, range(rt, -5, 7));
-    limits.set_cell(0o21, range(rt, -131_072, 131_071));
-    limits.set_input(0o2200, range(rt, 0, 31));
-    limits.set_input(0o2001, range(rt, 0, 131_071));
-    limits.set_output(0o6001, range(rt, -131_072, -1));
-    limits.name_place(0o7777);
-    limits.name_place(0);
-    limits
-}
-
-/// The first row of `one_of_each`.
-fn first_row(rt: &impl Abort, alloc: Global) -> Row<Value> {
-    let mut at = Vec::new(alloc);
-    let (address, value) = (0o17, Value::full());
-    assert!(rt; at.push(At { address, value }).is_ok());
-    let (address, value) = (0o20, range(rt, -1, 0));
-    assert!(rt; at.push(At { address, value }).is_ok());
-    Row::of(RowParts {
-        location: 0o4001,
-        a: range(rt, 1, 2),
-        q: words(rt, alloc, &[1]),
-        x: [true, true, true, false, false, false, false, true],
-        v: [true, true],
-        at,
-        link: None,
-    })
-    .expect(rt, "the parts of a row")
-}
-
-/// The second row of `one_of_each`.
-fn second_row(rt: &impl Abort, alloc: Global) -> Row<Value> {
-    Row::of(RowParts {
-        location: 0o4000,
-        a: Value::full(),
-        q: Value::full(),
-        x: [false, false, false, false, false, true, false, false],
-        v: [false, true],
-        at: Vec::new(alloc),
-        link: None,
-    })
-    .expect(rt, "the parts of a row")
-}
+const RETURN_WORD_PARTS: Parts = Parts {
+    start: 0o4000,
+    limits: &[],
+    firsts: &[],
+    rows: &[
+        OPEN,
+        Said {
+            location: 0o4001,
+            ..OPEN
+        },
+        Said {
+            location: 0o4002,
+            q: BACK,
+            ..OPEN
+        },
+        Said {
+            location: 0o4003,
+            at: (Some((0o17, BACK)), None),
+            ..OPEN
+        },
+        Said {
+            location: 0o17,
+            at: (Some((0o17, BACK)), None),
+            ..OPEN
+        },
+    ],
+};
 
 /// A certificate with a line of each kind.
-fn one_of_each(rt: &impl Abort, alloc: Global) -> Cert {
-    let mut rows = Vec::new(alloc);
-    assert!(rt; rows.push(first_row(rt, alloc)).is_ok());
-    assert!(rt; rows.push(second_row(rt, alloc)).is_ok());
-    let firsts = [Some(Value::full()), Some(words(rt, alloc, &[0o777777]))];
-    made(rt, alloc, 0o4001, some_limits(rt, alloc), firsts, rows)
-}
-
-/// The value that is the set of sixteen words, ascending from the one of a number.
-fn sixteen(rt: &impl Abort, alloc: Global, first: u32) -> Value {
-    let mut numbers = Vec::new(alloc);
-    for place in 0..16u32 {
-        assert!(rt; numbers.push(first.saturating_add(place)).is_ok());
-    }
-    words(rt, alloc, numbers.as_slice())
-}
+const EACH_KIND_PARTS: Parts = Parts {
+    start: 0o4001,
+    limits: &[
+        Limit::Cell(0o3777, Held::Pair(0, 0o777777)),
+        Limit::Cell(0o20, Held::Range(-5, 7)),
+        Limit::Cell(0o21, Held::Range(-131_072, 131_071)),
+        Limit::Input(0o2200, Held::Range(0, 31)),
+        Limit::Input(0o2001, Held::Range(0, 131_071)),
+        Limit::Output(0o6001, Held::Range(-131_072, -1)),
+        Limit::Place(0o7777),
+        Limit::Place(0),
+    ],
+    firsts: &[(0, Held::Any), (0o3777, Held::Word(0o777777))],
+    rows: &[
+        Said {
+            location: 0o4001,
+            a: Held::Range(1, 2),
+            q: Held::Word(1),
+            x: [true, true, true, false, false, false, false, true],
+            v: [true, true],
+            at: (Some((0o17, Held::Any)), Some((0o20, Held::Range(-1, 0)))),
+        },
+        Said {
+            x: [false, false, false, false, false, true, false, false],
+            v: [false, true],
+            ..OPEN
+        },
+    ],
+};
 
 /// A certificate of one row, whose A and whose Q hold sixteen words each; each index and each indicator may stand.
-fn two_sets(rt: &impl Abort, alloc: Global) -> Cert {
-    let row = Row::of(RowParts {
-        location: 0o4000,
-        a: sixteen(rt, alloc, 0o1),
-        q: sixteen(rt, alloc, 0o777760),
+const TWO_SETS_PARTS: Parts = Parts {
+    start: 0o4000,
+    limits: &[],
+    firsts: &[],
+    rows: &[Said {
+        a: Held::Sixteen(0o1),
+        q: Held::Sixteen(0o777760),
         x: [true; 8],
         v: [true, true],
-        at: Vec::new(alloc),
-        link: None,
-    })
-    .expect(rt, "the parts of a row");
-    let mut rows = Vec::new(alloc);
-    assert!(rt; rows.push(row).is_ok());
-    let limits: Limits<Value> = Limits::new(alloc).expect(rt, "memory for limits");
-    made(rt, alloc, 0o4000, limits, [None, None], rows)
-}
+        ..OPEN
+    }],
+};
 
 /// Expects the text of a certificate, which a sink takes in pieces of so many bytes at most.
 fn expect_sent(rt: &impl Abort, alloc: Global, cert: &Cert, most: usize, text: &[u8]) {
     let mut out = SteadySink::new(alloc, most.max(1));
     assert!(rt; send_cert(cert, &mut out).is_ok());
-    assert!(rt; out.bytes() == text);
+    expect_same(rt, &out.bytes(), &text);
 }
 
 #[test]
 fn certificates_are_sent(rt: HostRuntime) {
     let alloc = rt.alloc();
-    expect_sent(&rt, alloc, &return_word(&rt, alloc), 10_000, RETURN_WORD);
-    expect_sent(&rt, alloc, &one_of_each(&rt, alloc), 1, ONE_OF_EACH);
-    expect_sent(&rt, alloc, &two_sets(&rt, alloc), 10_000, TWO_SETS);
+    let return_word = made(&rt, alloc, &RETURN_WORD_PARTS);
+    expect_sent(&rt, alloc, &return_word, 10_000, RETURN_WORD);
+    let each_kind = made(&rt, alloc, &EACH_KIND_PARTS);
+    expect_sent(&rt, alloc, &each_kind, 1, EACH_KIND);
+    let two_sets = made(&rt, alloc, &TWO_SETS_PARTS);
+    expect_sent(&rt, alloc, &two_sets, 10_000, TWO_SETS);
 }
 
-/// Reads a text, and expects that the certificate is sent as another.
-fn expect_sent_as(rt: &impl Abort, alloc: Global, text: &[u8], sent: &[u8]) {
-    assert!(rt; text.len() <= CERT_LIMIT);
-    let Ok(cert) = read(alloc, text, &Ports::standard()) else {
-        panic!(rt; "the text is no certificate");
-    };
-    expect_sent(rt, alloc, &cert, 10_000, sent);
-}
+/// Texts, and as what their certificates are sent.
+const READ_AND_SENT: [(&[u8], &[u8]); 5] = [
+    (RETURN_WORD, RETURN_WORD),
+    (TWO_SETS, TWO_SETS),
+    (LIMITER, LIMITER),
+    (UNSORTED, SORTED),
+    (UNLINKED, PLAIN),
+];
 
 #[test]
 fn sent_texts_read_back(rt: HostRuntime) {
     let alloc = rt.alloc();
-    expect_sent_as(&rt, alloc, RETURN_WORD, RETURN_WORD);
-    expect_sent_as(&rt, alloc, TWO_SETS, TWO_SETS);
-    expect_sent_as(&rt, alloc, LIMITER, LIMITER);
-    expect_sent_as(&rt, alloc, UNSORTED, SORTED);
-    expect_sent_as(&rt, alloc, UNLINKED, PLAIN);
+    for &(text, sent) in &READ_AND_SENT {
+        assert!(&rt; text.len() <= CERT_LIMIT);
+        let cert = read(alloc, text, &Ports::standard()).expect(&rt, "a certificate");
+        expect_sent(&rt, alloc, &cert, 10_000, sent);
+    }
 }
 
 /// Sends a certificate to a sink that fails at a put, and looks at the answer and at how many puts there were.
@@ -290,7 +220,7 @@ fn expect_puts(rt: &impl Abort, cert: &Cert, at: u64, wanted: Result<(), SendErr
 
 #[test]
 fn each_line_is_one_put_that_may_fail(rt: HostRuntime) {
-    let cert = one_of_each(&rt, rt.alloc());
+    let cert = made(&rt, rt.alloc(), &EACH_KIND_PARTS);
     for at in 1..=16u64 {
         expect_puts(&rt, &cert, at, Err(SendError::WriteFault), at);
     }

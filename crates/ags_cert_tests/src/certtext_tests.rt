@@ -1,14 +1,57 @@
 //! Rows worked out by hand from the rules of a certificate's lines: octal numbers are typed as octal.
 
+use crate::common::{Held, expect_same, value};
 use ags_certtext::{
     CertLines, Entry, RowLine, Statement, Table, first_line_has_one_reading, line_has_one_reading,
     read_first_line, spelled_statements_are_lawful,
 };
-use ags_domain::{Domain, Range, Value, WordSet};
+use ags_domain::Value;
 use ags_frame::{Line, Opening, read_line};
 use ags_row::Link;
-use ags_word::Word;
 use std::process::Abort;
+
+/// A statement, as a constant says it. An empty range is no value.
+#[derive(Clone, Copy)]
+enum Said {
+    Start(u16),
+    May(u16),
+    End,
+    /// An address and its value.
+    Entry(Table, u16, Option<Held>),
+    /// A location, A and Q, the indexes and the indicators.
+    Row(u16, [Option<Held>; 2], [bool; 8], [bool; 2]),
+    /// An address and an offset.
+    Linked(u16, i32),
+}
+
+/// The value that is said, where one is.
+fn value_if(rt: &impl Abort, held: Option<Held>) -> Option<Value> {
+    match held {
+        Some(held) => Some(value(rt, held)),
+        None => None,
+    }
+}
+
+/// The statement that is said.
+fn statement(rt: &impl Abort, said: Said) -> Statement {
+    match said {
+        Said::Start(location) => Statement::Start(location),
+        Said::May(location) => Statement::May(location),
+        Said::End => Statement::End,
+        Said::Entry(table, address, held) => {
+            let value = value_if(rt, held);
+            Statement::Entry(table, Entry { address, value })
+        }
+        Said::Row(location, registers, x, v) => Statement::Row(RowLine {
+            location,
+            a: value_if(rt, registers[0]),
+            q: value_if(rt, registers[1]),
+            x,
+            v,
+        }),
+        Said::Linked(address, offset) => Statement::Linked(Link { address, offset }),
+    }
+}
 
 /// Clear alone, set alone, and both.
 const CLEAR: [bool; 2] = [true, false];
@@ -17,195 +60,105 @@ const SET: [bool; 2] = [false, true];
 
 const EITHER: [bool; 2] = [true, true];
 
-/// The index 0 alone.
+/// The index 0 alone, some of them, and all.
 const ZERO: [bool; 8] = [true, false, false, false, false, false, false, false];
 
+const SOME: [bool; 8] = [true, true, true, false, false, false, false, true];
+
+const ALL: [bool; 8] = [true; 8];
+
 /// Every word.
-fn any() -> Option<Value> {
-    Some(Value::full())
-}
+const ANY: Option<Held> = Some(Held::Any);
 
-/// The value of a range, where it isn't empty.
-fn range(least: i32, greatest: i32) -> Option<Value> {
-    Range::of(least, greatest).map(Value::Range)
-}
+/// Lines, and what they state.
+const STATEMENTS: [(&str, Said); 28] = [
+    // locations and the end
+    ("START 4000", Said::Start(0o4000)),
+    (" \tSTART\t 0000 \t", Said::Start(0)),
+    ("MAY 7777", Said::May(0o7777)),
+    ("END", Said::End),
+    ("\tEND ", Said::End),
+    // entries of every word and of ranges
+    ("CELL 0017 ANY", Said::Entry(Table::Cell, 0o17, ANY)),
+    (
+        "INIT 3777 RANGE 4 6",
+        Said::Entry(Table::Init, 0o3777, Some(Held::Range(4, 6))),
+    ),
+    (
+        "IN 2200 RANGE -131072 131071",
+        Said::Entry(Table::In, 0o2200, Some(Held::Range(-131_072, 131_071))),
+    ),
+    (
+        "OUT 6200 RANGE -0 000031",
+        Said::Entry(Table::Out, 0o6200, Some(Held::Range(0, 31))),
+    ),
+    (
+        "CELL 0017 RANGE -000005 -5",
+        Said::Entry(Table::Cell, 0o17, Some(Held::Range(-5, -5))),
+    ),
+    ("CELL 4000 ANY", Said::Entry(Table::Cell, 0o4000, ANY)),
+    // empty ranges
+    ("CELL 0017 RANGE 9 5", Said::Entry(Table::Cell, 0o17, None)),
+    ("AT 0017 RANGE 5 4", Said::Entry(Table::At, 0o17, None)),
+    ("AT 0017 RANGE 0 -1", Said::Entry(Table::At, 0o17, None)),
+    // word sets
+    (
+        "AT 0017 WORDS 404001",
+        Said::Entry(Table::At, 0o17, Some(Held::Word(0o404001))),
+    ),
+    (
+        "AT 0017 WORDS 000001 777777",
+        Said::Entry(Table::At, 0o17, Some(Held::Pair(1, 0o777777))),
+    ),
+    (
+        "AT 0017 WORDS 000000 000001 000002 000003 000004 000005 000006 000007 000010 000011 000012 000013 000014 000015 000016 000017",
+        Said::Entry(Table::At, 0o17, Some(Held::Sixteen(0))),
+    ),
+    // rows
+    (
+        "ROW 4000 A ANY Q ANY X 0 V 0",
+        Said::Row(0o4000, [ANY, ANY], ZERO, CLEAR),
+    ),
+    (
+        "ROW 4002 A ANY Q WORDS 404001 X 0 V 01",
+        Said::Row(0o4002, [ANY, Some(Held::Word(0o404001))], ZERO, EITHER),
+    ),
+    (
+        "ROW 0017 A WORDS 000001 777777 Q RANGE -3 7 X 0127 V 1",
+        Said::Row(
+            0o17,
+            [Some(Held::Pair(1, 0o777777)), Some(Held::Range(-3, 7))],
+            SOME,
+            SET,
+        ),
+    ),
+    (
+        "ROW 0017 A RANGE 2 1 Q ANY X 01234567 V 0",
+        Said::Row(0o17, [None, ANY], ALL, CLEAR),
+    ),
+    (
+        "ROW 0017 A RANGE 1 2 Q RANGE 2 1 X 0 V 0",
+        Said::Row(0o17, [Some(Held::Range(1, 2)), None], ZERO, CLEAR),
+    ),
+    // links
+    ("LINK 0020 10", Said::Linked(0o20, 10)),
+    ("\tLINK  3777 -262143 ", Said::Linked(0o3777, -262_143)),
+    ("LINK 0000 262143", Said::Linked(0, 262_143)),
+    ("LINK 0020 -000009", Said::Linked(0o20, -9)),
+    ("LINK 0020 -0", Said::Linked(0o20, 0)),
+    ("LINK 4000 0", Said::Linked(0o4000, 0)),
+];
 
-/// The set of one word.
-fn alone(number: u32) -> Option<Value> {
-    match Word::of(number) {
-        Some(word) => WordSet::of(&[word]).map(Value::Words),
-        None => None,
-    }
-}
-
-/// The set of two words.
-fn pair(first: u32, second: u32) -> Option<Value> {
-    match (Word::of(first), Word::of(second)) {
-        (Some(one), Some(other)) => WordSet::of(&[one, other]).map(Value::Words),
-        _ => None,
-    }
-}
-
-/// The set of the words 0 to 15.
-fn sixteen() -> Option<Value> {
-    let mut words = [Word::ZERO; 16];
-    for number in 0..16 {
-        if let Some(word) = Word::of(number as u32) {
-            words[number] = word;
-        }
-    }
-    WordSet::of(&words).map(Value::Words)
-}
-
-/// An address and its value.
-fn entry(address: u16, value: Option<Value>) -> Entry {
-    Entry { address, value }
-}
-
-/// The statement of a row.
-fn row(location: u16, a: Option<Value>, q: Option<Value>, x: [bool; 8], v: [bool; 2]) -> Statement {
-    Statement::Row(RowLine {
-        location,
-        a,
-        q,
-        x,
-        v,
-    })
-}
-
-/// Expects what a line is.
+/// Expects what a line is; if it isn't, the line is shown.
 fn expect_line(rt: &impl Abort, line: &[u8], wanted: Line<Statement>) {
-    assert!(rt; read_line::<CertLines>(line) == wanted);
-}
-
-/// Expects the statement of a line.
-fn expect_statement(rt: &impl Abort, line: &[u8], wanted: Statement) {
-    expect_line(rt, line, Line::Stated(wanted));
-}
-
-/// Expects the entry of a line.
-fn expect_entry(rt: &impl Abort, line: &[u8], table: Table, address: u16, value: Option<Value>) {
-    expect_statement(rt, line, Statement::Entry(table, entry(address, value)));
+    assert!(rt; read_line::<CertLines>(line) == wanted, "{line:?}");
 }
 
 #[test]
-fn locations_and_the_end_are_read(rt: HostRuntime) {
-    expect_statement(&rt, b"START 4000", Statement::Start(0o4000));
-    expect_statement(&rt, b" \tSTART\t 0000 \t", Statement::Start(0));
-    expect_statement(&rt, b"MAY 7777", Statement::May(0o7777));
-    expect_statement(&rt, b"END", Statement::End);
-    expect_statement(&rt, b"\tEND ", Statement::End);
-}
-
-#[test]
-fn entries_of_every_word_and_of_ranges_are_read(rt: HostRuntime) {
-    expect_entry(&rt, b"CELL 0017 ANY", Table::Cell, 0o17, any());
-    expect_entry(
-        &rt,
-        b"INIT 3777 RANGE 4 6",
-        Table::Init,
-        0o3777,
-        range(4, 6),
-    );
-    expect_entry(
-        &rt,
-        b"IN 2200 RANGE -131072 131071",
-        Table::In,
-        0o2200,
-        range(-131_072, 131_071),
-    );
-    expect_entry(
-        &rt,
-        b"OUT 6200 RANGE -0 000031",
-        Table::Out,
-        0o6200,
-        range(0, 31),
-    );
-    expect_entry(
-        &rt,
-        b"CELL 0017 RANGE -000005 -5",
-        Table::Cell,
-        0o17,
-        range(-5, -5),
-    );
-    expect_entry(&rt, b"CELL 4000 ANY", Table::Cell, 0o4000, any());
-}
-
-#[test]
-fn empty_ranges_are_read_as_no_value(rt: HostRuntime) {
-    expect_entry(&rt, b"CELL 0017 RANGE 9 5", Table::Cell, 0o17, None);
-    expect_entry(&rt, b"AT 0017 RANGE 5 4", Table::At, 0o17, None);
-    expect_entry(&rt, b"AT 0017 RANGE 0 -1", Table::At, 0o17, None);
-}
-
-#[test]
-fn word_sets_are_read(rt: HostRuntime) {
-    expect_entry(
-        &rt,
-        b"AT 0017 WORDS 404001",
-        Table::At,
-        0o17,
-        alone(0o404001),
-    );
-    expect_entry(
-        &rt,
-        b"AT 0017 WORDS 000001 777777",
-        Table::At,
-        0o17,
-        pair(1, 0o777777),
-    );
-    expect_entry(
-        &rt,
-        b"AT 0017 WORDS 000000 000001 000002 000003 000004 000005 000006 000007 000010 000011 000012 000013 000014 000015 000016 000017",
-        Table::At,
-        0o17,
-        sixteen(),
-    );
-}
-
-#[test]
-fn rows_are_read(rt: HostRuntime) {
-    let some = [true, true, true, false, false, false, false, true];
-    expect_statement(
-        &rt,
-        b"ROW 4000 A ANY Q ANY X 0 V 0",
-        row(0o4000, any(), any(), ZERO, CLEAR),
-    );
-    expect_statement(
-        &rt,
-        b"ROW 4002 A ANY Q WORDS 404001 X 0 V 01",
-        row(0o4002, any(), alone(0o404001), ZERO, EITHER),
-    );
-    expect_statement(
-        &rt,
-        b"ROW 0017 A WORDS 000001 777777 Q RANGE -3 7 X 0127 V 1",
-        row(0o17, pair(1, 0o777777), range(-3, 7), some, SET),
-    );
-    expect_statement(
-        &rt,
-        b"ROW 0017 A RANGE 2 1 Q ANY X 01234567 V 0",
-        row(0o17, None, any(), [true; 8], CLEAR),
-    );
-    expect_statement(
-        &rt,
-        b"ROW 0017 A RANGE 1 2 Q RANGE 2 1 X 0 V 0",
-        row(0o17, range(1, 2), None, ZERO, CLEAR),
-    );
-}
-
-/// Expects the link of a line.
-fn expect_link(rt: &impl Abort, line: &[u8], address: u16, offset: i32) {
-    expect_statement(rt, line, Statement::Linked(Link { address, offset }));
-}
-
-#[test]
-fn links_are_read(rt: HostRuntime) {
-    expect_link(&rt, b"LINK 0020 10", 0o20, 10);
-    expect_link(&rt, b"\tLINK  3777 -262143 ", 0o3777, -262_143);
-    expect_link(&rt, b"LINK 0000 262143", 0, 262_143);
-    expect_link(&rt, b"LINK 0020 -000009", 0o20, -9);
-    expect_link(&rt, b"LINK 0020 -0", 0o20, 0);
-    expect_link(&rt, b"LINK 4000 0", 0o4000, 0);
+fn statements_are_read(rt: HostRuntime) {
+    for &(line, said) in &STATEMENTS {
+        expect_line(&rt, line.as_bytes(), Line::Stated(statement(&rt, said)));
+    }
 }
 
 /// Lines that are malformed.
@@ -292,18 +245,14 @@ const MALFORMED: [&[u8]; 74] = [
     b"ROW 4000 A RANGE 131072 1 Q ANY X 0 V 0",
 ];
 
-#[test]
-fn other_lines_are_malformed(rt: HostRuntime) {
-    for line in &MALFORMED {
-        expect_line(&rt, line, Line::Malformed);
-    }
-}
-
 /// Lines that do nothing.
 const SKIPPED: [&[u8]; 6] = [b"", b" ", b"\t", b" \t \t", b"#", b"# END \x00\xff\r"];
 
 #[test]
-fn lines_that_do_nothing_are_skipped(rt: HostRuntime) {
+fn other_lines_are_malformed_or_skipped(rt: HostRuntime) {
+    for line in &MALFORMED {
+        expect_line(&rt, line, Line::Malformed);
+    }
     for line in &SKIPPED {
         expect_line(&rt, line, Line::Skipped);
     }
@@ -327,8 +276,8 @@ fn long_lines_are_malformed(rt: HostRuntime) {
     expect_long(&rt, &bytes, Line::Stated(Statement::End));
 }
 
-/// The rows of `first_lines_are_read`.
-const FIRST_LINES_ARE_READ: [(&[u8], Opening); 24] = [
+/// First lines, and what they are.
+const FIRST_LINES: [(&[u8], Opening); 24] = [
     (b"AGSCERT 1", Opening::Version(1)),
     (b"\t AGSCERT \t1 ", Opening::Version(1)),
     (b"AGSCERT 2", Opening::Version(2)),
@@ -357,12 +306,12 @@ const FIRST_LINES_ARE_READ: [(&[u8], Opening); 24] = [
 
 /// Expects what a first line is.
 fn expect_first_line(rt: &impl Abort, line: &[u8], wanted: Opening) {
-    assert!(rt; read_first_line(line) == wanted);
+    expect_same(rt, &(line, read_first_line(line)), &(line, wanted));
 }
 
 #[test]
 fn first_lines_are_read(rt: HostRuntime) {
-    for &(line, wanted) in &FIRST_LINES_ARE_READ {
+    for &(line, wanted) in &FIRST_LINES {
         expect_first_line(&rt, line, wanted);
     }
 }

@@ -1,48 +1,32 @@
 //! The rows of a certificate by location, and those of them that cover a post.
 
-use crate::common::{expect_same, range};
+use crate::common::{Held, OPEN, Said, add, certificate, expect_same, row, value};
+use ags_certtype::Cert;
 use ags_certtype::laws::numbers_are_of_the_rows_at_a_location;
-use ags_certtype::{Cert, CertParts};
 use ags_check::laws::{cover_asks_nothing_of_a_number, rows_have_one_number_of_cases};
 use ags_check::{EachServes, Serving, covering_row, start_row};
 use ags_domain::{Domain, Value};
 use ags_image::Image;
-use ags_row::{Limits, Post, Row, RowParts};
+use ags_row::Post;
 use std::alloc::Global;
 use std::marker::Model;
 use std::process::Abort;
 
-/// A row where A may hold the words from 0 to a greatest value, and Q any; index 0, and the indicator is clear.
-fn row(rt: &impl Abort, alloc: Global, location: u16, greatest: i32) -> Row<Value> {
-    Row::of(RowParts {
-        location,
-        a: range(rt, 0, greatest),
-        q: Value::full(),
-        x: [true, false, false, false, false, false, false, false],
-        v: [true, false],
-        at: Vec::new(alloc),
-        link: None,
-    })
-    .expect(rt, "the parts of a row")
-}
-
 /// A certificate with a row at each of some locations, where A is from 0 to the row's number; it starts at 4000 octal.
-fn certificate(rt: &impl Abort, alloc: Global, locations: &[u16]) -> Cert {
+fn certificate_at(rt: &impl Abort, alloc: Global, locations: &[u16]) -> Cert {
     let mut rows = Vec::new(alloc);
     let mut number: i32 = 0;
-    for location in locations {
+    for &location in locations {
         assert!(rt; number < 20_000);
         number += 1;
-        assert!(rt; rows.push(row(rt, alloc, *location, number)).is_ok());
+        let said = Said {
+            location,
+            a: Held::Range(0, number),
+            ..OPEN
+        };
+        add(rt, &mut rows, row(rt, alloc, &said));
     }
-    let parts = CertParts {
-        start: 0o4000,
-        limits: Limits::new(alloc).expect(rt, "memory for limits"),
-        init: vec![in alloc; None; 2048].expect(rt, "memory for the start"),
-        rows,
-    };
-    let made = Cert::of(alloc, parts).expect(rt, "memory for a certificate");
-    made.expect(rt, "the parts of a certificate")
+    certificate(rt, alloc, 0o4000, &[], &[], rows).expect(rt, "the parts of a certificate")
 }
 
 /// Asserts that the numbers of the rows at a location are those of its positions among some locations.
@@ -81,7 +65,7 @@ fn chosen(digits: u32) -> [u16; 5] {
 fn rows_by_location_in_every_order(rt: HostRuntime) {
     for digits in 0..3125 {
         let locations = chosen(digits);
-        let cert = certificate(&rt, rt.alloc(), &locations);
+        let cert = certificate_at(&rt, rt.alloc(), &locations);
         for location in &PLACES {
             expect_numbers(&rt, &cert, &locations, *location);
         }
@@ -95,10 +79,10 @@ fn rows_512_at_one_location(rt: HostRuntime) {
     let alloc = rt.alloc();
     let mut locations: Vec<u16> = Vec::new(alloc);
     for _ in 0..512 {
-        assert!(rt; locations.push(0o17).is_ok());
-        assert!(rt; locations.push(4095).is_ok());
+        add(&rt, &mut locations, 0o17);
+        add(&rt, &mut locations, 4095);
     }
-    let cert = certificate(&rt, alloc, &locations);
+    let cert = certificate_at(&rt, alloc, &locations);
     expect_numbers(&rt, &cert, &locations, 0o17);
     expect_numbers(&rt, &cert, &locations, 4095);
     expect_numbers(&rt, &cert, &locations, 0);
@@ -108,7 +92,7 @@ fn rows_512_at_one_location(rt: HostRuntime) {
 fn post(rt: &impl Abort, next: u16, greatest: i32) -> Post<Value> {
     Post {
         next,
-        a: range(rt, 0, greatest),
+        a: value(rt, Held::Range(0, greatest)),
         q: Value::full(),
         x: 0,
         v0: true,
@@ -156,27 +140,34 @@ const COVERS: [(u16, i32, u32, Option<u32>); 6] = [
 
 #[test]
 fn covering_rows(rt: HostRuntime) {
-    let cert = certificate(&rt, rt.alloc(), &[0o4000, 4095, 0o4000, 0]);
-    let base = row(&rt, rt.alloc(), 0, 1);
+    let cert = certificate_at(&rt, rt.alloc(), &[0o4000, 4095, 0o4000, 0]);
+    let said = Said {
+        location: 0,
+        a: Held::Range(0, 1),
+        ..OPEN
+    };
+    let base = row(&rt, rt.alloc(), &said);
     for &(next, greatest, least, wanted) in &COVERS {
         let post = post(&rt, next, greatest);
         assert!(rt; post.next < 4096);
         let found = covering_row(&cert, &base, &post, &AtLeast { least });
-        expect_same(&rt, &found, &wanted);
+        expect_same(
+            &rt,
+            &(next, greatest, least, found),
+            &(next, greatest, least, wanted),
+        );
     }
 }
 
 #[test]
 fn start_rows(rt: HostRuntime) {
-    let cert = certificate(&rt, rt.alloc(), &[0, 0o4000, 0o4000]);
+    let cert = certificate_at(&rt, rt.alloc(), &[0, 0o4000, 0o4000]);
     let image = Image::new(rt.alloc()).expect(&rt, "memory for an image");
     expect_same(&rt, &start_row(&image, &cert, &EachServes), &Some(2));
-    expect_same(
-        &rt,
-        &start_row(&image, &cert, &AtLeast { least: 3 }),
-        &Some(3),
-    );
-    expect_same(&rt, &start_row(&image, &cert, &AtLeast { least: 4 }), &None);
+    for (least, wanted) in [(3, Some(3)), (4, None)] {
+        let found = start_row(&image, &cert, &AtLeast { least });
+        expect_same(&rt, &found, &wanted);
+    }
 }
 
 #[test]

@@ -115,12 +115,12 @@ fn reader(rt: &impl Abort, alloc: Global) -> CertReader {
     CertReader::new(alloc, &Ports::standard()).expect(rt, "memory")
 }
 
-/// The answer for a text that is cut in two there.
-fn in_two(rt: &impl Abort, alloc: Global, text: &[u8], cut: usize) -> Result<Cert, CertError> {
-    assert!(rt; cut <= text.len());
+/// The answer for pieces, one after the other.
+fn of_pieces(rt: &impl Abort, alloc: Global, pieces: &[&[u8]]) -> Result<Cert, CertError> {
     let mut reader = reader(rt, alloc);
-    reader.take(&text[..cut]).expect(rt, "memory");
-    reader.take(&text[cut..]).expect(rt, "memory");
+    for piece in pieces {
+        reader.take(piece).expect(rt, "memory");
+    }
     reader.finish()
 }
 
@@ -143,35 +143,29 @@ fn by_pieces(rt: &impl Abort, alloc: Global, text: &[u8], size: usize) -> Result
 fn expect_same_by_pieces(rt: &impl Abort, alloc: Global, text: &[u8]) {
     let wanted = whole(rt, alloc, text);
     for cut in 0..text.len() + 1 {
-        assert!(rt; is_same(&in_two(rt, alloc, text, cut), &wanted));
+        let told = of_pieces(rt, alloc, &[&text[..cut], &text[cut..]]);
+        assert!(rt; is_same(&told, &wanted), "cut at {cut}: {text:?}");
     }
     for size in [1, 2, 3, 512] {
-        assert!(rt; is_same(&by_pieces(rt, alloc, text, size), &wanted));
+        let told = by_pieces(rt, alloc, text, size);
+        assert!(rt; is_same(&told, &wanted), "pieces of {size}: {text:?}");
     }
 }
 
-#[test]
-fn the_return_word_is_read_alike_in_pieces(rt: HostRuntime) {
-    assert!(&rt; whole(&rt, rt.alloc(), RETURN_WORD).is_ok());
-    expect_same_by_pieces(&rt, rt.alloc(), RETURN_WORD);
+/// Expects the same of a text that is a certificate.
+fn expect_cert_by_pieces(rt: &impl Abort, alloc: Global, text: &[u8]) {
+    assert!(rt; whole(rt, alloc, text).is_ok(), "no certificate: {text:?}");
+    expect_same_by_pieces(rt, alloc, text);
 }
 
 #[test]
-fn every_kind_of_line_is_read_alike_in_pieces(rt: HostRuntime) {
-    assert!(&rt; whole(&rt, rt.alloc(), EVERY_KIND).is_ok());
-    expect_same_by_pieces(&rt, rt.alloc(), EVERY_KIND);
-}
-
-#[test]
-fn links_are_read_alike_in_pieces(rt: HostRuntime) {
-    assert!(&rt; whole(&rt, rt.alloc(), LIMITER).is_ok());
-    expect_same_by_pieces(&rt, rt.alloc(), LIMITER);
-}
-
-#[test]
-fn short_texts_are_read_alike_in_pieces(rt: HostRuntime) {
+fn texts_are_read_alike_in_pieces(rt: HostRuntime) {
+    let alloc = rt.alloc();
+    expect_cert_by_pieces(&rt, alloc, RETURN_WORD);
+    expect_cert_by_pieces(&rt, alloc, EVERY_KIND);
+    expect_cert_by_pieces(&rt, alloc, LIMITER);
     for text in &SHORT {
-        expect_same_by_pieces(&rt, rt.alloc(), text);
+        expect_same_by_pieces(&rt, alloc, text);
     }
 }
 
@@ -190,26 +184,25 @@ fn the_first_of_two_faults_is_told(rt: HostRuntime) {
     expect_fault(&rt, alloc, SHORT[4], 3, CertKind::BadLine);
 }
 
-/// The answer for a text that is cut in three, with an empty piece at each cut.
-fn in_three(
-    rt: &impl Abort,
-    alloc: Global,
-    text: &[u8],
-    first: usize,
-    second: usize,
-) -> Result<Cert, CertError> {
-    assert!(rt; first <= second && second <= text.len());
-    let mut reader = reader(rt, alloc);
-    for piece in [
-        &text[..first],
-        b"",
-        &text[first..second],
-        b"",
-        &text[second..],
-    ] {
-        reader.take(piece).expect(rt, "memory");
+/// Expects the same answer for a text that is cut in three, with an empty piece at each cut.
+fn expect_same_in_three(rt: &impl Abort, alloc: Global, text: &[u8]) {
+    let wanted = whole(rt, alloc, text);
+    for second in 0..text.len() + 1 {
+        for first in 0..second + 1 {
+            let pieces: [&[u8]; 5] = [
+                &text[..first],
+                b"",
+                &text[first..second],
+                b"",
+                &text[second..],
+            ];
+            let told = of_pieces(rt, alloc, &pieces);
+            assert!(rt;
+                is_same(&told, &wanted),
+                "cut at {first} and {second}: {text:?}"
+            );
+        }
     }
-    reader.finish()
 }
 
 /// Short texts, the one a fault in its third line, the other a line that has not ended.
@@ -217,24 +210,18 @@ const FEW_LINES: [&[u8]; 2] = [b"AGSCERT 1\n#a\r\nIN\n", b"AGSCERT 1\nEND\r"];
 
 #[test]
 fn a_line_over_three_pieces_is_read_alike(rt: HostRuntime) {
-    let alloc = rt.alloc();
     for text in &FEW_LINES {
-        let wanted = whole(&rt, alloc, text);
-        for second in 0..text.len() + 1 {
-            for first in 0..second + 1 {
-                assert!(&rt; is_same(&in_three(&rt, alloc, text, first, second), &wanted));
-            }
-        }
+        expect_same_in_three(&rt, rt.alloc(), text);
     }
 }
 
-/// The answer for pieces, one after the other.
-fn of_pieces(rt: &impl Abort, alloc: Global, pieces: &[&[u8]]) -> Result<Cert, CertError> {
-    let mut reader = reader(rt, alloc);
-    for piece in pieces {
-        reader.take(piece).expect(rt, "memory");
+/// Expects the line of a bad line in pieces.
+fn expect_bad_line(rt: &impl Abort, alloc: Global, pieces: &[&[u8]], line: u32) {
+    let kind = CertKind::BadLine;
+    match of_pieces(rt, alloc, pieces) {
+        Ok(_) => panic!(rt; "a certificate in place of a fault in line {line}"),
+        Err(error) => expect_same(rt, &error, &CertError::At { line, kind }),
     }
-    reader.finish()
 }
 
 /// A row and the end, as they stand after lines that do nothing.
@@ -246,14 +233,7 @@ fn line_feeds_alone_are_lines(rt: HostRuntime) {
     let pieces: [&[u8]; 4] = [b"AGSCERT 1", b"\n\n\n", b"\n", ROW_AND_END];
     assert!(&rt; of_pieces(&rt, alloc, &pieces).is_ok());
     let faulty: [&[u8]; 4] = [b"AGSCERT 1", b"\n\n\n", b"\n", b"ROW\n"];
-    let line = 5;
-    let kind = CertKind::BadLine;
-    assert!(&rt;
-        is_same(
-            &of_pieces(&rt, alloc, &faulty),
-            &Err(CertError::At { line, kind })
-        )
-    );
+    expect_bad_line(&rt, alloc, &faulty, 5);
 }
 
 /// What may stand after a fault.
@@ -272,15 +252,12 @@ const TOO_LONG: &[u8] = &[b'#'; 514];
 #[test]
 fn bytes_behind_a_fault_change_nothing(rt: HostRuntime) {
     let alloc = rt.alloc();
-    let line = 2;
-    let kind = CertKind::BadLine;
-    let wanted = Err(CertError::At { line, kind });
     for &one in &BEHIND_A_FAULT {
         for &other in &BEHIND_A_FAULT {
             let behind_a_line: [&[u8]; 4] = [b"AGSCERT 1\nIN", b"\n", one, other];
-            assert!(&rt; is_same(&of_pieces(&rt, alloc, &behind_a_line), &wanted));
+            expect_bad_line(&rt, alloc, &behind_a_line, 2);
             let behind_a_rest: [&[u8]; 4] = [b"AGSCERT 1\n", TOO_LONG, one, other];
-            assert!(&rt; is_same(&of_pieces(&rt, alloc, &behind_a_rest), &wanted));
+            expect_bad_line(&rt, alloc, &behind_a_rest, 2);
         }
     }
 }
@@ -297,19 +274,12 @@ fn with_comment(rt: &impl Abort, alloc: Global, length: usize) -> Vec<u8> {
 }
 
 #[test]
-fn a_longest_line_is_read_alike_in_pieces(rt: HostRuntime) {
+fn longest_lines_are_read_alike_in_pieces(rt: HostRuntime) {
     let alloc = rt.alloc();
-    let text = with_comment(&rt, alloc, 512);
-    assert!(&rt; whole(&rt, alloc, &text).is_ok());
-    expect_same_by_pieces(&rt, alloc, &text);
-}
-
-#[test]
-fn an_overlong_line_is_told_alike_in_pieces(rt: HostRuntime) {
-    let alloc = rt.alloc();
-    let text = with_comment(&rt, alloc, 513);
-    expect_fault(&rt, alloc, &text, 2, CertKind::BadLine);
-    expect_same_by_pieces(&rt, alloc, &text);
+    expect_cert_by_pieces(&rt, alloc, &with_comment(&rt, alloc, 512));
+    let overlong = with_comment(&rt, alloc, 513);
+    expect_fault(&rt, alloc, &overlong, 2, CertKind::BadLine);
+    expect_same_by_pieces(&rt, alloc, &overlong);
 }
 
 /// A shelf that tells nothing, of one file, which it gives byte by byte.
