@@ -3,7 +3,7 @@
 use ags_image::Image;
 use ags_word::Word;
 use std::alloc::Global;
-use std::fmt::Debug;
+use std::fmt::{Debug, Display};
 use std::process::Abort;
 
 /// The word of a number.
@@ -14,6 +14,12 @@ pub(crate) fn word(rt: &impl Abort, number: u32) -> Word {
 /// Asserts that what is told is what is wanted.
 pub(crate) fn expect_same<T: PartialEq + Debug>(rt: &impl Abort, told: &T, wanted: &T) {
     assert_eq!(rt; *told, *wanted);
+}
+
+/// Asserts the text of what is printed.
+pub(crate) fn expect_text<T: Display>(rt: &impl Abort, alloc: Global, printed: &T, wanted: &str) {
+    let text = format!(in alloc; "{printed}").expect(rt, "memory for a text");
+    expect_same(rt, &text.as_str(), &wanted);
 }
 
 /// An image of some words, which stand from 4000 octal on.

@@ -15,9 +15,9 @@ use std::marker::Brand;
 use std::process::Abort;
 use std::sync::ledger::{Blank, Ledger};
 
-/// A late case of a row.
+/// A case of a row that is late.
 #[derive(Clone, Copy)]
-pub(crate) struct Late {
+pub(crate) struct Case {
     /// The row's number.
     pub(crate) row: u32,
     /// The case's word.
@@ -28,23 +28,21 @@ pub(crate) struct Late {
     pub(crate) v: bool,
     /// The location of the post.
     pub(crate) next: Option<u16>,
-    /// What the case needs.
-    pub(crate) needs: u32,
-    /// The row's bound.
-    pub(crate) bound: u32,
 }
 
-/// What is wanted of the judge where the certificate is accepted.
+/// What is wanted of the judge.
 #[derive(Clone, Copy)]
 pub(crate) enum Wanted {
     /// Each case is in time, and this is the greatest bound.
     Within(u32),
-    /// This is the first late case.
-    Over(Late),
+    /// This is the first late case, with what it needs and the row's bound.
+    Late(Case, u32, u32),
+    /// No row covers the post of a case: the case's row and word, with index 0 and the indicator clear, and the post's location.
+    NotCovered(u32, u32, u16),
 }
 
-/// Bounds of the rows, the first row's first, where 0 stands for a row without a line; and what is wanted of them.
-pub(crate) type Judging<'a> = (&'a [u32], Wanted);
+/// Bounds of up to five rows, the first row's first, where 0 stands for no line; and what is wanted of them.
+pub(crate) type Judging = ([u32; 5], Wanted);
 
 /// A program and its certificate.
 #[derive(Clone, Copy)]
@@ -119,8 +117,14 @@ fn judged(
     timed_of(machine, &image, &cert, &budget)
 }
 
-/// Asserts what is wanted of an answer.
-fn expect_timed(rt: &impl Abort, timed: &Timed, counts: (u32, u64), wanted: &Wanted) {
+/// Asserts what is wanted of an answer to some bounds.
+fn expect_timed(
+    rt: &impl Abort,
+    bounds: &[u32],
+    timed: &Timed,
+    counts: (u32, u64),
+    wanted: &Wanted,
+) {
     match (timed, wanted) {
         (
             Timed::Within {
@@ -144,71 +148,51 @@ fn expect_timed(rt: &impl Abort, timed: &Timed, counts: (u32, u64), wanted: &Wan
                 needs,
                 bound,
             },
-            Wanted::Over(late),
+            Wanted::Late(late, least, limit),
         ) => {
             expect_same(
                 rt,
                 &(*row, *order, *x, *v),
                 &(late.row, word(rt, late.word), late.x, late.v),
             );
-            expect_same(
-                rt,
-                &(*next, *needs, *bound),
-                &(late.next, late.needs, late.bound),
-            );
+            expect_same(rt, &(*next, *needs, *bound), &(late.next, *least, *limit));
         }
-        _ => panic!(rt; "another answer"),
+        (Timed::Unsafe(told), Wanted::NotCovered(row, number, next)) => {
+            let refusal = Refusal::NotCovered {
+                row: *row,
+                word: word(rt, *number),
+                x: 0,
+                v: false,
+                next: *next,
+            };
+            assert!(rt; *told == refusal);
+        }
+        _ => panic!(rt; "another answer to the bounds {bounds:?}"),
     }
 }
 
-/// That a case with index 0 and the indicator clear is late.
-pub(crate) fn is_late(row: u32, word: u32, next: Option<u16>, needs: u32, bound: u32) -> Wanted {
-    Wanted::Over(Late {
-        row,
-        word,
-        x: 0,
-        v: false,
-        next,
-        needs,
-        bound,
-    })
-}
-
-/// Asserts that a program's certificate is refused, and how.
-pub(crate) fn refused(
-    rt: &impl Abort,
-    alloc: Global,
-    program: &Program<'_>,
-    bounds: &[u32],
-    refusal: &Refusal,
-) {
-    match judged(rt, alloc, &Machine::standard(), program, bounds) {
-        Timed::Unsafe(told) => assert!(rt; told == *refusal),
-        _ => panic!(rt; "accepted"),
-    }
-}
-
-/// Asserts what is wanted of a program with some bounds.
+/// Asserts what is wanted of a program with some bounds, on a machine.
 pub(crate) fn expect(
     rt: &impl Abort,
     alloc: Global,
     machine: &Machine,
     program: &Program<'_>,
-    judging: &Judging<'_>,
+    bounds: &[u32],
+    wanted: &Wanted,
 ) {
-    let timed = judged(rt, alloc, machine, program, judging.0);
-    expect_timed(rt, &timed, program.counts, &judging.1);
+    let timed = judged(rt, alloc, machine, program, bounds);
+    expect_timed(rt, bounds, &timed, program.counts, wanted);
 }
 
-/// The same, of each of some bounds on the standard machine.
+/// The same, of each of some bounds.
 pub(crate) fn expect_each(
     rt: &impl Abort,
     alloc: Global,
+    machine: &Machine,
     program: &Program<'_>,
-    judgings: &[Judging<'_>],
+    judgings: &[Judging],
 ) {
-    let machine = Machine::standard();
-    for judging in judgings {
-        expect(rt, alloc, &machine, program, judging);
+    for (bounds, wanted) in judgings {
+        expect(rt, alloc, machine, program, bounds, wanted);
     }
 }

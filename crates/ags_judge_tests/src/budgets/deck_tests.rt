@@ -1,9 +1,8 @@
 //! The deck, whose subroutine of 13 rows is called from two places: its rows are split, once for each return word. The bounds were found
 //! by hand from DLY backwards: each is just what its row needs.
 
-use crate::budgets::common::{Judging, Late, Program, Wanted, expect, expect_each};
+use crate::budgets::common::{Case, Program, Wanted, expect};
 use ags_ports::Machine;
-use std::process::Abort;
 
 /// The deck's words with the split certificate.
 const DECK: Program<'_> = Program {
@@ -152,8 +151,15 @@ const STEPS: [(u32, Option<u16>); 44] = [
 
 #[test]
 fn bounds_of_the_deck_are_within_the_cycle(rt: HostRuntime) {
-    let judgings: [Judging<'_>; 1] = [(&BOUNDS, Wanted::Within(492))];
-    expect_each(&rt, rt.alloc(), &DECK, &judgings);
+    let within = Wanted::Within(492);
+    expect(
+        &rt,
+        rt.alloc(),
+        &Machine::standard(),
+        &DECK,
+        &BOUNDS,
+        &within,
+    );
 }
 
 #[test]
@@ -162,24 +168,17 @@ fn each_bound_of_the_deck_is_needed(rt: HostRuntime) {
     for place in 0..44usize {
         let (word, next) = STEPS[place];
         let needs = BOUNDS[place];
-        let mut bounds = BOUNDS;
         let lesser = needs.wrapping_sub(1);
+        let mut bounds = BOUNDS;
         bounds[place] = lesser;
-        let late = Late {
+        let late = Case {
             row: place as u32 + 1,
             word,
             x: 0,
             v: false,
             next,
-            needs,
-            bound: lesser,
         };
-        expect(
-            &rt,
-            rt.alloc(),
-            &machine,
-            &DECK,
-            &(&bounds, Wanted::Over(late)),
-        );
+        let wanted = Wanted::Late(late, needs, lesser);
+        expect(&rt, rt.alloc(), &machine, &DECK, &bounds, &wanted);
     }
 }

@@ -1,5 +1,8 @@
 //! Rows worked out by hand from the rules of texts of times.
 
+ghost use Rattle.std.specs.Prelude.{◌≤◌, length};
+
+use crate::common::expect_same;
 use ags_budget::{Budget, BudgetError, BudgetKind, TIMES_LIMIT, read};
 use std::alloc::Global;
 use std::process::Abort;
@@ -32,34 +35,35 @@ const FAULTY: [(&[u8], u32, BudgetKind); 20] = [
     (b"AGSTIME 1\nTIME 3 20001\nEND\n", 2, BudgetKind::TimeRange),
 ];
 
-/// Texts for three rows without a fault, each with the bounds of the rows.
-const FAULTLESS: [(&[u8], [u32; 3]); 4] = [
-    (b"AGSTIME 1\nEND\n", [20_000, 20_000, 20_000]),
-    (b"AGSTIME 1\nEND", [20_000, 20_000, 20_000]),
+/// Texts for three rows without a fault, each with the bounds of the rows and the greatest of them.
+const FAULTLESS: [(&[u8], [u32; 3], u32); 5] = [
+    (b"AGSTIME 1\nEND\n", [20_000, 20_000, 20_000], 20_000),
+    (b"AGSTIME 1\nEND", [20_000, 20_000, 20_000], 20_000),
     (
         b"AGSTIME 1\nTIME 3 20000\nTIME 1 1\nEND\n",
         [1, 20_000, 20_000],
+        20_000,
     ),
     (
         b"AGSTIME 1\r\n# note\r\n\r\n\tTIME  1 50 \r\nTIME 003 00010\r\nEND\r\n \n#\n",
         [50, 20_000, 10],
+        20_000,
+    ),
+    (
+        b"AGSTIME 1\nTIME 2 30\nTIME 1 10\nTIME 3 20\nEND\n",
+        [10, 30, 20],
+        30,
     ),
 ];
 
 /// Expects the first fault of a text for three rows.
 fn expect_fault(rt: &impl Abort, alloc: Global, text: &[u8], line: u32, kind: BudgetKind) {
     assert!(rt; text.len() <= TIMES_LIMIT);
-    match read(alloc, text, 3) {
-        Ok(_) => assert!(rt; false),
-        Err(error) => assert!(rt; error == BudgetError::At { line, kind }),
-    }
-}
-
-/// Expects the bounds of three rows.
-fn expect_bounds(rt: &impl Abort, budget: &Budget, bounds: [u32; 3]) {
-    assert!(rt; budget.bound(1) == bounds[0]);
-    assert!(rt; budget.bound(2) == bounds[1]);
-    assert!(rt; budget.bound(3) == bounds[2]);
+    let told = match read(alloc, text, 3) {
+        Ok(_) => None,
+        Err(error) => Some(error),
+    };
+    expect_same(rt, &told, &Some(BudgetError::At { line, kind }));
 }
 
 #[test]
@@ -70,22 +74,19 @@ fn first_faults_are_told(rt: HostRuntime) {
     }
 }
 
-#[test]
-fn bounds_are_read(rt: HostRuntime) {
-    let alloc = rt.alloc();
-    for &(text, bounds) in &FAULTLESS {
-        match read(alloc, text, 3) {
-            Ok(budget) => expect_bounds(&rt, &budget, bounds),
-            Err(_) => assert!(&rt; false),
-        }
-    }
+/// Expects the bounds of three rows, and the greatest.
+fn expect_bounds(rt: &impl Abort, budget: &Budget, bounds: [u32; 3], greatest: u32)
+    requires { 1 ≤ length budget.now }
+{
+    let told = [budget.bound(1), budget.bound(2), budget.bound(3)];
+    expect_same(rt, &(told, budget.greatest()), &(bounds, greatest));
 }
 
 #[test]
-fn the_greatest_bound_is_found(rt: HostRuntime) {
-    let text = b"AGSTIME 1\nTIME 2 30\nTIME 1 10\nTIME 3 20\nEND\n";
-    match read(rt.alloc(), text, 3) {
-        Ok(budget) => assert!(&rt; budget.greatest() == 30),
-        Err(_) => assert!(&rt; false),
+fn bounds_are_read(rt: HostRuntime) {
+    for &(text, bounds, greatest) in &FAULTLESS {
+        assert!(&rt; text.len() <= TIMES_LIMIT);
+        let budget = read(rt.alloc(), text, 3).expect(&rt, "a budget");
+        expect_bounds(&rt, &budget, bounds, greatest);
     }
 }

@@ -3,12 +3,14 @@
 ghost use Rattle.std.specs.Prelude.{◌≡◌, ◌<◌};
 ghost use Rattle.ags_recheck.specs.Edited.{IsOfMemory};
 
+use crate::common::word;
+use ags_certread::{CERT_LIMIT, read};
 use ags_certtype::{Cert, CertParts, EditError};
 use ags_check::{Verdict, check};
-use ags_domain::{Domain, Value};
+use ags_domain::{Domain, Range, Value, WordSet};
 use ags_edits::Edit;
 use ags_image::Image;
-use ags_ports::Machine;
+use ags_ports::{Machine, Ports};
 use ags_recheck::Book;
 use ags_row::{At, Limits, Row, RowParts};
 use ags_steps::Steps;
@@ -40,9 +42,20 @@ pub(crate) fn row_with(
     .expect(rt, "the parts of a row")
 }
 
-/// A row where A may hold any word.
-pub(crate) fn row(rt: &impl Abort, alloc: Global, location: u16) -> Row<Value> {
-    row_with(rt, alloc, location, Value::full(), None)
+/// The set of one word.
+pub(crate) fn one_word(rt: &impl Abort, number: u32) -> Value {
+    Value::Words(WordSet::of(&[word(rt, number)]).expect(rt, "a set of one word"))
+}
+
+/// The value that is a range of two values.
+pub(crate) fn range(rt: &impl Abort, least: i32, greatest: i32) -> Value {
+    Value::Range(Range::of(least, greatest).expect(rt, "the ends of a range"))
+}
+
+/// A certificate that is read.
+pub(crate) fn cert_read(rt: &impl Abort, alloc: Global, text: &[u8]) -> Cert {
+    assert!(rt; text.len() <= CERT_LIMIT);
+    read(alloc, text, &Ports::standard()).expect(rt, "a certificate")
 }
 
 /// A certificate of some rows, which starts at 4000 octal.

@@ -4,12 +4,11 @@ ghost use Rattle.std.specs.Prelude.{◌≡◌, ◌<◌};
 ghost use Rattle.ags_recheck.specs.Edited.{IsOfMemory};
 
 use crate::common::{image_of, word};
-use crate::edits::common::{book_of, cert_of, expect_verdict, row, row_with};
-use ags_certtype::Cert;
-use ags_domain::{Domain, Range, Value, WordSet};
+use crate::edits::common::{book_of, cert_read, expect_verdict, one_word, range, row_with};
+use ags_domain::{Domain, Value, WordSet};
 use ags_edits::Edit;
 use ags_recheck::Book;
-use ags_row::{At, Limits, Row};
+use ags_row::{At, Row};
 use ags_steps::Steps;
 use std::alloc::Global;
 use std::marker::Brand;
@@ -33,20 +32,10 @@ impl Numbers {
     }
 }
 
-/// The set of one word.
-fn one_word(rt: &impl Abort, number: u32) -> Value {
-    Value::Words(WordSet::of(&[word(rt, number)]).expect(rt, "a set of one word"))
-}
-
 /// The set of no word but 0 and the return word of the program.
 fn two_words(rt: &impl Abort) -> Value {
     let set = WordSet::of(&[word(rt, 0), word(rt, 0o404001)]);
     Value::Words(set.expect(rt, "a set of two words"))
-}
-
-/// A range.
-fn range(rt: &impl Abort, least: i32, greatest: i32) -> Value {
-    Value::Range(Range::of(least, greatest).expect(rt, "the ends of a range"))
 }
 
 /// A value.
@@ -70,24 +59,12 @@ fn drawn_cell(rt: &impl Abort, numbers: &mut Numbers) -> At<Value>
     At { address, value }
 }
 
-/// A location of the program, that of a cell, or one where nothing stands.
-fn drawn_location(numbers: &mut Numbers) -> u16
-    ensures { result < 4096 }
-{
-    match numbers.below(7) {
-        0 => 0o4000,
-        1 => 0o4001,
-        2 => 0o4002,
-        3 => 0o4003,
-        4 => 0o4004,
-        5 => 0o20,
-        _ => 0o17,
-    }
-}
+/// Locations of the program, those of two cells, and one where nothing stands.
+const LOCATIONS: [u16; 7] = [0o4000, 0o4001, 0o4002, 0o4003, 0o4004, 0o20, 0o17];
 
 /// A row.
 fn drawn_row(rt: &impl Abort, alloc: Global, numbers: &mut Numbers) -> Row<Value> {
-    let location = drawn_location(numbers);
+    let location = LOCATIONS[numbers.below(7) as usize];
     let a = if numbers.below(3) == 0 {
         drawn_value(rt, numbers)
     } else {
@@ -122,8 +99,10 @@ fn drawn_edit(rt: &impl Abort, alloc: Global, numbers: &mut Numbers) -> Edit
         0 => Edit::Limit(drawn_cell(rt, numbers)),
         1 => {
             let number = drawn_word(numbers);
+            let location = LOCATIONS[numbers.below(7) as usize];
+            assert!(rt; location < 4096);
             Edit::Word {
-                location: drawn_location(numbers),
+                location,
                 word: word(rt, number),
             }
         }
@@ -134,30 +113,18 @@ fn drawn_edit(rt: &impl Abort, alloc: Global, numbers: &mut Numbers) -> Edit
     }
 }
 
-/// The cell that the program executes, with the word that it leaves there.
-fn executed(rt: &impl Abort) -> At<Value> {
-    At {
-        address: 0o17,
-        value: one_word(rt, 0o404001),
-    }
-}
-
-/// A row at which the executed cell has that word.
-fn row_executing(rt: &impl Abort, alloc: Global, location: u16) -> Row<Value> {
-    row_with(rt, alloc, location, Value::full(), Some(executed(rt)))
-}
-
 /// The certificate of the program that leaves a return word in cell 0017 and goes there.
-fn return_cert(rt: &impl Abort, alloc: Global) -> Cert {
-    let mut rows = Vec::new(alloc);
-    assert!(rt; rows.push(row(rt, alloc, 0o4000)).is_ok());
-    assert!(rt; rows.push(row(rt, alloc, 0o4001)).is_ok());
-    assert!(rt; rows.push(row(rt, alloc, 0o4002)).is_ok());
-    assert!(rt; rows.push(row_executing(rt, alloc, 0o4003)).is_ok());
-    assert!(rt; rows.push(row_executing(rt, alloc, 0o17)).is_ok());
-    let limits: Limits<Value> = Limits::new(alloc).expect(rt, "memory for limits");
-    cert_of(rt, alloc, limits, rows)
-}
+const RETURN_CERT: &[u8] = b"AGSCERT 1
+START 4000
+ROW 4000 A ANY Q ANY X 0 V 0
+ROW 4001 A ANY Q ANY X 0 V 0
+ROW 4002 A ANY Q ANY X 0 V 0
+ROW 4003 A ANY Q ANY X 0 V 0
+AT 0017 WORDS 404001
+ROW 0017 A ANY Q ANY X 0 V 0
+AT 0017 WORDS 404001
+END
+";
 
 /// Makes an edit, and asserts that a check from nothing tells the verdict that the book tells; where it is refused, that of before.
 fn expect_fresh<L: Ledger>(rt: &impl Abort, book: &mut Book, edit: Edit, steps: &mut Steps<L>)
@@ -180,7 +147,7 @@ fn lists_of_edits<L: Ledger>(rt: &impl Abort, alloc: Global, blank: Blank)
     let mut numbers = Numbers { last: 20_261_129 };
     for _ in 0..300 {
         let image = image_of(rt, alloc, &[0o724002, 0o404000, 0o120017, 0o400017]);
-        let cert = return_cert(rt, alloc);
+        let cert = cert_read(rt, alloc, RETURN_CERT);
         let mut book = book_of(rt, alloc, image, cert, &mut steps);
         for _ in 0..12 {
             let edit = drawn_edit(rt, alloc, &mut numbers);

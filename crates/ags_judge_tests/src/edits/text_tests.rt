@@ -1,5 +1,6 @@
 //! Rows worked out by hand from the rules of texts of edits.
 
+use crate::common::{expect_same, expect_text};
 use ags_edits::{EDITS_LIMIT, Edit, EditsError, EditsKind, MOST_EDITS, read};
 use std::alloc::Global;
 use std::process::Abort;
@@ -123,22 +124,11 @@ const RETURN_WORD: &[u8] =
 /// Expects the first fault of a text.
 fn expect_fault(rt: &impl Abort, alloc: Global, text: &[u8], line: u32, kind: EditsKind) {
     assert!(rt; text.len() <= EDITS_LIMIT);
-    match read(alloc, text) {
-        Ok(_) => assert!(rt; false),
-        Err(error) => assert!(rt; error == EditsError::At { line, kind }),
-    }
-}
-
-/// Expects a row's edit of this number, with so many cells, which ascend.
-fn expect_row(rt: &impl Abort, edit: &Edit, number: u32, cells: usize, linked: bool) {
-    match edit {
-        Edit::Row { row, new } => {
-            assert!(rt; *row == number);
-            assert!(rt; new.at().len() == cells);
-            assert!(rt; new.link().is_some() == linked);
-        }
-        _ => assert!(rt; false),
-    }
+    let told = match read(alloc, text) {
+        Ok(_) => None,
+        Err(error) => Some(error),
+    };
+    expect_same(rt, &told, &Some(EditsError::At { line, kind }));
 }
 
 #[test]
@@ -149,92 +139,104 @@ fn first_faults_are_told(rt: HostRuntime) {
     }
 }
 
-#[test]
-fn a_text_may_state_nothing(rt: HostRuntime) {
-    match read(rt.alloc(), b"AGSEDIT 1\nEND") {
-        Ok(edits) => assert!(&rt; edits.is_empty()),
-        Err(_) => assert!(&rt; false),
+/// The edits of a text.
+fn edits_of(rt: &impl Abort, alloc: Global, text: &[u8]) -> Vec<Edit> {
+    assert!(rt; text.len() <= EDITS_LIMIT);
+    read(alloc, text).expect(rt, "edits")
+}
+
+/// Expects a row's edit of this number, with so many cells, which ascend.
+fn expect_row(rt: &impl Abort, edit: &Edit, number: u32, cells: usize, linked: bool) {
+    match edit {
+        Edit::Row { row, new } => {
+            let told = (*row, new.at().len(), new.link().is_some());
+            expect_same(rt, &told, &(number, cells, linked));
+        }
+        _ => panic!(rt; "another edit than one of a row"),
     }
+}
+
+/// Expects the four edits of `RETURN_WORD`.
+fn expect_return_word(rt: &impl Abort, edits: &[Edit]) {
+    let [first, second, third, fourth] = edits else {
+        panic!(rt; "not four edits");
+    };
+    expect_row(rt, first, 5, 0, false);
+    expect_row(rt, second, 5, 1, false);
+    assert!(rt; matches!(third, Edit::Limit(cell) if cell.address == 0o17));
+    expect_row(rt, fourth, 6, 0, false);
 }
 
 #[test]
 fn edits_are_read_in_order(rt: HostRuntime) {
-    match read(rt.alloc(), RETURN_WORD) {
-        Ok(edits) => {
-            assert!(&rt; edits.len() == 4);
-            expect_row(&rt, &edits[0], 5, 0, false);
-            expect_row(&rt, &edits[1], 5, 1, false);
-            assert!(&rt; matches!(&edits[2], Edit::Limit(cell) if cell.address == 0o17));
-            expect_row(&rt, &edits[3], 6, 0, false);
-        }
-        Err(_) => assert!(&rt; false),
-    }
+    let alloc = rt.alloc();
+    expect_return_word(&rt, &edits_of(&rt, alloc, RETURN_WORD));
+    // A text may state nothing.
+    expect_same(&rt, &edits_of(&rt, alloc, b"AGSEDIT 1\nEND").len(), &0);
+}
+
+/// Adds a piece to a text.
+fn put(rt: &impl Abort, text: &mut Vec<u8>, piece: &[u8]) {
+    assert!(rt; text.extend_from_slice(piece).is_ok());
 }
 
 /// A text of so many edits of one word.
 fn words(rt: &impl Abort, alloc: Global, count: usize) -> Vec<u8> {
     let mut text = Vec::new(alloc);
-    text.extend_from_slice(b"AGSEDIT 1\n")
-        .expect(rt, "memory for a text");
+    put(rt, &mut text, b"AGSEDIT 1\n");
     for _ in 0..count {
-        text.extend_from_slice(b"WORD 4000 000000\n")
-            .expect(rt, "memory for a text");
+        put(rt, &mut text, b"WORD 4000 000000\n");
     }
-    text.extend_from_slice(b"END\n")
-        .expect(rt, "memory for a text");
+    put(rt, &mut text, b"END\n");
     text
 }
 
 #[test]
 fn a_text_has_at_most_10000_edits(rt: HostRuntime) {
     let alloc = rt.alloc();
-    let text = words(&rt, alloc, MOST_EDITS);
-    assert!(&rt; text.len() <= EDITS_LIMIT);
-    match read(alloc, text.as_slice()) {
-        Ok(edits) => assert!(&rt; edits.len() == MOST_EDITS),
-        Err(_) => assert!(&rt; false),
-    }
+    let edits = edits_of(&rt, alloc, &words(&rt, alloc, MOST_EDITS));
+    expect_same(&rt, &edits.len(), &MOST_EDITS);
     let more = words(&rt, alloc, MOST_EDITS + 1);
-    expect_fault(&rt, alloc, more.as_slice(), 10_002, EditsKind::TooManyEdits);
+    expect_fault(&rt, alloc, &more, 10_002, EditsKind::TooManyEdits);
 }
 
 /// A row's text with so many cells, the highest first.
 fn cells(rt: &impl Abort, alloc: Global, count: u8) -> Vec<u8> {
     let mut text = Vec::new(alloc);
-    text.extend_from_slice(b"AGSEDIT 1\nROW 1 4000 A ANY Q ANY X 0 V 0\nLINK 0017 -3\n")
-        .expect(rt, "memory for a text");
+    put(
+        rt,
+        &mut text,
+        b"AGSEDIT 1\nROW 1 4000 A ANY Q ANY X 0 V 0\nLINK 0017 -3\n",
+    );
     for number in 0..count {
         let address = 127 - (number & 127);
-        text.extend_from_slice(b"AT 0")
-            .expect(rt, "memory for a text");
-        text.push(b'0' + address / 64)
-            .expect(rt, "memory for a text");
-        text.push(b'0' + address / 8 % 8)
-            .expect(rt, "memory for a text");
-        text.push(b'0' + address % 8)
-            .expect(rt, "memory for a text");
-        text.extend_from_slice(b" ANY\n")
-            .expect(rt, "memory for a text");
+        let digits = [
+            b'0' + address / 64,
+            b'0' + address / 8 % 8,
+            b'0' + address % 8,
+        ];
+        put(rt, &mut text, b"AT 0");
+        put(rt, &mut text, &digits);
+        put(rt, &mut text, b" ANY\n");
     }
-    text.extend_from_slice(b"END\n")
-        .expect(rt, "memory for a text");
+    put(rt, &mut text, b"END\n");
     text
+}
+
+/// Expects the one edit of a row with 64 cells.
+fn expect_cells(rt: &impl Abort, edits: &[Edit]) {
+    let [edit] = edits else {
+        panic!(rt; "not one edit");
+    };
+    expect_row(rt, edit, 1, 64, true);
 }
 
 #[test]
 fn a_row_has_at_most_64_cells(rt: HostRuntime) {
     let alloc = rt.alloc();
-    let text = cells(&rt, alloc, 64);
-    assert!(&rt; text.len() <= EDITS_LIMIT);
-    match read(alloc, text.as_slice()) {
-        Ok(edits) => {
-            assert!(&rt; edits.len() == 1);
-            expect_row(&rt, &edits[0], 1, 64, true);
-        }
-        Err(_) => assert!(&rt; false),
-    }
+    expect_cells(&rt, &edits_of(&rt, alloc, &cells(&rt, alloc, 64)));
     let more = cells(&rt, alloc, 65);
-    expect_fault(&rt, alloc, more.as_slice(), 68, EditsKind::TooManyAt);
+    expect_fault(&rt, alloc, &more, 68, EditsKind::TooManyAt);
 }
 
 #[test]
@@ -243,6 +245,10 @@ fn faults_are_printed(rt: HostRuntime) {
         line: 12,
         kind: EditsKind::TooManyEdits,
     };
-    let printed = format!(in rt.alloc(); "{error}").expect(&rt, "memory for a text");
-    assert!(&rt; printed.as_str() == "EDITS LINE 12 ERROR 6 TooManyEdits");
+    expect_text(
+        &rt,
+        rt.alloc(),
+        &error,
+        "EDITS LINE 12 ERROR 6 TooManyEdits",
+    );
 }

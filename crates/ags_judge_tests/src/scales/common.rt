@@ -5,6 +5,7 @@ ghost use Rattle.std.specs.Prelude.{◌≡◌, ◌<◌, length};
 use crate::common::{expect_same, image_of, word};
 use ags_certread::CERT_LIMIT;
 use ags_certtype::Cert;
+use ags_check::Refusal;
 use ags_image::Image;
 use ags_ports::Machine;
 use ags_scale::{RowTag, SCALES_LIMIT, Scaled, Scales, Tag, judge, read};
@@ -14,21 +15,23 @@ use std::marker::Brand;
 use std::process::Abort;
 use std::sync::ledger::{Blank, Ledger};
 
-/// What is wanted of the judge where the certificate is accepted.
+/// What is wanted of the judge. Each case here has index 0, and the indicator is clear.
 #[derive(Clone, Copy)]
 pub(crate) enum Wanted {
     /// The scales agree: the numbers of rows and cases.
     Agree(u32, u64),
     /// No row holds the start with raw tags.
     StartMixed,
-    /// Two tags mix at a row and a word, with index 0 and the indicator clear.
+    /// Two tags mix at a row and a word.
     Mixed(u32, u32, RowTag, Tag),
-    /// A post isn't held: a row, a word and the post's location, with index 0 and the indicator clear.
+    /// A post isn't held: a row, a word and the post's location.
     NotHeld(u32, u32, u16),
+    /// The certificate is refused, since no row covers a post: a row, a word and the post's location.
+    NotCovered(u32, u32, u16),
 }
 
 /// A text of scales, and what is wanted of it.
-pub(crate) type Judging<'a> = (&'a [u8], Wanted);
+pub(crate) type Judging<'a> = (&'a str, Wanted);
 
 /// A program and its certificate.
 #[derive(Clone, Copy)]
@@ -64,7 +67,7 @@ fn scaled_of(machine: &Machine, image: &Image, cert: &Cert, scales: &Scales) -> 
 }
 
 /// The answer of the judge to a program with a text of scales, on the standard machine.
-pub(crate) fn judged(rt: &impl Abort, alloc: Global, program: &Program<'_>, text: &[u8]) -> Scaled {
+fn judged(rt: &impl Abort, alloc: Global, program: &Program<'_>, text: &[u8]) -> Scaled {
     let machine = Machine::standard();
     let image = image_of(rt, alloc, program.words);
     assert!(rt; program.certificate.len() <= CERT_LIMIT);
@@ -80,8 +83,8 @@ pub(crate) fn judged(rt: &impl Abort, alloc: Global, program: &Program<'_>, text
     scaled_of(&machine, &image, &cert, &scales)
 }
 
-/// Asserts what is wanted of an answer.
-fn expect_scaled(rt: &impl Abort, scaled: &Scaled, wanted: &Wanted) {
+/// Asserts what is wanted of an answer to a text of scales.
+fn expect_scaled(rt: &impl Abort, text: &str, scaled: &Scaled, wanted: &Wanted) {
     match (scaled, wanted) {
         (Scaled::Agree { rows, cases }, Wanted::Agree(all, each)) => {
             expect_same(rt, &(*rows, *cases), &(*all, *each));
@@ -122,7 +125,17 @@ fn expect_scaled(rt: &impl Abort, scaled: &Scaled, wanted: &Wanted) {
             );
             expect_same(rt, next, location);
         }
-        _ => panic!(rt; "another answer"),
+        (Scaled::Unsafe(told), Wanted::NotCovered(row, number, next)) => {
+            let refusal = Refusal::NotCovered {
+                row: *row,
+                word: word(rt, *number),
+                x: 0,
+                v: false,
+                next: *next,
+            };
+            assert!(rt; *told == refusal);
+        }
+        _ => panic!(rt; "another answer to {text:?}"),
     }
 }
 
@@ -131,11 +144,11 @@ pub(crate) fn expect(
     rt: &impl Abort,
     alloc: Global,
     program: &Program<'_>,
-    text: &[u8],
+    text: &str,
     wanted: &Wanted,
 ) {
-    let scaled = judged(rt, alloc, program, text);
-    expect_scaled(rt, &scaled, wanted);
+    let scaled = judged(rt, alloc, program, text.as_bytes());
+    expect_scaled(rt, text, &scaled, wanted);
 }
 
 /// The same, of each of some texts of scales.

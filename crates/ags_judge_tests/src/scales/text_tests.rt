@@ -1,5 +1,6 @@
 //! Rows worked out by hand from the rules of texts of scales.
 
+use crate::common::{expect_same, expect_text};
 use ags_ports::Machine;
 use ags_tags::{RowTag, RowTags, SCALES_LIMIT, ScaleError, ScaleKind, Scales, Tag, read};
 use std::alloc::Global;
@@ -77,94 +78,79 @@ const ANY: RowTags = RowTags {
     q: RowTag::Any,
 };
 
-/// Expects the first fault of a text for three rows on a machine.
-fn expect_fault(
-    rt: &impl Abort,
-    alloc: Global,
-    machine: &Machine,
-    text: &[u8],
-    line: u32,
-    kind: ScaleKind,
-) {
+/// Expects the first fault of a text for three rows on the standard machine.
+fn expect_fault(rt: &impl Abort, alloc: Global, text: &[u8], line: u32, kind: ScaleKind) {
     assert!(rt; text.len() <= SCALES_LIMIT);
-    match read(alloc, text, machine, 3) {
-        Ok(_) => assert!(rt; false),
-        Err(error) => assert!(rt; error == ScaleError::At { line, kind }),
-    }
-}
-
-/// Expects nothing of cells, registers and rows.
-fn expect_nothing(rt: &impl Abort, scales: &Scales) {
-    assert!(rt; scales.cell(0o20) == Tag::Raw);
-    assert!(rt; scales.input(0o2001) == Tag::Raw);
-    assert!(rt; scales.output(0o6001) == Tag::Raw);
-    assert!(rt; scales.row(3) == ANY);
-}
-
-/// Expects the scales of the text that names one address in each way.
-fn expect_scales(rt: &impl Abort, scales: &Scales) {
-    assert!(rt; scales.cell(0o2001) == Tag::Scale(-128));
-    assert!(rt; scales.input(0o2001) == Tag::Scale(127));
-    assert!(rt; scales.output(0o6001) == Tag::Scale(0));
-    assert!(rt; scales.cell(0o7777) == Tag::Scale(-5));
-    assert!(rt; scales.cell(0o20) == Tag::Raw);
-    assert!(rt; scales.row(1) == ANY);
-    assert!(rt;
-        scales.row(2)
-            == RowTags {
-                a: RowTag::Known(Tag::Raw),
-                q: RowTag::Any
-            }
-    );
-    assert!(rt;
-        scales.row(3)
-            == RowTags {
-                a: RowTag::Known(Tag::Scale(-1)),
-                q: RowTag::Known(Tag::Scale(6))
-            }
-    );
-    assert!(rt; scales.row(4) == ANY);
+    let told = match read(alloc, text, &Machine::standard(), 3) {
+        Ok(_) => None,
+        Err(error) => Some(error),
+    };
+    expect_same(rt, &told, &Some(ScaleError::At { line, kind }));
 }
 
 #[test]
 fn first_faults_are_told(rt: HostRuntime) {
     let alloc = rt.alloc();
-    let machine = Machine::standard();
     for &(text, line, kind) in &FAULTY {
-        expect_fault(&rt, alloc, &machine, text, line, kind);
+        expect_fault(&rt, alloc, text, line, kind);
     }
 }
 
-#[test]
-fn a_text_may_state_nothing(rt: HostRuntime) {
-    let machine = Machine::standard();
-    match read(rt.alloc(), b"AGSSCALE 1\nEND", &machine, 3) {
-        Ok(scales) => expect_nothing(&rt, &scales),
-        Err(_) => assert!(&rt; false),
-    }
+/// What is told of scales: of the cells 0020, 2001 and 7777, the input register 2001 and the output register 6001; and of the rows 1 to 4.
+type Told = ([Tag; 5], [RowTags; 4]);
+
+/// Expects what scales of three rows say.
+fn expect_scales(rt: &impl Abort, scales: &Scales, wanted: &Told) {
+    let tags = [
+        scales.cell(0o20),
+        scales.cell(0o2001),
+        scales.cell(0o7777),
+        scales.input(0o2001),
+        scales.output(0o6001),
+    ];
+    let rows = [scales.row(1), scales.row(2), scales.row(3), scales.row(4)];
+    expect_same(rt, &(tags, rows), wanted);
 }
+
+/// The scales of a text for three rows on the standard machine.
+fn scales_of(rt: &impl Abort, alloc: Global, text: &[u8]) -> Scales {
+    assert!(rt; text.len() <= SCALES_LIMIT);
+    read(alloc, text, &Machine::standard(), 3).expect(rt, "scales")
+}
+
+/// What a text says that states nothing.
+const NOTHING: Told = ([Tag::Raw; 5], [ANY; 4]);
+
+/// What a text says that names one address in each way.
+const NAMED: Told = (
+    [
+        Tag::Raw,
+        Tag::Scale(-128),
+        Tag::Scale(-5),
+        Tag::Scale(127),
+        Tag::Scale(0),
+    ],
+    [
+        ANY,
+        RowTags {
+            a: RowTag::Known(Tag::Raw),
+            q: RowTag::Any,
+        },
+        RowTags {
+            a: RowTag::Known(Tag::Scale(-1)),
+            q: RowTag::Known(Tag::Scale(6)),
+        },
+        ANY,
+    ],
+);
 
 #[test]
 fn scales_are_read(rt: HostRuntime) {
-    let machine = Machine::standard();
-    let text =
+    let alloc = rt.alloc();
+    expect_scales(&rt, &scales_of(&rt, alloc, b"AGSSCALE 1\nEND"), &NOTHING);
+    let named =
         b"AGSSCALE 1\r\n# note\r\nCELL 2001 -128\n\n\tIN  2001 127 \nOUT 6001 -0\nCELL 7777 -000005\nROW 3 -1 006\nROW 02 RAW ANY\nEND\n \n#\n";
-    match read(rt.alloc(), text, &machine, 3) {
-        Ok(scales) => expect_scales(&rt, &scales),
-        Err(_) => assert!(&rt; false),
-    }
-}
-
-/// Expects the text of a fault.
-fn expect_fault_text(rt: &impl Abort, alloc: Global, error: ScaleError, text: &str) {
-    let printed = format!(in alloc; "{error}").expect(rt, "memory for a text");
-    assert!(rt; printed.as_str() == text);
-}
-
-/// Expects the text of what a row says.
-fn expect_tag_text(rt: &impl Abort, alloc: Global, tag: RowTag, text: &str) {
-    let printed = format!(in alloc; "{tag}").expect(rt, "memory for a text");
-    assert!(rt; printed.as_str() == text);
+    expect_scales(&rt, &scales_of(&rt, alloc, named), &NAMED);
 }
 
 #[test]
@@ -174,9 +160,9 @@ fn faults_and_tags_are_printed(rt: HostRuntime) {
         line: 12,
         kind: ScaleKind::NoRow,
     };
-    expect_fault_text(&rt, alloc, error, "SCALES LINE 12 ERROR 4 NoRow");
-    expect_tag_text(&rt, alloc, RowTag::Any, "ANY");
-    expect_tag_text(&rt, alloc, RowTag::Known(Tag::Raw), "RAW");
-    expect_tag_text(&rt, alloc, RowTag::Known(Tag::Scale(6)), "6");
-    expect_tag_text(&rt, alloc, RowTag::Known(Tag::Scale(-128)), "-128");
+    expect_text(&rt, alloc, &error, "SCALES LINE 12 ERROR 4 NoRow");
+    expect_text(&rt, alloc, &RowTag::Any, "ANY");
+    expect_text(&rt, alloc, &RowTag::Known(Tag::Raw), "RAW");
+    expect_text(&rt, alloc, &RowTag::Known(Tag::Scale(6)), "6");
+    expect_text(&rt, alloc, &RowTag::Known(Tag::Scale(-128)), "-128");
 }
