@@ -258,8 +258,8 @@ fn post(rt: &impl Abort, other: Other) -> Post<Value> {
     }
 }
 
-/// The cells that a row names, and its link; in what a post differs; and whether the row covers it.
-type Cover = (Cells, Option<Link>, Other, bool);
+/// A cell that a row names, and its link; in what a post differs; and whether the row covers it.
+type Cover = (Option<(u16, i32, i32)>, Option<Link>, Other, bool);
 
 /// A link.
 const LINK: Option<Link> = Some(Link {
@@ -267,60 +267,29 @@ const LINK: Option<Link> = Some(Link {
     offset: 3,
 });
 
-const COVERS: [Cover; 19] = [
-    // what was stored counts before the word that the order stands in
-    (
-        [Some((0o17, 1, 2)), Some((0o20, 0, 3)), None],
-        None,
-        Other::Nothing,
-        true,
-    ),
-    (
-        [Some((0o20, 0, 2)), None, None],
-        None,
-        Other::Nothing,
-        false,
-    ),
-    (
-        [Some((0o17, 2, 2)), None, None],
-        None,
-        Other::Nothing,
-        false,
-    ),
-    (
-        [Some((0o21, 0, 3)), None, None],
-        None,
-        Other::Nothing,
-        false,
-    ),
+const COVERS: [Cover; 18] = [
+    // cells
+    (Some((0o20, 0, 2)), None, Other::Nothing, false),
+    (Some((0o17, 2, 2)), None, Other::Nothing, false),
+    (Some((0o21, 0, 3)), None, Other::Nothing, false),
     // registers
-    (NO_CELLS, None, Other::Unstored, true),
-    (NO_CELLS, None, Other::Next(0o4001), false),
-    (NO_CELLS, None, Other::Index(1), false),
-    (NO_CELLS, None, Other::Index(8), false),
-    (NO_CELLS, None, Other::MaySet, false),
-    (NO_CELLS, None, Other::NeverClear, true),
+    (None, None, Other::Unstored, true),
+    (None, None, Other::Next(0o4001), false),
+    (None, None, Other::Index(1), false),
+    (None, None, Other::Index(8), false),
+    (None, None, Other::MaySet, false),
+    (None, None, Other::NeverClear, true),
     // what a test left of the cell counts before the word that the order stands in, and after what was stored
-    (
-        [Some((0o20, 5, 7)), None, None],
-        None,
-        Other::TestedAlone,
-        true,
-    ),
-    (
-        [Some((0o20, 5, 6)), None, None],
-        None,
-        Other::TestedAlone,
-        false,
-    ),
-    ([Some((0o20, 0, 3)), None, None], None, Other::Tested, true),
-    ([Some((0o20, 5, 7)), None, None], None, Other::Tested, false),
+    (Some((0o20, 5, 7)), None, Other::TestedAlone, true),
+    (Some((0o20, 5, 6)), None, Other::TestedAlone, false),
+    (Some((0o20, 0, 3)), None, Other::Tested, true),
+    (Some((0o20, 5, 7)), None, Other::Tested, false),
     // links
-    (NO_CELLS, LINK, Other::Linked(0o20, 3), true),
-    (NO_CELLS, LINK, Other::Linked(0o20, 2), false),
-    (NO_CELLS, LINK, Other::Linked(0o21, 3), false),
-    (NO_CELLS, LINK, Other::Nothing, false),
-    (NO_CELLS, None, Other::Linked(0o20, 3), true),
+    (None, LINK, Other::Linked(0o20, 3), true),
+    (None, LINK, Other::Linked(0o20, 2), false),
+    (None, LINK, Other::Linked(0o21, 3), false),
+    (None, LINK, Other::Nothing, false),
+    (None, None, Other::Linked(0o20, 3), true),
 ];
 
 /// Whether a row covers a post of a row that names the cell 17 octal.
@@ -339,9 +308,14 @@ fn is_covered(
 
 #[test]
 fn rows_cover_posts(rt: HostRuntime) {
+    let alloc = rt.alloc();
     for place in 0..COVERS.len() {
-        let (cells, link, other, covered) = COVERS[place];
-        let told = is_covered(&rt, rt.alloc(), cells, link, other);
+        let (cell, link, other, covered) = COVERS[place];
+        let told = is_covered(&rt, alloc, [cell, None, None], link, other);
         expect_same(&rt, &(place, told), &(place, covered));
     }
+    // What was stored counts before the word that the order stands in.
+    let cells = [Some((0o17, 1, 2)), Some((0o20, 0, 3)), None];
+    let told = is_covered(&rt, alloc, cells, None, Other::Nothing);
+    expect_same(&rt, &told, &true);
 }
