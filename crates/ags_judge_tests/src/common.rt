@@ -1,6 +1,9 @@
 //! What the tests of the judges share.
 
+use ags_certread::{CERT_LIMIT, read};
+use ags_certtype::Cert;
 use ags_image::Image;
+use ags_ports::Ports;
 use ags_word::Word;
 use std::alloc::Global;
 use std::fmt::{Debug, Display};
@@ -32,4 +35,10 @@ pub(crate) fn image_of(rt: &impl Abort, alloc: Global, words: &[u32]) -> Image {
         place += 1;
     }
     image
+}
+
+/// The certificate of a text on the standard machine.
+pub(crate) fn cert_read(rt: &impl Abort, alloc: Global, text: &[u8]) -> Cert {
+    assert!(rt; text.len() <= CERT_LIMIT);
+    read(alloc, text, &Ports::standard()).expect(rt, "a certificate")
 }

@@ -2,9 +2,8 @@
 
 ghost use Rattle.std.specs.Prelude.{◌≡◌, ◌<◌, length};
 
-use crate::common::{expect_same, image_of, word};
+use crate::common::{cert_read, expect_same, image_of, word};
 use ags_budget::{Budget, TIMES_LIMIT, Timed, judge, read};
-use ags_certread::CERT_LIMIT;
 use ags_certtype::Cert;
 use ags_check::Refusal;
 use ags_image::Image;
@@ -103,10 +102,7 @@ fn judged(
     bounds: &[u32],
 ) -> Timed {
     let image = image_of(rt, alloc, program.words);
-    assert!(rt; program.certificate.len() <= CERT_LIMIT);
-    let Ok(cert) = ags_certread::read(alloc, program.certificate, &machine.ports) else {
-        panic!(rt; "no certificate");
-    };
+    let cert = cert_read(rt, alloc, program.certificate);
     let rows = cert.rows().len();
     assert!(rt; rows <= 20_000);
     let text = text_of(rt, alloc, bounds);

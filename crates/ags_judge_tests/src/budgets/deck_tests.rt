@@ -165,11 +165,11 @@ fn bounds_of_the_deck_are_within_the_cycle(rt: HostRuntime) {
 #[test]
 fn each_bound_of_the_deck_is_needed(rt: HostRuntime) {
     let machine = Machine::standard();
+    let mut bounds = BOUNDS;
     for place in 0..44usize {
         let (word, next) = STEPS[place];
-        let needs = BOUNDS[place];
+        let needs = bounds[place];
         let lesser = needs.wrapping_sub(1);
-        let mut bounds = BOUNDS;
         bounds[place] = lesser;
         let late = Case {
             row: place as u32 + 1,
@@ -180,5 +180,6 @@ fn each_bound_of_the_deck_is_needed(rt: HostRuntime) {
         };
         let wanted = Wanted::Late(late, needs, lesser);
         expect(&rt, rt.alloc(), &machine, &DECK, &bounds, &wanted);
+        bounds[place] = needs;
     }
 }

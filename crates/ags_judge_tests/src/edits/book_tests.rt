@@ -3,10 +3,9 @@
 ghost use Rattle.std.specs.Prelude.{◌≡◌, ◌<◌};
 ghost use Rattle.ags_recheck.specs.Edited.{IsOfMemory};
 
-use crate::common::{image_of, word};
+use crate::common::{cert_read, image_of, word};
 use crate::edits::common::{
-    book_of, cert_of, cert_read, expect_edit, expect_refused, expect_verdict, one_word, range,
-    row_with,
+    book_of, cert_of, expect_edit, expect_verdict, one_word, range, row_with,
 };
 use ags_certtype::{Cert, EditError};
 use ags_check::{Refusal, Verdict};
@@ -108,7 +107,7 @@ fn verdict_of(rt: &impl Abort, judged: Judged) -> Verdict {
     Verdict::Refused(refusal)
 }
 
-/// An edit, and the verdict after it; or why it is refused.
+/// An edit, and the verdict after it; or why it is refused, and then the verdict stays.
 type Step = (Change, Result<Judged, EditError>);
 
 /// Edits a program step by step, with a counter on the ledger of a blank.
@@ -128,16 +127,18 @@ fn edited<L: Ledger>(
     let mut steps = Steps::<L>::new(blank);
     let image = image_of(rt, alloc, words);
     let mut book = book_of(rt, alloc, image, cert, &mut steps);
-    expect_verdict(rt, &book, &verdict_of(rt, first), &mut steps);
+    let mut verdict = verdict_of(rt, first);
+    expect_verdict(rt, &book, &verdict, &mut steps);
     for &(change, wanted) in list {
         let edit = edit_of(rt, alloc, change);
-        match wanted {
+        let made = match wanted {
             Ok(judged) => {
-                let verdict = verdict_of(rt, judged);
-                expect_edit(rt, &mut book, edit, &verdict, &mut steps);
+                verdict = verdict_of(rt, judged);
+                Ok(())
             }
-            Err(why) => expect_refused(rt, &mut book, edit, why, &mut steps),
-        }
+            Err(why) => Err(why),
+        };
+        expect_edit(rt, &mut book, edit, made, &verdict, &mut steps);
     }
 }
 

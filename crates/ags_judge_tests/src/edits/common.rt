@@ -3,14 +3,13 @@
 ghost use Rattle.std.specs.Prelude.{◌≡◌, ◌<◌};
 ghost use Rattle.ags_recheck.specs.Edited.{IsOfMemory};
 
-use crate::common::word;
-use ags_certread::{CERT_LIMIT, read};
+use crate::common::{expect_same, word};
 use ags_certtype::{Cert, CertParts, EditError};
 use ags_check::{Verdict, check};
 use ags_domain::{Domain, Range, Value, WordSet};
 use ags_edits::Edit;
 use ags_image::Image;
-use ags_ports::{Machine, Ports};
+use ags_ports::Machine;
 use ags_recheck::Book;
 use ags_row::{At, Limits, Row, RowParts};
 use ags_steps::Steps;
@@ -50,12 +49,6 @@ pub(crate) fn one_word(rt: &impl Abort, number: u32) -> Value {
 /// The value that is a range of two values.
 pub(crate) fn range(rt: &impl Abort, least: i32, greatest: i32) -> Value {
     Value::Range(Range::of(least, greatest).expect(rt, "the ends of a range"))
-}
-
-/// A certificate that is read.
-pub(crate) fn cert_read(rt: &impl Abort, alloc: Global, text: &[u8]) -> Cert {
-    assert!(rt; text.len() <= CERT_LIMIT);
-    read(alloc, text, &Ports::standard()).expect(rt, "a certificate")
 }
 
 /// A certificate of some rows, which starts at 4000 octal.
@@ -99,34 +92,17 @@ pub(crate) fn expect_verdict<L: Ledger>(
     assert!(rt; fresh == *wanted, "{fresh}");
 }
 
-/// Makes an edit, and asserts the verdict after it.
+/// Tries an edit, which is made or refused, and asserts the verdict after it.
 pub(crate) fn expect_edit<L: Ledger>(
     rt: &impl Abort,
     book: &mut Book,
     edit: Edit,
-    wanted: &Verdict,
+    made: Result<(), EditError>,
+    verdict: &Verdict,
     steps: &mut Steps<L>,
 )
     requires { IsOfMemory edit }
 {
-    assert!(rt; book.apply(edit, steps).is_ok());
-    expect_verdict(rt, book, wanted, steps);
-}
-
-/// Asserts that an edit is refused, and that the verdict stays.
-pub(crate) fn expect_refused<L: Ledger>(
-    rt: &impl Abort,
-    book: &mut Book,
-    edit: Edit,
-    why: EditError,
-    steps: &mut Steps<L>,
-)
-    requires { IsOfMemory edit }
-{
-    let before = book.verdict();
-    match book.apply(edit, steps) {
-        Ok(()) => panic!(rt; "the edit is made"),
-        Err(error) => assert_eq!(rt; error, why),
-    }
-    expect_verdict(rt, book, &before, steps);
+    expect_same(rt, &book.apply(edit, steps), &made);
+    expect_verdict(rt, book, verdict, steps);
 }

@@ -4,9 +4,10 @@
 ghost use Rattle.std.specs.Prelude.{◌≡◌, ◌<◌};
 
 use crate::common::word;
-use crate::edits::common::{book_of, cert_of};
+use crate::edits::common::{book_of, cert_of, range};
+use ags_certtype::Cert;
 use ags_check::Verdict;
-use ags_domain::{Domain, Range, Value};
+use ags_domain::{Domain, Value};
 use ags_edits::Edit;
 use ags_image::Image;
 use ags_row::{Limits, Row, RowParts};
@@ -30,27 +31,37 @@ fn wide_row(rt: &impl Abort, alloc: Global, location: u16, a: Value) -> Row<Valu
     .expect(rt, "the parts of a row")
 }
 
-/// Edits a row after another of the certificate of 2000 orders that go to themselves, with ten rows at each.
+/// An image of 2000 orders that go to themselves.
+fn orders(rt: &impl Abort, alloc: Global) -> Image {
+    let mut image = Image::new(alloc).expect(rt, "memory for an image");
+    for i in 0..2000u16 {
+        image.set(0o4000 + i, word(rt, 0o404000 + u32::from(i)));
+    }
+    image
+}
+
+/// A certificate of them, with ten rows at each.
+fn ten_rows_at_each(rt: &impl Abort, alloc: Global) -> Cert {
+    let mut rows = Vec::new(alloc);
+    for i in 0..2000u16 {
+        for _ in 0..10 {
+            let row = wide_row(rt, alloc, 0o4000 + i, Value::full());
+            assert!(rt; rows.push(row).is_ok());
+        }
+    }
+    let limits: Limits<Value> = Limits::new(alloc).expect(rt, "memory for limits");
+    cert_of(rt, alloc, limits, rows)
+}
+
+/// Edits a row after another of that certificate.
 fn edit_each<L: Ledger>(rt: &impl Abort, alloc: Global, blank: Blank)
     requires name { blank.name ≡ L.name }
     requires parts { blank.parts ≡ L.parts }
     requires some { 0 < L.parts }
 {
     let mut steps = Steps::<L>::new(blank);
-    let mut image = Image::new(alloc).expect(rt, "memory for an image");
-    let mut rows = Vec::new(alloc);
-    for i in 0..2000u16 {
-        image.set(0o4000 + i, word(rt, 0o404000 + u32::from(i)));
-        for _ in 0..10 {
-            assert!(rt;
-                rows.push(wide_row(rt, alloc, 0o4000 + i, Value::full()))
-                    .is_ok()
-            );
-        }
-    }
-    let limits: Limits<Value> = Limits::new(alloc).expect(rt, "memory for limits");
-    let cert = cert_of(rt, alloc, limits, rows);
-    let mut book = book_of(rt, alloc, image, cert, &mut steps);
+    let cert = ten_rows_at_each(rt, alloc);
+    let mut book = book_of(rt, alloc, orders(rt, alloc), cert, &mut steps);
     let wanted = Verdict::Certified {
         rows: 20000,
         cases: 320000,
@@ -58,10 +69,9 @@ fn edit_each<L: Ledger>(rt: &impl Abort, alloc: Global, blank: Blank)
     assert!(rt; book.verdict() == wanted);
     for j in 1..10001u32 {
         let place = 0o4000 + ((j - 1) / 10) as u16;
-        let a = Value::Range(Range::of(0, j as i32).expect(rt, "the ends of a range"));
         let edit = Edit::Row {
             row: j,
-            new: wide_row(rt, alloc, place, a),
+            new: wide_row(rt, alloc, place, range(rt, 0, j as i32)),
         };
         assert!(rt; book.apply(edit, &mut steps).is_ok());
         assert!(rt; book.verdict() == wanted);

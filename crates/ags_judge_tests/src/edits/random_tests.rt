@@ -3,8 +3,8 @@
 ghost use Rattle.std.specs.Prelude.{◌≡◌, ◌<◌};
 ghost use Rattle.ags_recheck.specs.Edited.{IsOfMemory};
 
-use crate::common::{image_of, word};
-use crate::edits::common::{book_of, cert_read, expect_verdict, one_word, range, row_with};
+use crate::common::{cert_read, image_of, word};
+use crate::edits::common::{book_of, expect_verdict, one_word, range, row_with};
 use ags_domain::{Domain, Value, WordSet};
 use ags_edits::Edit;
 use ags_recheck::Book;

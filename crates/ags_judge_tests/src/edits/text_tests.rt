@@ -158,13 +158,11 @@ fn expect_row(rt: &impl Abort, edit: &Edit, number: u32, cells: usize, linked: b
 
 /// Expects the four edits of `RETURN_WORD`.
 fn expect_return_word(rt: &impl Abort, edits: &[Edit]) {
-    let [first, second, third, fourth] = edits else {
-        panic!(rt; "not four edits");
-    };
-    expect_row(rt, first, 5, 0, false);
-    expect_row(rt, second, 5, 1, false);
-    assert!(rt; matches!(third, Edit::Limit(cell) if cell.address == 0o17));
-    expect_row(rt, fourth, 6, 0, false);
+    assert!(rt; edits.len() == 4);
+    expect_row(rt, &edits[0], 5, 0, false);
+    expect_row(rt, &edits[1], 5, 1, false);
+    assert!(rt; matches!(&edits[2], Edit::Limit(cell) if cell.address == 0o17));
+    expect_row(rt, &edits[3], 6, 0, false);
 }
 
 #[test]
@@ -225,10 +223,8 @@ fn cells(rt: &impl Abort, alloc: Global, count: u8) -> Vec<u8> {
 
 /// Expects the one edit of a row with 64 cells.
 fn expect_cells(rt: &impl Abort, edits: &[Edit]) {
-    let [edit] = edits else {
-        panic!(rt; "not one edit");
-    };
-    expect_row(rt, edit, 1, 64, true);
+    assert!(rt; edits.len() == 1);
+    expect_row(rt, &edits[0], 1, 64, true);
 }
 
 #[test]

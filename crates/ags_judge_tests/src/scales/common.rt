@@ -2,14 +2,14 @@
 
 ghost use Rattle.std.specs.Prelude.{◌≡◌, ◌<◌, length};
 
-use crate::common::{expect_same, image_of, word};
-use ags_certread::CERT_LIMIT;
+use crate::common::{cert_read, expect_same, image_of, word};
 use ags_certtype::Cert;
 use ags_check::Refusal;
 use ags_image::Image;
 use ags_ports::Machine;
 use ags_scale::{RowTag, SCALES_LIMIT, Scaled, Scales, Tag, judge, read};
 use ags_steps::Steps;
+use ags_word::Word;
 use std::alloc::Global;
 use std::marker::Brand;
 use std::process::Abort;
@@ -70,10 +70,7 @@ fn scaled_of(machine: &Machine, image: &Image, cert: &Cert, scales: &Scales) -> 
 fn judged(rt: &impl Abort, alloc: Global, program: &Program<'_>, text: &[u8]) -> Scaled {
     let machine = Machine::standard();
     let image = image_of(rt, alloc, program.words);
-    assert!(rt; program.certificate.len() <= CERT_LIMIT);
-    let Ok(cert) = ags_certread::read(alloc, program.certificate, &machine.ports) else {
-        panic!(rt; "no certificate");
-    };
+    let cert = cert_read(rt, alloc, program.certificate);
     let rows = cert.rows().len();
     assert!(rt; rows <= 20_000);
     assert!(rt; text.len() <= SCALES_LIMIT);
@@ -81,6 +78,11 @@ fn judged(rt: &impl Abort, alloc: Global, program: &Program<'_>, text: &[u8]) ->
         panic!(rt; "no scales");
     };
     scaled_of(&machine, &image, &cert, &scales)
+}
+
+/// Asserts which case is told: a row, a word, an index and an indicator.
+fn expect_case(rt: &impl Abort, told: (u32, Word, u8, bool), row: u32, number: u32) {
+    expect_same(rt, &told, &(row, word(rt, number), 0, false));
 }
 
 /// Asserts what is wanted of an answer to a text of scales.
@@ -101,11 +103,7 @@ fn expect_scaled(rt: &impl Abort, text: &str, scaled: &Scaled, wanted: &Wanted) 
             },
             Wanted::Mixed(at, number, one, other),
         ) => {
-            expect_same(
-                rt,
-                &(*row, *order, *x, *v),
-                &(*at, word(rt, *number), 0, false),
-            );
+            expect_case(rt, (*row, *order, *x, *v), *at, *number);
             expect_same(rt, &(*left, *right), &(*one, *other));
         }
         (
@@ -118,11 +116,7 @@ fn expect_scaled(rt: &impl Abort, text: &str, scaled: &Scaled, wanted: &Wanted) 
             },
             Wanted::NotHeld(at, number, location),
         ) => {
-            expect_same(
-                rt,
-                &(*row, *order, *x, *v),
-                &(*at, word(rt, *number), 0, false),
-            );
+            expect_case(rt, (*row, *order, *x, *v), *at, *number);
             expect_same(rt, next, location);
         }
         (Scaled::Unsafe(told), Wanted::NotCovered(row, number, next)) => {

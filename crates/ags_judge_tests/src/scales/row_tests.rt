@@ -131,8 +131,13 @@ const UNCOVERED_SCALES: [Judging<'_>; 1] = [(
 fn scales_of_rows_are_judged(rt: HostRuntime) {
     let alloc = rt.alloc();
     expect_each(&rt, alloc, &SUM, &SUM_SCALES);
-    expect_each(&rt, alloc, &TWICE, &TWICE_SCALES);
-    expect_each(&rt, alloc, &TWICE, &START_SCALES);
     expect_each(&rt, alloc, &SIGNS, &SIGNS_SCALES);
     expect_each(&rt, alloc, &UNCOVERED, &UNCOVERED_SCALES);
+}
+
+#[test]
+fn scales_of_two_rows_at_one_location_are_judged(rt: HostRuntime) {
+    let alloc = rt.alloc();
+    expect_each(&rt, alloc, &TWICE, &TWICE_SCALES);
+    expect_each(&rt, alloc, &TWICE, &START_SCALES);
 }
