@@ -2,21 +2,20 @@
 
 ghost use Rattle.std.specs.Prelude.{◌≡◌, ◌<◌, length};
 
-use crate::common::{cert_read, expect_same, image_of, word};
+use crate::common::{cert_read, image_of};
 use ags_certtype::Cert;
 use ags_check::Refusal;
 use ags_image::Image;
 use ags_ports::Machine;
 use ags_scale::{RowTag, SCALES_LIMIT, Scaled, Scales, Tag, judge, read};
 use ags_steps::Steps;
-use ags_word::Word;
 use std::alloc::Global;
 use std::marker::Brand;
 use std::process::Abort;
 use std::sync::ledger::{Blank, Ledger};
 
 /// What is wanted of the judge. Each case here has index 0, and the indicator is clear.
-#[derive(Clone, Copy)]
+#[derive(Clone, Copy, PartialEq)]
 pub(crate) enum Wanted {
     /// The scales agree: the numbers of rows and cases.
     Agree(u32, u64),
@@ -80,56 +79,36 @@ fn judged(rt: &impl Abort, alloc: Global, program: &Program<'_>, text: &[u8]) ->
     scaled_of(&machine, &image, &cert, &scales)
 }
 
-/// Asserts which case is told: a row, a word, an index and an indicator.
-fn expect_case(rt: &impl Abort, told: (u32, Word, u8, bool), row: u32, number: u32) {
-    expect_same(rt, &told, &(row, word(rt, number), 0, false));
-}
-
-/// Asserts what is wanted of an answer to a text of scales.
-fn expect_scaled(rt: &impl Abort, text: &str, scaled: &Scaled, wanted: &Wanted) {
-    match (scaled, wanted) {
-        (Scaled::Agree { rows, cases }, Wanted::Agree(all, each)) => {
-            expect_same(rt, &(*rows, *cases), &(*all, *each));
-        }
-        (Scaled::StartMixed, Wanted::StartMixed) => {}
-        (
-            Scaled::Mixed {
+/// What an answer says, where its case has index 0, and the indicator is clear.
+fn said_of(scaled: &Scaled) -> Option<Wanted> {
+    match *scaled {
+        Scaled::Agree { rows, cases } => Some(Wanted::Agree(rows, cases)),
+        Scaled::StartMixed => Some(Wanted::StartMixed),
+        Scaled::Mixed {
+            row,
+            word,
+            x: 0,
+            v: false,
+            left,
+            right,
+        } => Some(Wanted::Mixed(row, word.number(), left, right)),
+        Scaled::NotHeld {
+            row,
+            word,
+            x: 0,
+            v: false,
+            next,
+        } => Some(Wanted::NotHeld(row, word.number(), next)),
+        Scaled::Unsafe(
+            Refusal::NotCovered {
                 row,
-                word: order,
-                x,
-                v,
-                left,
-                right,
-            },
-            Wanted::Mixed(at, number, one, other),
-        ) => {
-            expect_case(rt, (*row, *order, *x, *v), *at, *number);
-            expect_same(rt, &(*left, *right), &(*one, *other));
-        }
-        (
-            Scaled::NotHeld {
-                row,
-                word: order,
-                x,
-                v,
-                next,
-            },
-            Wanted::NotHeld(at, number, location),
-        ) => {
-            expect_case(rt, (*row, *order, *x, *v), *at, *number);
-            expect_same(rt, next, location);
-        }
-        (Scaled::Unsafe(told), Wanted::NotCovered(row, number, next)) => {
-            let refusal = Refusal::NotCovered {
-                row: *row,
-                word: word(rt, *number),
+                word,
                 x: 0,
                 v: false,
-                next: *next,
-            };
-            assert!(rt; *told == refusal);
-        }
-        _ => panic!(rt; "another answer to {text:?}"),
+                next,
+            },
+        ) => Some(Wanted::NotCovered(row, word.number(), next)),
+        _ => None,
     }
 }
 
@@ -142,7 +121,7 @@ pub(crate) fn expect(
     wanted: &Wanted,
 ) {
     let scaled = judged(rt, alloc, program, text.as_bytes());
-    expect_scaled(rt, text, &scaled, wanted);
+    assert!(rt; said_of(&scaled) == Some(*wanted), "{scaled}: {text}");
 }
 
 /// The same, of each of some texts of scales.
