@@ -161,88 +161,88 @@ fn rows_are_read(rt: HostRuntime) {
     expect_row(&rt, line, 0o17, (range, None), ZERO, CLEAR);
 }
 
-/// Lines that are malformed.
-const MALFORMED: [&[u8]; 74] = [
+/// Lines that are malformed, as texts of such lines.
+const MALFORMED: [&str; 6] = [
     // lines of another keyword or location
-    b" # blanks before the sign",
-    b"AGSCERT 1",
-    b"STOP 4000",
-    b"start 4000",
-    b"START",
-    b"START 400",
-    b"START 04000",
-    b"START 4008",
-    b"START 4000 0000",
-    b"STARTS 4000",
-    b"START4000",
-    b"MAY",
-    b"MAY 4000 ANY",
-    b"END 0",
-    b"END END",
+    " # blanks before the sign\n\
+AGSCERT 1\n\
+STOP 4000\n\
+start 4000\n\
+START\n\
+START 400\n\
+START 04000\n\
+START 4008\n\
+START 4000 0000\n\
+STARTS 4000\n\
+START4000\n\
+MAY\n\
+MAY 4000 ANY\n\
+END 0\n\
+END END",
     // entries of another address or form
-    b"CELL",
-    b"CELL 0017",
-    b"CELL ANY",
-    b"CELL 017 ANY",
-    b"CELL 00017 ANY",
-    b"CELL 0018 ANY",
-    b"CELL 0017 any",
-    b"CELL 0017 ANY ANY",
-    b"CELL 0017 ALL",
-    b"CELL 0017 ANYX",
+    "CELL\n\
+CELL 0017\n\
+CELL ANY\n\
+CELL 017 ANY\n\
+CELL 00017 ANY\n\
+CELL 0018 ANY\n\
+CELL 0017 any\n\
+CELL 0017 ANY ANY\n\
+CELL 0017 ALL\n\
+CELL 0017 ANYX",
     // ranges of other ends
-    b"CELL 0017 RANGE",
-    b"CELL 0017 RANGE 1",
-    b"CELL 0017 RANGE 1 2 3",
-    b"CELL 0017 RANGE 0 131072",
-    b"CELL 0017 RANGE 131072 1",
-    b"CELL 0017 RANGE -131073 0",
-    b"CELL 0017 RANGE +1 2",
-    b"CELL 0017 RANGE - 2",
-    b"CELL 0017 RANGE --1 2",
-    b"CELL 0017 RANGE 0000001 2",
-    b"CELL 0017 RANGE 1 2A",
-    b"CELL 0017 RANGE 1,2",
+    "CELL 0017 RANGE\n\
+CELL 0017 RANGE 1\n\
+CELL 0017 RANGE 1 2 3\n\
+CELL 0017 RANGE 0 131072\n\
+CELL 0017 RANGE 131072 1\n\
+CELL 0017 RANGE -131073 0\n\
+CELL 0017 RANGE +1 2\n\
+CELL 0017 RANGE - 2\n\
+CELL 0017 RANGE --1 2\n\
+CELL 0017 RANGE 0000001 2\n\
+CELL 0017 RANGE 1 2A\n\
+CELL 0017 RANGE 1,2",
     // word sets of other words
-    b"CELL 0017 WORDS",
-    b"CELL 0017 WORDS 00001",
-    b"CELL 0017 WORDS 0000001",
-    b"CELL 0017 WORDS 000008",
-    b"CELL 0017 WORDS 000001 000001",
-    b"CELL 0017 WORDS 000002 000001",
-    b"CELL 0017 WORDS 777777 000001",
-    b"CELL 0017 WORDS 000001 ANY",
-    b"AT 0017 WORDS 000000 000001 000002 000003 000004 000005 000006 000007 000010 000011 000012 000013 000014 000015 000016 000017 000020",
+    "CELL 0017 WORDS\n\
+CELL 0017 WORDS 00001\n\
+CELL 0017 WORDS 0000001\n\
+CELL 0017 WORDS 000008\n\
+CELL 0017 WORDS 000001 000001\n\
+CELL 0017 WORDS 000002 000001\n\
+CELL 0017 WORDS 777777 000001\n\
+CELL 0017 WORDS 000001 ANY\n\
+AT 0017 WORDS 000000 000001 000002 000003 000004 000005 000006 000007 000010 000011 000012 000013 000014 000015 000016 000017 000020",
     // links of another address or offset
-    b"LINK",
-    b"LINK 0020",
-    b"LINK 020 0",
-    b"LINK 0020 262144",
-    b"LINK 0020 -262144",
-    b"LINK 0020 0000010",
-    b"LINK 0020 +1",
-    b"LINK 0020 - 1",
-    b"LINK 0020 1 2",
-    b"LINK 0020 ANY",
+    "LINK\n\
+LINK 0020\n\
+LINK 020 0\n\
+LINK 0020 262144\n\
+LINK 0020 -262144\n\
+LINK 0020 0000010\n\
+LINK 0020 +1\n\
+LINK 0020 - 1\n\
+LINK 0020 1 2\n\
+LINK 0020 ANY",
     // rows of other fields
-    b"ROW 4000",
-    b"ROW 4000 A ANY Q ANY X 0",
-    b"ROW 4000 A ANY Q ANY X 0 V",
-    b"ROW 4000 A ANY Q ANY V 0 X 0",
-    b"ROW 4000 Q ANY A ANY X 0 V 0",
-    b"ROW 4000 A ANY X 0 V 0",
-    b"ROW 4000 ANY Q ANY X 0 V 0",
-    b"ROW 4000 A Q ANY X 0 V 0",
-    b"ROW 4000 A ANY Q ANY X 0 V 0 0",
-    b"ROW 4000 A ANY Q ANY X 10 V 0",
-    b"ROW 4000 A ANY Q ANY X 00 V 0",
-    b"ROW 4000 A ANY Q ANY X 8 V 0",
-    b"ROW 4000 A ANY Q ANY X V 0",
-    b"ROW 4000 A ANY Q ANY X 0 V 10",
-    b"ROW 4000 A ANY Q ANY X 0 V 2",
-    b"ROW 4000 A ANY Q ANY X 0 V 00",
-    b"ROW 4000 A WORDS 000001 000001 Q ANY X 0 V 0",
-    b"ROW 4000 A RANGE 131072 1 Q ANY X 0 V 0",
+    "ROW 4000\n\
+ROW 4000 A ANY Q ANY X 0\n\
+ROW 4000 A ANY Q ANY X 0 V\n\
+ROW 4000 A ANY Q ANY V 0 X 0\n\
+ROW 4000 Q ANY A ANY X 0 V 0\n\
+ROW 4000 A ANY X 0 V 0\n\
+ROW 4000 ANY Q ANY X 0 V 0\n\
+ROW 4000 A Q ANY X 0 V 0\n\
+ROW 4000 A ANY Q ANY X 0 V 0 0\n\
+ROW 4000 A ANY Q ANY X 10 V 0\n\
+ROW 4000 A ANY Q ANY X 00 V 0\n\
+ROW 4000 A ANY Q ANY X 8 V 0\n\
+ROW 4000 A ANY Q ANY X V 0\n\
+ROW 4000 A ANY Q ANY X 0 V 10\n\
+ROW 4000 A ANY Q ANY X 0 V 2\n\
+ROW 4000 A ANY Q ANY X 0 V 00\n\
+ROW 4000 A WORDS 000001 000001 Q ANY X 0 V 0\n\
+ROW 4000 A RANGE 131072 1 Q ANY X 0 V 0",
 ];
 
 /// Lines that do nothing.
@@ -250,8 +250,10 @@ const SKIPPED: [&[u8]; 6] = [b"", b" ", b"\t", b" \t \t", b"#", b"# END \x00\xff
 
 #[test]
 fn other_lines_are_malformed_or_skipped(rt: HostRuntime) {
-    for line in &MALFORMED {
-        expect_line(&rt, line, Line::Malformed);
+    for lines in &MALFORMED {
+        for line in lines.lines() {
+            expect_line(&rt, line.as_bytes(), Line::Malformed);
+        }
     }
     for line in &SKIPPED {
         expect_line(&rt, line, Line::Skipped);
