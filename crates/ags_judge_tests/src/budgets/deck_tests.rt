@@ -3,6 +3,8 @@
 
 use crate::budgets::common::{Case, Program, Wanted, expect};
 use ags_ports::Machine;
+use std::alloc::Global;
+use std::process::Abort;
 
 /// The deck's words with the split certificate.
 const DECK: Program<'_> = Program {
@@ -162,15 +164,15 @@ fn bounds_of_the_deck_are_within_the_cycle(rt: HostRuntime) {
     );
 }
 
-#[test]
-fn each_bound_of_the_deck_is_needed(rt: HostRuntime) {
+/// Expects of each bound of the deck that a lesser one is late, and how.
+fn expect_needed(rt: &impl Abort, alloc: Global, steps: &[(u32, Option<u16>)]) {
     let machine = Machine::standard();
     let mut bounds = BOUNDS;
     for place in 0..44usize {
-        let (word, next) = STEPS[place];
+        assert!(rt; place < steps.len());
+        let (word, next) = steps[place];
         let needs = bounds[place];
         let lesser = needs.wrapping_sub(1);
-        bounds[place] = lesser;
         let late = Case {
             row: place as u32 + 1,
             word,
@@ -178,8 +180,14 @@ fn each_bound_of_the_deck_is_needed(rt: HostRuntime) {
             v: false,
             next,
         };
+        bounds[place] = lesser;
         let wanted = Wanted::Late(late, needs, lesser);
-        expect(&rt, rt.alloc(), &machine, &DECK, &bounds, &wanted);
+        expect(rt, alloc, &machine, &DECK, &bounds, &wanted);
         bounds[place] = needs;
     }
+}
+
+#[test]
+fn each_bound_of_the_deck_is_needed(rt: HostRuntime) {
+    expect_needed(&rt, rt.alloc(), &STEPS);
 }
