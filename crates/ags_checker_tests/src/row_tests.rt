@@ -306,16 +306,20 @@ fn is_covered(
     is_covered_by(rt, alloc, &row_of(rt, target), &base, &post(rt, other))
 }
 
+/// Expects whether rows cover posts.
+fn expect_covers(rt: &impl Abort, alloc: Global, covers: &[Cover]) {
+    for place in 0..covers.len() {
+        let (cell, link, other, covered) = covers[place];
+        let told = is_covered(rt, alloc, [cell, None, None], link, other);
+        expect_same(rt, &(place, told), &(place, covered));
+    }
+}
+
 #[test]
 fn rows_cover_posts(rt: HostRuntime) {
-    let alloc = rt.alloc();
-    for place in 0..COVERS.len() {
-        let (cell, link, other, covered) = COVERS[place];
-        let told = is_covered(&rt, alloc, [cell, None, None], link, other);
-        expect_same(&rt, &(place, told), &(place, covered));
-    }
+    expect_covers(&rt, rt.alloc(), &COVERS);
     // What was stored counts before the word that the order stands in.
     let cells = [Some((0o17, 1, 2)), Some((0o20, 0, 3)), None];
-    let told = is_covered(&rt, alloc, cells, None, Other::Nothing);
+    let told = is_covered(&rt, rt.alloc(), cells, None, Other::Nothing);
     expect_same(&rt, &told, &true);
 }
