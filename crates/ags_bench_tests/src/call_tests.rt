@@ -1,16 +1,23 @@
 //! Calls that come to no run: words, files and verdicts. The devices are left as they are made.
 
-use crate::common::{expect_same, shelf_with, words_of};
-use ags_bench::{Status, bench_main};
-use ags_device::{Device, Recorder, count_at};
-use ags_outside::MemorySink;
-use std::process::Abort;
+use crate::common::{Case, expect_over, expect_same, shelf_with};
+use ags_bench::Status;
+use ags_device::{Device, Recorder};
+use std::test::Fail;
 
-/// A source of one order that goes to itself.
-const LOOP: &[u8] = b" ORG /4000\n TRA /4000\n";
-
-/// A certificate for it; one that leaves its start uncovered; one that declares no 0 of a register; and one with a fault.
-const CERTIFICATES: [(&str, &[u8]); 4] = [
+/// Files beside the deck, its certificate and the script.
+const FILES: [(&str, &[u8]); 11] = [
+    // a source of one order that goes to itself
+    ("LOOP", b" ORG /4000\n TRA /4000\n"),
+    // sources, scripts and machine files with a fault
+    ("BAD", b" HLT 1\n"),
+    ("START", b"START 4000\n"),
+    ("OUT", b"# none\nSHOW OUT 2001\n"),
+    ("MANY", b"STEP 99999999\nPULSE\nSTEP 2\n"),
+    ("NOTOML", b"=\n"),
+    // an empty machine file
+    ("EMPTY", b""),
+    // a certificate; one that leaves its start uncovered; one that declares no 0 of a register; and one with a fault
     ("GOOD", b"AGSCERT 1\nROW 4000 A ANY Q ANY X 0 V 0\nEND\n"),
     ("OPEN", b"AGSCERT 1\nROW 4001 A ANY Q ANY X 0 V 0\nEND\n"),
     (
@@ -20,44 +27,16 @@ const CERTIFICATES: [(&str, &[u8]); 4] = [
     ("FAULT", b"AGSCERT 1\nROW\nEND\n"),
 ];
 
-/// Runs a command line with one recorder, and expects its status and its output.
-fn expect_line(rt: &(impl AllocGlobal + Abort), line: &str, status: Status, text: &str) {
-    let alloc = rt.alloc();
-    let mut shelf = shelf_with(rt, alloc, "SHOW REG\n");
-    assert!(rt; shelf.add("LOOP", LOOP).is_ok());
-    assert!(rt; shelf.add("BAD", b" HLT 1\n").is_ok());
-    assert!(rt; shelf.add("START", b"START 4000\n").is_ok());
-    assert!(rt; shelf.add("OUT", b"# none\nSHOW OUT 2001\n").is_ok());
-    assert!(rt; shelf.add("MANY", b"STEP 99999999\nPULSE\nSTEP 2\n").is_ok());
-    assert!(rt; shelf.add("NOTOML", b"=\n").is_ok());
-    assert!(rt; shelf.add("EMPTY", b"").is_ok());
-    for &(name, bytes) in &CERTIFICATES {
-        assert!(rt; shelf.add(name, bytes).is_ok());
-    }
-    let mut devices: Vec<Box<dyn Device>> = Vec::new(alloc);
-    let recorder: Box<dyn Device> = Box::new(alloc, Recorder::new(alloc, 0o6001)).expect(
-        rt,
-        "memory for a recorder",
-    );
-    assert!(rt; devices.push(recorder).is_ok());
-    let mut out = MemorySink::new(alloc, 4096);
-    let words = words_of(rt, alloc, line);
-    let ended = bench_main(alloc, &words, &mut shelf, &mut out, &mut devices);
-    expect_same(rt, &(line, ended), &(line, status));
-    expect_same(rt, &str::from_utf8(out.bytes()), &Ok(text));
-    assert!(rt; devices.len() == 1);
-    expect_same(rt, &count_at(&devices, 0), &0);
-}
-
-#[test]
-fn words_of_no_form(rt: HostRuntime) {
-    for line in ["", "S", "S C", "S C P M X", "S C P M X Y"] {
-        expect_line(&rt, line, Status::BadWords, "WORDS\n");
-    }
-}
-
-/// Words, and the first file that they name and that is not read.
-const UNREAD: [(&str, Status, &str); 10] = [
+/// Words, the status, and what is written.
+const CALLS: [(&str, Status, &str); 19] = [
+    // words of no form
+    ("", Status::BadWords, "WORDS\n"),
+    ("S", Status::BadWords, "WORDS\n"),
+    ("S C", Status::BadWords, "WORDS\n"),
+    ("S C P M X", Status::BadWords, "WORDS\n"),
+    ("S C P M X Y", Status::BadWords, "WORDS\n"),
+    // the first file that the words name and that is not read: the machine file comes first, then the source, the certificate and the
+    // script
     (
         "X X X NOTOML",
         Status::BadMachine,
@@ -92,18 +71,7 @@ const UNREAD: [(&str, Status, &str); 10] = [
         "SCRIPT LINE 3 ERROR 3 TooManySteps\n",
     ),
     ("LOOP OPEN X", Status::AbsentFile, "ABSENT X\n"),
-];
-
-// The machine file comes first, then the source, the certificate and the script.
-#[test]
-fn first_file_that_is_not_read(rt: HostRuntime) {
-    for &(line, status, text) in &UNREAD {
-        expect_line(&rt, line, status, text);
-    }
-}
-
-/// Words, and what is told of the verdict and of the start.
-const JUDGED: [(&str, Status, &str); 4] = [
+    // what is told of the verdict and of the start
     (
         "LOOP GOOD P",
         Status::Done,
@@ -123,33 +91,48 @@ const JUDGED: [(&str, Status, &str); 4] = [
 ];
 
 #[test]
-fn verdicts_and_starts(rt: HostRuntime) {
-    for &(line, status, text) in &JUDGED {
-        expect_line(&rt, line, status, text);
+fn calls_that_come_to_no_run(rt: HostRuntime) -> Result<(), Fail> {
+    let alloc = rt.alloc();
+    for &(line, status, text) in &CALLS {
+        let script = "SHOW REG\n";
+        let mut shelf = shelf_with(&rt, alloc, script);
+        for &(name, bytes) in &FILES {
+            shelf.add(name, bytes)?;
+        }
+        let mut devices: Vec<Box<dyn Device>> = Vec::new(alloc);
+        devices.push(Box::new(alloc, Recorder::new(alloc, 0o6001))?)?;
+        let case = Case {
+            script,
+            most: 4096,
+            failing: 0,
+            status,
+            text,
+            kept: &[(0, 0, None)],
+        };
+        expect_over(&rt, &mut shelf, &mut devices, line, &case);
     }
+    Ok(())
 }
 
-/// The statuses, each at its number.
-const STATUSES: [Status; 12] = [
-    Status::Done,
-    Status::No,
-    Status::BadSource,
-    Status::BadWords,
-    Status::AbsentFile,
-    Status::ReadFault,
-    Status::WriteFault,
-    Status::BadMachine,
-    Status::BadCert,
-    Status::BadText,
-    Status::LongFile,
-    Status::NoMemory,
+/// The statuses, each with its number.
+const STATUSES: [(Status, u8); 12] = [
+    (Status::Done, 0),
+    (Status::No, 1),
+    (Status::BadSource, 2),
+    (Status::BadWords, 3),
+    (Status::AbsentFile, 4),
+    (Status::ReadFault, 5),
+    (Status::WriteFault, 6),
+    (Status::BadMachine, 7),
+    (Status::BadCert, 8),
+    (Status::BadText, 9),
+    (Status::LongFile, 10),
+    (Status::NoMemory, 11),
 ];
 
 #[test]
 fn numbers_of_statuses(rt: HostRuntime) {
-    let mut number = 0u8;
-    for status in STATUSES {
-        expect_same(&rt, &status.number(), &number);
-        number = number.saturating_add(1);
+    for status in &STATUSES {
+        expect_same(&rt, &(status.0, status.0.number()), status);
     }
 }

@@ -1,12 +1,12 @@
 //! A recorder for which memory is wanting at one of its words.
 
-use crate::common::{CERTIFIED, Case, expect_call, word};
+use crate::common::{Case, expect_call, pad_of, sensor_of};
 use ags_bench::Status;
-use ags_device::{Device, Pad, Sensor};
+use ags_device::Device;
 use ags_word::Word;
 use std::alloc::AllocError;
 use std::marker::Model;
-use std::process::Abort;
+use std::test::Fail;
 
 /// A recorder that finds memory for so many words, and for no more.
 #[derive(Drop)]
@@ -67,67 +67,45 @@ impl Device for SmallRecorder {
     }
 }
 
-/// The last word that is heard of the deck's first integrator in so many cycles: each adds 125, up to
-/// its limit of 1000.
-fn last_sum(cycles: u64) -> Option<u32> {
-    if cycles == 0 {
-        return None;
-    }
-    if 8 < cycles {
-        return Some(1000);
-    }
-    Some(125 * cycles as u32)
-}
+/// How many words the recorder has room for, how many the sensor has left, the last sum of the deck's first integrator that is heard, of
+/// which each adds 125 up to its limit of 1000, how many digits the pad has left, and the last that it hears: the one that it gave.
+const STOPS: [(usize, u64, Option<u32>, u64, Option<u32>); 9] = [
+    (0, 99, None, 8, None),
+    (1, 98, Some(125), 7, Some(0o000020)),
+    (2, 97, Some(250), 6, Some(0o000024)),
+    (3, 96, Some(375), 5, Some(0o000027)),
+    (4, 95, Some(500), 4, Some(0o000037)),
+    (5, 94, Some(625), 3, Some(0o000037)),
+    (6, 93, Some(750), 2, Some(0o000037)),
+    (7, 92, Some(875), 1, Some(0o000037)),
+    (8, 91, Some(1000), 0, Some(0o000037)),
+];
 
-/// The last word that the pad hears in so many cycles: the one that it gave.
-fn last_digit(cycles: u64) -> Option<u32> {
-    match cycles {
-        0 => None,
-        1 => Some(0o000020),
-        2 => Some(0o000024),
-        3 => Some(0o000027),
-        _ => Some(0o000037),
-    }
-}
-
-/// Runs a hundred cycles with a recorder that has room for so many words: the next one stops the run once the cycle's steps are made,
-/// and what the pad would hear in that cycle comes after it.
-fn expect_stop(rt: &(impl AllocGlobal + Abort), room: u64) {
-    let alloc = rt.alloc();
-    let mut devices: Vec<Box<dyn Device>> = Vec::new(alloc);
-    let small = SmallRecorder {
-        address: 0o6001,
-        room: room as usize,
-        words: Vec::new(alloc),
-    };
-    let sensor = Sensor::new(0o2001, word(rt, 0o001750), word(rt, 0), 100);
-    let digits = vec![in alloc; 0u8, 4, 7, 15, 15, 15, 15, 15, 15].expect(rt, "memory for digits");
-    let pad = Pad::new(alloc, 0o2200, 0o6200, digits).expect(rt, "digits");
-    let small: Box<dyn Device> = Box::new(alloc, small).expect(rt, "memory for a recorder");
-    let sensor: Box<dyn Device> = Box::new(alloc, sensor).expect(rt, "memory for a sensor");
-    let pad: Box<dyn Device> = Box::new(alloc, pad).expect(rt, "memory for a pad");
-    assert!(rt; devices.push(sensor).is_ok());
-    assert!(rt; devices.push(small).is_ok());
-    assert!(rt; devices.push(pad).is_ok());
-    assert!(rt; room < 9);
-    let case = Case {
-        script: "CYCLE 100\nSHOW REG\n",
-        most: 4096,
-        failing: 0,
-        status: Status::NoMemory,
-        text: CERTIFIED,
-        kept: &[
-            (99 - room, 0, None),
-            (0, room, last_sum(room)),
-            (8 - room, room, last_digit(room)),
-        ],
-    };
-    expect_call(rt, &mut devices, &case);
-}
-
+// Of a hundred cycles, with a recorder that has room for so many words, the next one stops the run once the cycle's steps are made, and
+// what the pad would hear in that cycle comes after it.
 #[test]
-fn memory_is_wanting_at_each_word(rt: HostRuntime) {
-    for room in 0..9 {
-        expect_stop(&rt, room);
+fn memory_is_wanting_at_each_word(rt: HostRuntime) -> Result<(), Fail> {
+    let alloc = rt.alloc();
+    for &(room, words, sum, digits, digit) in &STOPS {
+        let small = SmallRecorder {
+            address: 0o6001,
+            room,
+            words: Vec::new(alloc),
+        };
+        let mut devices: Vec<Box<dyn Device>> = Vec::new(alloc);
+        devices.push(Box::new(alloc, sensor_of(&rt, 0o2001, 0o001750, 100))?)?;
+        devices.push(Box::new(alloc, small)?)?;
+        devices.push(Box::new(alloc, pad_of(&rt, alloc))?)?;
+        let heard = room as u64;
+        let case = Case {
+            script: "CYCLE 100\nSHOW REG\n",
+            most: 4096,
+            failing: 0,
+            status: Status::NoMemory,
+            text: "CERTIFIED ROWS 31 CASES 32\n",
+            kept: &[(words, 0, None), (0, heard, sum), (digits, heard, digit)],
+        };
+        expect_call(&rt, &mut devices, &case);
     }
+    Ok(())
 }

@@ -1,20 +1,18 @@
 //! A put that fails at each position of a run's output, and the devices each time.
 
-use crate::common::{CERTIFIED, Case, Kept, expect_three};
+use crate::common::{Case, Kept, expect_three};
 use ags_bench::Status;
+use std::alloc::AllocError;
 use std::process::Abort;
+use std::test::Fail;
 
-/// The script.
-const SCRIPT: &str = "CYCLE 100\nDETACH 3\nSHOW REG\n";
-
-/// Its output, line by line.
-const LINES: [&str; 5] = [
-    "CERTIFIED ROWS 31 CASES 32\n",
-    "DETACHED 3 LEFT 0 HEARD 100 LAST 001750\n",
-    "A 777777 Q 404012 X 0 V 0 P 4000 W\n",
-    "DEVICE 1 LEFT 0 HEARD 0 LAST ------\n",
-    "DEVICE 2 LEFT 0 HEARD 9 LAST 000037\n",
-];
+/// The script's output.
+const OUTPUT: &str = "CERTIFIED ROWS 31 CASES 32
+DETACHED 3 LEFT 0 HEARD 100 LAST 001750
+A 777777 Q 404012 X 0 V 0 P 4000 W
+DEVICE 1 LEFT 0 HEARD 0 LAST ------
+DEVICE 2 LEFT 0 HEARD 9 LAST 000037
+";
 
 /// The devices where the output fails in the line of a position: none was asked before the verdict's is written, the hundred cycles
 /// are made before the second, and the third device leaves with it.
@@ -30,59 +28,35 @@ fn kept_in(position: usize) -> &'static [Kept] {
     }
 }
 
-/// Expects the output up to a put that fails, in the line of a position.
-fn expect_fault(
-    rt: &(impl AllocGlobal + Abort),
-    most: usize,
-    failing: u64,
-    text: &str,
-    position: usize,
-) {
-    let case = Case {
-        script: SCRIPT,
-        most,
-        failing,
-        status: Status::WriteFault,
-        text,
-        kept: kept_in(position),
-    };
-    expect_three(rt, 0o001750, &case);
-}
-
-#[test]
-fn put_fails_at_each_line(rt: HostRuntime) {
-    let mut text = String::new(rt.alloc());
+/// Expects the output up to each put that fails, where so many bytes are put at once: lines, or single ones.
+fn fail_each_put(rt: &(impl AllocGlobal + Abort), most: usize) -> Result<(), AllocError> {
     let mut failing = 0u64;
-    for (position, line) in LINES.iter().enumerate() {
-        failing = failing.wrapping_add(1);
-        expect_fault(&rt, 4096, failing, &text, position);
-        assert!(&rt; text.push_str(line).is_ok());
-    }
-}
-
-#[test]
-fn put_fails_at_each_byte(rt: HostRuntime) {
-    let mut text = String::new(rt.alloc());
-    let mut failing = 0u64;
-    for (position, line) in LINES.iter().enumerate() {
-        for letter in line.chars() {
+    let mut position = 0usize;
+    let mut begins = true;
+    for (cut, byte) in OUTPUT.bytes().enumerate() {
+        if begins || most == 1 {
             failing = failing.wrapping_add(1);
-            expect_fault(&rt, 1, failing, &text, position);
-            assert!(&rt; text.push(letter).is_ok());
+            let case = Case {
+                script: "CYCLE 100\nDETACH 3\nSHOW REG\n",
+                most,
+                failing,
+                status: Status::WriteFault,
+                text: OUTPUT.get(..cut).expect(rt, "a text of ASCII"),
+                kept: kept_in(position),
+            };
+            expect_three(rt, 0o001750, &case)?;
+        }
+        begins = byte == b'\n';
+        if begins {
+            position = position.wrapping_add(1);
         }
     }
+    Ok(())
 }
 
-// The line of what a run met can't be written: the devices are those where the run stops.
 #[test]
-fn put_fails_at_what_was_met(rt: HostRuntime) {
-    let case = Case {
-        script: SCRIPT,
-        most: 4096,
-        failing: 2,
-        status: Status::WriteFault,
-        text: CERTIFIED,
-        kept: &[(99, 0, None), (9, 0, None), (0, 0, None)],
-    };
-    expect_three(&rt, 0o001751, &case);
+fn put_fails_at_each_line_and_at_each_byte(rt: HostRuntime) -> Result<(), Fail> {
+    fail_each_put(&rt, 4096)?;
+    fail_each_put(&rt, 1)?;
+    Ok(())
 }

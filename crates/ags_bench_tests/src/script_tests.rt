@@ -24,69 +24,54 @@ fn expect_commands(rt: &(impl AllocGlobal + Abort), text: &str, wanted: &[(u32, 
     }
 }
 
-/// Expects the first fault of a text.
-fn expect_fault(rt: &(impl AllocGlobal + Abort), text: &str, line: u32, kind: ScriptKind) {
-    match read_text(rt, rt.alloc(), text) {
-        Ok(_) => assert!(rt; false, "{text}"),
-        Err(error) => expect_same(rt, &(text, error), &(text, ScriptError::At { line, kind })),
-    }
-}
+/// A script with each form of line.
+const EACH_FORM: &str =
+    "STEP 3\nPULSE\n# none\n\nCYCLE 007\r\n\tSHOW  REG \nSHOW CELL 7777\nSHOW OUT 6200\nFEED 1\nDETACH 000000002\nFEED 0";
 
-#[test]
-fn each_line_is_read(rt: HostRuntime) {
-    let text =
-        "STEP 3\nPULSE\n# none\n\nCYCLE 007\r\n\tSHOW  REG \nSHOW CELL 7777\nSHOW OUT 6200\nFEED 1\nDETACH 000000002\nFEED 0";
-    expect_commands(
-        &rt,
-        text,
-        &[
-            (1, BenchCommand::Step(3)),
-            (2, BenchCommand::Pulse),
-            (5, BenchCommand::Cycle(7)),
-            (6, BenchCommand::ShowReg),
-            (7, BenchCommand::ShowCell(0o7777)),
-            (8, BenchCommand::ShowOut(0o6200)),
-            (9, BenchCommand::Feed(1)),
-            (10, BenchCommand::Detach(2)),
-            (11, BenchCommand::Feed(0)),
-        ],
-    );
-    expect_commands(&rt, "", &[]);
-}
-
-/// Lines of no form.
-const NO_FORMS: [&str; 20] = [
-    "START 4000",
-    "CELL 0020 000001",
-    "PORT 2001 000001",
-    "SET 2001 000001",
-    "KEY 1",
-    "SHOW DEDA",
-    "FEED",
-    "FEED -1",
-    "FEED 1 2",
-    "FEED 0x1",
-    "FEED 1234567890",
-    "DETACH",
-    "DETACH +1",
-    "DETACH ALL",
-    "DETACH 1 1",
-    "feed 1",
-    "FEED1",
-    "STEP",
-    "PULSE 1",
-    "SHOW CELL 777",
+/// Its commands, each with its line's number.
+const COMMANDS: [(u32, BenchCommand); 9] = [
+    (1, BenchCommand::Step(3)),
+    (2, BenchCommand::Pulse),
+    (5, BenchCommand::Cycle(7)),
+    (6, BenchCommand::ShowReg),
+    (7, BenchCommand::ShowCell(0o7777)),
+    (8, BenchCommand::ShowOut(0o6200)),
+    (9, BenchCommand::Feed(1)),
+    (10, BenchCommand::Detach(2)),
+    (11, BenchCommand::Feed(0)),
 ];
 
 #[test]
-fn lines_of_no_form(rt: HostRuntime) {
-    for line in NO_FORMS {
-        expect_fault(&rt, line, 1, ScriptKind::BadLine);
-    }
+fn each_line_is_read(rt: HostRuntime) {
+    expect_commands(&rt, EACH_FORM, &COMMANDS);
+    expect_commands(&rt, "", &[]);
+    expect_commands(&rt, "CYCLE 5000\n", &[(1, BenchCommand::Cycle(5000))]);
 }
 
 /// Scripts, and the line and the kind of their first fault.
-const FAULTY: [(&str, u32, ScriptKind); 5] = [
+const FAULTY: [(&str, u32, ScriptKind); 25] = [
+    // lines of no form
+    ("START 4000", 1, ScriptKind::BadLine),
+    ("CELL 0020 000001", 1, ScriptKind::BadLine),
+    ("PORT 2001 000001", 1, ScriptKind::BadLine),
+    ("SET 2001 000001", 1, ScriptKind::BadLine),
+    ("KEY 1", 1, ScriptKind::BadLine),
+    ("SHOW DEDA", 1, ScriptKind::BadLine),
+    ("FEED", 1, ScriptKind::BadLine),
+    ("FEED -1", 1, ScriptKind::BadLine),
+    ("FEED 1 2", 1, ScriptKind::BadLine),
+    ("FEED 0x1", 1, ScriptKind::BadLine),
+    ("FEED 1234567890", 1, ScriptKind::BadLine),
+    ("DETACH", 1, ScriptKind::BadLine),
+    ("DETACH +1", 1, ScriptKind::BadLine),
+    ("DETACH ALL", 1, ScriptKind::BadLine),
+    ("DETACH 1 1", 1, ScriptKind::BadLine),
+    ("feed 1", 1, ScriptKind::BadLine),
+    ("FEED1", 1, ScriptKind::BadLine),
+    ("STEP", 1, ScriptKind::BadLine),
+    ("PULSE 1", 1, ScriptKind::BadLine),
+    ("SHOW CELL 777", 1, ScriptKind::BadLine),
+    // the first of several faults, and faults that no single line has
     ("SHOW OUT 2001\n", 1, ScriptKind::NoPort),
     (
         "FEED 1\n\n# none\nSHOW OUT 6003\nFEED\n",
@@ -105,9 +90,13 @@ const FAULTY: [(&str, u32, ScriptKind); 5] = [
 #[test]
 fn first_fault_of_a_script(rt: HostRuntime) {
     for &(text, line, kind) in &FAULTY {
-        expect_fault(&rt, text, line, kind);
+        match read_text(&rt, rt.alloc(), text) {
+            Ok(_) => assert!(&rt; false, "{text}"),
+            Err(error) => {
+                expect_same(&rt, &(text, error), &(text, ScriptError::At { line, kind }))
+            }
+        }
     }
-    expect_commands(&rt, "CYCLE 5000\n", &[(1, BenchCommand::Cycle(5000))]);
 }
 
 #[test]
