@@ -1,83 +1,12 @@
 //! The program over files in memory. The expected lines are typed by hand from docs/SOURCE.md, docs/MACHINE.md and
 //! docs/SCRIPT.md.
 
-use crate::command_lines::{arguments_of, expect_same};
+use crate::command_lines::{Answer, Pair, expect_over, expect_pairs, expect_same, repeated};
 use ags_command::{arguments_ask_for_one_command, arguments_ask_for_one_thing};
-use ags_outside::{SteadyShelf, SteadySink};
 use ags_top::{
-    Status, ags_main, arguments_have_one_answer, certified_lines_begin_with_certified,
+    Status, arguments_have_one_answer, certified_lines_begin_with_certified,
     each_command_has_an_answer,
 };
-use std::alloc::Global;
-use std::process::Abort;
-
-/// A shelf with these files.
-fn shelf_of(rt: &impl Abort, alloc: Global, files: &[(&str, &[u8])]) -> SteadyShelf {
-    let mut shelf = SteadyShelf::new(alloc);
-    for &(name, bytes) in files {
-        assert!(rt; shelf.add(name, bytes).is_ok());
-    }
-    shelf
-}
-
-/// Runs a command line over these files, into a sink that takes so many bytes at once, and compares what comes.
-pub(crate) fn compare_over(
-    rt: &(impl AllocGlobal + Abort),
-    files: &[(&str, &[u8])],
-    line: &str,
-    most: usize,
-    status: Status,
-    text: &str,
-) {
-    let alloc = rt.alloc();
-    let mut shelf = shelf_of(rt, alloc, files);
-    let mut out = SteadySink::new(alloc, most.max(1));
-    let arguments = arguments_of(rt, alloc, line);
-    let ended = ags_main(alloc, &arguments, &mut shelf, &mut out);
-    expect_same(rt, &(line, ended), &(line, status));
-    expect_same(rt, &str::from_utf8(out.bytes()), &Ok(text));
-}
-
-/// The same over a source `S` and a second file.
-pub(crate) fn compare_pair(
-    rt: &(impl AllocGlobal + Abort),
-    source: &str,
-    second: (&str, &str),
-    line: &str,
-    most: usize,
-    status: Status,
-    text: &str,
-) {
-    let files = [("S", source.as_bytes()), (second.0, second.1.as_bytes())];
-    compare_over(rt, &files, line, most, status, text);
-}
-
-/// The same over the source `S` alone.
-pub(crate) fn compare(
-    rt: &(impl AllocGlobal + Abort),
-    source: &[u8],
-    line: &str,
-    most: usize,
-    status: Status,
-    text: &str,
-) {
-    compare_over(rt, &[("S", source)], line, most, status, text);
-}
-
-#[test]
-fn lists_sources(rt: HostRuntime) {
-    let first = b"* FIRST\n ORG /4000\nA OCT 7\n";
-    let listing =
-        "0000001             * FIRST\n0000002              ORG /4000\n0000003 4000 000007 A OCT 7\n";
-    compare(&rt, first, "assemble S", 1000, Status::Done, listing);
-    compare(&rt, first, "assemble S", 1, Status::Done, listing);
-    compare(&rt, b"", "assemble S", 9, Status::Done, "");
-}
-
-/// A file with one byte more than a source may have.
-fn long_file(rt: &impl Abort, alloc: Global) -> Vec<u8> {
-    vec![in alloc; b'\n'; 4_194_305].expect(rt, "memory for a file")
-}
 
 /// Arguments that ask for no command.
 const BAD_WORDS: [&str; 30] = [
@@ -114,14 +43,13 @@ const BAD_WORDS: [&str; 30] = [
 ];
 
 #[test]
-fn refuses_arguments_and_files(rt: HostRuntime) {
+fn refuses_arguments(rt: HostRuntime) {
+    let files = [("S", "")];
     for line in &BAD_WORDS {
-        compare(&rt, b"", line, 9, Status::BadWords, "WORDS\n");
+        expect_over(&rt, &(), &files, (line, Status::BadWords, "WORDS\n"));
     }
-    compare(&rt, b"", "assemble Z", 9, Status::AbsentFile, "ABSENT Z\n");
-    let long = long_file(&rt, rt.alloc());
-    let text = "LONG S 4194304\n";
-    compare(&rt, &long, "assemble S", 9, Status::LongFile, text);
+    let answer = ("assemble Z", Status::AbsentFile, "ABSENT Z\n");
+    expect_over(&rt, &(), &files, answer);
 }
 
 #[test]
@@ -151,109 +79,101 @@ const STATUSES: [(Status, u8); 12] = [
 
 #[test]
 fn numbers_statuses(rt: HostRuntime) {
-    for &(status, number) in &STATUSES {
-        expect_same(&rt, &status.number(), &number);
+    for status in &STATUSES {
+        expect_same(&rt, &(status.0, status.0.number()), status);
     }
 }
 
-/// A source, a script, and what the script shows.
-type Played = (&'static str, &'static str, &'static str);
+/// A source of one word, at 4000.
+const FIRST: &str = "* FIRST\n ORG /4000\nA OCT 7\n";
 
-/// The rows of `plays_scripts`.
-const PLAYS_SCRIPTS: [Played; 7] = [
+/// Sources and scripts, and what is shown.
+const PLAYED: [Pair; 12] = [
+    // overflow and its test, the greatest product, two divisions, a long right shift, an indexed store, and a delay that a pulse
+    // ends
     (
         " ORG /4000\n OCT 204010\n OCT 224011\n OCT 444004\n ORG /4010\n OCT 377777\n OCT 1\n",
         "STEP 2\nSHOW REG\nSTEP 1\nSHOW REG\nSTEP 1\nSHOW REG\n",
+        Status::Done,
         "A 400000 Q 000000 X 0 V 1 P 4002 R\nA 400000 Q 000000 X 0 V 0 P 4004 R\nA 400000 Q 000000 X 0 V 0 P 4004 H\n",
     ),
     (
         " ORG /4000\n OCT 204010\n OCT 264010\n ORG /4010\n OCT 400000\n",
         "STEP 2\nSHOW REG\n",
+        Status::Done,
         "A 400000 Q 400000 X 0 V 1 P 4002 R\n",
     ),
     (
         " ORG /4000\n OCT 204010\n OCT 024011\n ORG /4010\n OCT 1\n OCT 2\n",
         "STEP 2\nSHOW REG\n",
+        Status::Done,
         "A 200000 Q 000000 X 0 V 0 P 4002 R\n",
     ),
     (
         " ORG /4000\n OCT 204010\n OCT 024011\n ORG /4010\n OCT 5\n OCT 0\n",
         "STEP 2\nSHOW REG\n",
+        Status::Done,
         "A 000005 Q 000000 X 0 V 1 P 4002 R\n",
     ),
     (
         " ORG /4000\n OCT 204010\n OCT 540001\n ORG /4010\n OCT 777777\n",
         "STEP 2\nSHOW REG\n",
+        Status::Done,
         "A 777777 Q 600000 X 0 V 0 P 4002 R\n",
     ),
     (
         " ORG /10\n OCT 7\n ORG /15\n OCT 3\n ORG /4000\n OCT 500005\n OCT 110010\n",
         "STEP 2\nSHOW CELL 0015\nSHOW CELL 0010\n",
+        Status::Done,
         "CELL 0015 000000\nCELL 0010 000007\n",
     ),
     (
         " ORG /4000\n OCT 704000\n",
         "PULSE\nSTEP 2\nSHOW REG\nPULSE\nSHOW REG\n",
+        Status::Done,
         "A 000000 Q 000000 X 0 V 0 P 4000 W\nA 000000 Q 000000 X 0 V 0 P 4000 R\n",
     ),
-];
-
-// Overflow and its test, the greatest product, two divisions, a long right shift, an indexed store, and a delay that a
-// pulse ends.
-#[test]
-fn plays_scripts(rt: HostRuntime) {
-    for &(source, script, text) in &PLAYS_SCRIPTS {
-        compare_pair(
-            &rt,
-            source,
-            ("P", script),
-            "run S P",
-            1000,
-            Status::Done,
-            text,
-        );
-        compare_pair(&rt, source, ("P", script), "run S P", 1, Status::Done, text);
-    }
-}
-
-// The input register takes the word that is set, and the output register gives what was put into it.
-#[test]
-fn plays_inputs_and_outputs(rt: HostRuntime) {
-    let source = " ORG /4000\n OCT 642001\n OCT 666001\n";
-    let script = "# in and out\n\nSET 2001 001750\nSTEP 2\nSHOW OUT 6001\n";
-    let text = "OUT 6001 001750\n";
-    compare_pair(&rt, source, ("P", script), "run S P", 9, Status::Done, text);
-}
-
-/// The rows of `says_the_first_fault_of_a_script`.
-const SAYS_THE_FIRST_FAULT_OF_A_SCRIPT: [(&str, &str); 4] = [
-    ("STEP\n", "SCRIPT LINE 1 ERROR 1 BadLine\n"),
-    ("SHOW REG\nSTART 4000\n", "SCRIPT LINE 2 ERROR 1 BadLine\n"),
-    ("#\n\nSET 2003 000001\n", "SCRIPT LINE 3 ERROR 2 NoPort\n"),
+    // the input register takes the word that is set, and the output register gives what was put into it
     (
+        " ORG /4000\n OCT 642001\n OCT 666001\n",
+        "# in and out\n\nSET 2001 001750\nSTEP 2\nSHOW OUT 6001\n",
+        Status::Done,
+        "OUT 6001 001750\n",
+    ),
+    // the first fault of a script
+    (
+        FIRST,
+        "STEP\n",
+        Status::BadText,
+        "SCRIPT LINE 1 ERROR 1 BadLine\n",
+    ),
+    (
+        FIRST,
+        "SHOW REG\nSTART 4000\n",
+        Status::BadText,
+        "SCRIPT LINE 2 ERROR 1 BadLine\n",
+    ),
+    (
+        FIRST,
+        "#\n\nSET 2003 000001\n",
+        Status::BadText,
+        "SCRIPT LINE 3 ERROR 2 NoPort\n",
+    ),
+    (
+        FIRST,
         "STEP 100000000\nSTEP 1\n",
+        Status::BadText,
         "SCRIPT LINE 2 ERROR 3 TooManySteps\n",
     ),
 ];
 
 #[test]
-fn says_the_first_fault_of_a_script(rt: HostRuntime) {
-    let source = "* FIRST\n ORG /4000\nA OCT 7\n";
-    for &(script, line) in &SAYS_THE_FIRST_FAULT_OF_A_SCRIPT {
-        compare_pair(
-            &rt,
-            source,
-            ("P", script),
-            "run S P",
-            9,
-            Status::BadText,
-            line,
-        );
-    }
+fn plays_scripts(rt: HostRuntime) {
+    expect_pairs(&rt, "run S P", "P", &PLAYED);
 }
 
 /// Command lines over a good source `S`, a bad one `B` and a long file `L`, each with the status and what is printed.
-const FILES_IN_THEIR_ORDER: [(&str, Status, &str); 7] = [
+const FILES_IN_THEIR_ORDER: [Answer; 7] = [
     ("run Z Y", Status::AbsentFile, "ABSENT Z\n"),
     ("run S Y", Status::AbsentFile, "ABSENT Y\n"),
     (
@@ -276,14 +196,15 @@ const FILES_IN_THEIR_ORDER: [(&str, Status, &str); 7] = [
     ),
 ];
 
-// A file that comes first decides: the script counts only where the source has no fault.
+// A file that comes first decides: the script counts only where the source has no fault. The long file has one byte more than a source
+// may have.
 #[test]
 fn takes_files_in_their_order(rt: HostRuntime) {
-    let long = long_file(&rt, rt.alloc());
-    let good = b" OCT 1\n".as_slice();
-    let bad = b" HLT 1\n".as_slice();
-    let files = [("S", good), ("B", bad), ("L", long.as_slice())];
-    for &(line, status, text) in &FILES_IN_THEIR_ORDER {
-        compare_over(&rt, &files, line, 9, status, text);
+    let long = repeated(&rt, rt.alloc(), "", "\n", 4_194_305);
+    let files = [("S", " OCT 1\n"), ("B", " HLT 1\n"), ("L", &long)];
+    for answer in &FILES_IN_THEIR_ORDER {
+        expect_over(&rt, &(), &files, *answer);
     }
+    let answer = ("assemble S", Status::LongFile, "LONG S 4194304\n");
+    expect_over(&rt, &(), &[("S", &long)], answer);
 }

@@ -1,10 +1,8 @@
 //! The command `budget`. The expected lines are typed by hand from docs/TIMES.md.
 
-use crate::answer_tests::compare_over;
+use crate::command_lines::{Answer, File, Triple, expect_answers, expect_triples};
 use ags_decks::{DECK, DECK_SPLIT_CERTIFICATE, DECK_TIMES};
 use ags_top::Status;
-use std::alloc::AllocGlobal;
-use std::process::Abort;
 
 /// A loop that takes a word, gives it and waits.
 const LOOP: &str = " ORG /4000\nL INP /2001\n OUT /6001\n DLY L\n";
@@ -28,17 +26,13 @@ const REFUSED: &str = "AGSCERT 1\nROW 4000 A ANY Q ANY X 0 V 0\nEND\n";
 /// A text of times that states nothing.
 const NO_TIMES: &str = "AGSTIME 1\nEND\n";
 
-/// A source, a certificate and a text of times, with the status and what is printed.
-type Judged = (
-    &'static str,
-    &'static str,
-    &'static str,
-    Status,
-    &'static str,
-);
+/// The deck's bounds, of which that of the second row is less by one.
+const DECK_LATE_TIMES: &str =
+    "AGSTIME 1\nTIME 1 492\nTIME 2 471\nTIME 3 432\nTIME 4 422\nTIME 5 316\nTIME 6 306\nTIME 7 286\nTIME 8 266\nTIME 9 226\nTIME 10 216\nTIME 11 110\nTIME 12 100\nTIME 13 80\nTIME 14 60\nTIME 15 50\nTIME 16 40\nTIME 17 30\nTIME 18 10\nTIME 19 406\nTIME 20 396\nTIME 21 386\nTIME 22 346\nTIME 23 336\nTIME 24 376\nTIME 25 366\nTIME 26 356\nTIME 27 346\nTIME 28 336\nTIME 29 346\nTIME 30 336\nTIME 31 326\nTIME 32 200\nTIME 33 190\nTIME 34 180\nTIME 35 140\nTIME 36 130\nTIME 37 170\nTIME 38 160\nTIME 39 150\nTIME 40 140\nTIME 41 130\nTIME 42 140\nTIME 43 130\nTIME 44 120\nEND\n";
 
-/// Bounds that are kept, and bounds of which the first that isn't is told.
-const JUDGED: [Judged; 5] = [
+/// A source, a certificate and a text of times: bounds that are kept, bounds of which the first that isn't is told, and texts that
+/// aren't read.
+const JUDGED: [Triple; 12] = [
     (
         LOOP,
         LOOP_CERTIFICATE,
@@ -75,77 +69,77 @@ const JUDGED: [Judged; 5] = [
         Status::No,
         "REFUSED 10 NotCovered ROW 1 WORD 642001 X 0 V 0 NEXT 4001\n",
     ),
-];
-
-/// Runs `budget S C T`, also byte by byte, and compares the status and what is printed.
-fn compare_budget(
-    rt: &(impl AllocGlobal + Abort),
-    files: (&str, &str, &str),
-    status: Status,
-    text: &str,
-) {
-    let (source, certificate, times) = files;
-    let files = [
-        ("S", source.as_bytes()),
-        ("C", certificate.as_bytes()),
-        ("T", times.as_bytes()),
-    ];
-    compare_over(rt, &files, "budget S C T", 1000, status, text);
-    compare_over(rt, &files, "budget S C T", 1, status, text);
-}
-
-#[test]
-fn judges_bounds(rt: HostRuntime) {
-    for &(source, certificate, times, status, text) in &JUDGED {
-        compare_budget(&rt, (source, certificate, times), status, text);
-    }
-}
-
-/// The deck's bounds, of which that of the second row is less by one.
-const DECK_LATE_TIMES: &str =
-    "AGSTIME 1\nTIME 1 492\nTIME 2 471\nTIME 3 432\nTIME 4 422\nTIME 5 316\nTIME 6 306\nTIME 7 286\nTIME 8 266\nTIME 9 226\nTIME 10 216\nTIME 11 110\nTIME 12 100\nTIME 13 80\nTIME 14 60\nTIME 15 50\nTIME 16 40\nTIME 17 30\nTIME 18 10\nTIME 19 406\nTIME 20 396\nTIME 21 386\nTIME 22 346\nTIME 23 336\nTIME 24 376\nTIME 25 366\nTIME 26 356\nTIME 27 346\nTIME 28 336\nTIME 29 346\nTIME 30 336\nTIME 31 326\nTIME 32 200\nTIME 33 190\nTIME 34 180\nTIME 35 140\nTIME 36 130\nTIME 37 170\nTIME 38 160\nTIME 39 150\nTIME 40 140\nTIME 41 130\nTIME 42 140\nTIME 43 130\nTIME 44 120\nEND\n";
-
-#[test]
-fn judges_the_bounds_of_the_deck(rt: HostRuntime) {
-    compare_budget(
-        &rt,
-        (DECK, DECK_SPLIT_CERTIFICATE, DECK_TIMES),
+    // the deck's bounds, and one of them less by one
+    (
+        DECK,
+        DECK_SPLIT_CERTIFICATE,
+        DECK_TIMES,
         Status::Done,
         "CERTIFIED ROWS 44 CASES 44\nWITHIN 492\n",
-    );
-    compare_budget(
-        &rt,
-        (DECK, DECK_SPLIT_CERTIFICATE, DECK_LATE_TIMES),
+    ),
+    (
+        DECK,
+        DECK_SPLIT_CERTIFICATE,
+        DECK_LATE_TIMES,
         Status::No,
         "CERTIFIED ROWS 44 CASES 44\nOVER ROW 2 WORD 540003 X 0 V 0 NEXT 4002 NEEDS 472 BOUND 471\n",
-    );
-}
-
-/// Texts of times for three rows, each with the line of its first fault.
-const FAULTY: [(&str, &str); 5] = [
-    ("AGSTIME 1\nTIME 1 50\n", "TIMES LINE 3 ERROR 1 BadLine\n"),
-    ("AGSTIME 2\nEND\n", "TIMES LINE 1 ERROR 2 Version\n"),
+    ),
+    // texts of times for three rows, each with the line of its first fault
     (
+        LOOP,
+        LOOP_CERTIFICATE,
+        "AGSTIME 1\nTIME 1 50\n",
+        Status::BadText,
+        "TIMES LINE 3 ERROR 1 BadLine\n",
+    ),
+    (
+        LOOP,
+        LOOP_CERTIFICATE,
+        "AGSTIME 2\nEND\n",
+        Status::BadText,
+        "TIMES LINE 1 ERROR 2 Version\n",
+    ),
+    (
+        LOOP,
+        LOOP_CERTIFICATE,
         "AGSTIME 1\nTIME 2 50\nTIME 02 0\nEND\n",
+        Status::BadText,
         "TIMES LINE 3 ERROR 3 Twice\n",
     ),
-    ("AGSTIME 1\nTIME 4 0\nEND\n", "TIMES LINE 2 ERROR 4 NoRow\n"),
     (
+        LOOP,
+        LOOP_CERTIFICATE,
+        "AGSTIME 1\nTIME 4 0\nEND\n",
+        Status::BadText,
+        "TIMES LINE 2 ERROR 4 NoRow\n",
+    ),
+    (
+        LOOP,
+        LOOP_CERTIFICATE,
         "AGSTIME 1\nTIME 3 20001\nEND\n",
+        Status::BadText,
         "TIMES LINE 2 ERROR 5 TimeRange\n",
     ),
 ];
 
 #[test]
-fn refuses_texts_of_times(rt: HostRuntime) {
-    for &(times, text) in &FAULTY {
-        compare_budget(&rt, (LOOP, LOOP_CERTIFICATE, times), Status::BadText, text);
-    }
+fn judges_bounds(rt: HostRuntime) {
+    expect_triples(&rt, "budget S C T", ("C", "T"), &JUDGED);
 }
 
-// The machine file is read first, then the source, the certificate and the text of times.
-/// The rows of `reads_the_files_of_a_budget_in_order`.
-const READS_THE_FILES_OF_A_BUDGET_IN_ORDER: [(&str, Status, &str); 7] = [
+/// A source S and one with a fault, P; its certificate C, and one that its verdict refuses, R; its bounds T, and a text that is no
+/// certificate and no bounds, B.
+const FILES: [File; 6] = [
+    ("S", LOOP),
+    ("C", LOOP_CERTIFICATE),
+    ("R", REFUSED),
+    ("T", LOOP_TIMES),
+    ("B", "AGSCERT 3\n"),
+    ("P", "STEP\n"),
+];
+
+/// The machine file is read first, then the source, the certificate and the text of times.
+const FILES_IN_THEIR_ORDER: [Answer; 7] = [
     ("budget S C Y", Status::AbsentFile, "ABSENT Y\n"),
     ("budget S Z Y", Status::AbsentFile, "ABSENT Z\n"),
     (
@@ -178,15 +172,5 @@ const READS_THE_FILES_OF_A_BUDGET_IN_ORDER: [(&str, Status, &str); 7] = [
 
 #[test]
 fn reads_the_files_of_a_budget_in_order(rt: HostRuntime) {
-    let files = [
-        ("S", LOOP.as_bytes()),
-        ("C", LOOP_CERTIFICATE.as_bytes()),
-        ("R", REFUSED.as_bytes()),
-        ("T", LOOP_TIMES.as_bytes()),
-        ("B", b"AGSCERT 3\n".as_slice()),
-        ("P", b"STEP\n".as_slice()),
-    ];
-    for &(line, status, text) in &READS_THE_FILES_OF_A_BUDGET_IN_ORDER {
-        compare_over(&rt, &files, line, 99, status, text);
-    }
+    expect_answers(&rt, &FILES, &FILES_IN_THEIR_ORDER);
 }

@@ -1,6 +1,7 @@
-//! A source's listing compared, its tape and its cross reference. The expected lines are typed by hand from docs/SOURCE.md.
+//! A source's listing compared, and what a machine file changes of listings, tapes and cross references. The expected lines are typed
+//! by hand from docs/SOURCE.md.
 
-use crate::answer_tests::{compare, compare_over, compare_pair};
+use crate::command_lines::{Answer, File, Pair, expect_answers, expect_pairs};
 use ags_top::Status;
 
 /// A source of one word, at 4000.
@@ -10,8 +11,8 @@ const FIRST: &str = "* FIRST\n ORG /4000\nA OCT 7\n";
 const LISTING: &str =
     "0000001             * FIRST\n0000002              ORG /4000\n0000003 4000 000007 A OCT 7\n";
 
-/// The rows of `compares_listings`.
-const COMPARES_LISTINGS: [(&str, &str, Status, &str); 9] = [
+/// Sources and their listings compared.
+const COMPARED: [Pair; 17] = [
     (FIRST, LISTING, Status::Done, "EQUAL\n"),
     (FIRST, "", Status::No, "DIFFERS 4000 000007 ------\n"),
     ("", LISTING, Status::No, "DIFFERS 4000 ------ 000007\n"),
@@ -40,63 +41,67 @@ const COMPARES_LISTINGS: [(&str, &str, Status, &str); 9] = [
     (FIRST, "9999999 4000 000007 ", Status::Done, "EQUAL\n"),
     // a word 000000 is one
     (" OCT 0\n", "", Status::No, "DIFFERS 0000 000000 ------\n"),
-];
-
-#[test]
-fn compares_listings(rt: HostRuntime) {
-    for &(source, listing, status, text) in &COMPARES_LISTINGS {
-        compare_pair(&rt, source, ("L", listing), "compare S L", 9, status, text);
-    }
-}
-
-/// The rows of `says_the_first_fault_of_a_listing`.
-const SAYS_THE_FIRST_FAULT_OF_A_LISTING: [(&str, &str); 8] = [
-    ("0000001 4000 000007", "LISTING LINE 1 ERROR 1 BadLine\n"),
-    ("\n", "LISTING LINE 1 ERROR 1 BadLine\n"),
+    // the first fault of a listing
     (
+        FIRST,
+        "0000001 4000 000007",
+        Status::BadText,
+        "LISTING LINE 1 ERROR 1 BadLine\n",
+    ),
+    (
+        FIRST,
+        "\n",
+        Status::BadText,
+        "LISTING LINE 1 ERROR 1 BadLine\n",
+    ),
+    (
+        FIRST,
         "0000001             X\n000000A 4000 000007 X\n",
+        Status::BadText,
         "LISTING LINE 2 ERROR 1 BadLine\n",
     ),
     (
+        FIRST,
         "0000001 8000 000007 X\n",
+        Status::BadText,
         "LISTING LINE 1 ERROR 1 BadLine\n",
     ),
     (
+        FIRST,
         "0000001 4000        X\n",
+        Status::BadText,
         "LISTING LINE 1 ERROR 1 BadLine\n",
     ),
     (
+        FIRST,
         "0000001\t4000 000007 X\n",
+        Status::BadText,
         "LISTING LINE 1 ERROR 1 BadLine\n",
     ),
     (
+        FIRST,
         "0000001 4000\r000007 X\n",
+        Status::BadText,
         "LISTING LINE 1 ERROR 1 BadLine\n",
     ),
     (
+        FIRST,
         "0000001 4000 000007 X\n0000002 4000 000007 X\n",
+        Status::BadText,
         "LISTING LINE 2 ERROR 2 PlaceTwice 4000\n",
     ),
 ];
 
 #[test]
-fn says_the_first_fault_of_a_listing(rt: HostRuntime) {
-    for &(listing, line) in &SAYS_THE_FIRST_FAULT_OF_A_LISTING {
-        compare_pair(
-            &rt,
-            FIRST,
-            ("L", listing),
-            "compare S L",
-            9,
-            Status::BadText,
-            line,
-        );
-    }
+fn compares_listings(rt: HostRuntime) {
+    expect_pairs(&rt, "compare S L", "L", &COMPARED);
 }
 
-// The source comes before the listing: its fault counts although the listing is absent.
-/// The rows of `takes_the_source_before_the_listing`.
-const TAKES_THE_SOURCE_BEFORE_THE_LISTING: [(&str, Status, &str); 7] = [
+/// A bad source S and a good one T.
+const SOURCES: [File; 2] = [("S", " _CLA 1\n"), ("T", FIRST)];
+
+/// The source comes before the listing: its fault counts although the listing is absent.
+const SOURCE_BEFORE_LISTING: [Answer; 7] = [
     ("compare Z S", Status::AbsentFile, "ABSENT Z\n"),
     ("compare T Z", Status::AbsentFile, "ABSENT Z\n"),
     (
@@ -116,53 +121,14 @@ const TAKES_THE_SOURCE_BEFORE_THE_LISTING: [(&str, Status, &str); 7] = [
 
 #[test]
 fn takes_the_source_before_the_listing(rt: HostRuntime) {
-    let files = [("S", b" _CLA 1\n".as_slice()), ("T", FIRST.as_bytes())];
-    for &(line, status, text) in &TAKES_THE_SOURCE_BEFORE_THE_LISTING {
-        compare_over(&rt, &files, line, 9, status, text);
-    }
+    expect_answers(&rt, &SOURCES, &SOURCE_BEFORE_LISTING);
 }
 
-/// The rows of `writes_tapes`.
-const WRITES_TAPES: [(&str, &str); 3] = [
-    (FIRST, "4000 000007\n"),
-    ("", ""),
-    // ascending, whatever the order of the cards, and a word 000000 too
-    (
-        " ORG /30\n OCT 2\n ORG /20\n OCT 0\n DEC -1\n",
-        "0020 000000\n0021 777777\n0030 000002\n",
-    ),
-];
+/// A source S with its listing L, an empty machine file M, and one with a fault.
+const FILES: [File; 4] = [("S", FIRST), ("L", LISTING), ("M", ""), ("N", "= =\n")];
 
-#[test]
-fn writes_tapes(rt: HostRuntime) {
-    for &(source, text) in &WRITES_TAPES {
-        compare(&rt, source.as_bytes(), "tape S", 1000, Status::Done, text);
-        compare(&rt, source.as_bytes(), "tape S", 1, Status::Done, text);
-    }
-}
-
-/// The rows of `writes_cross_references`.
-const WRITES_CROSS_REFERENCES: [(&str, &str); 3] = [
-    (FIRST, "A         2048 0000003\n"),
-    ("", ""),
-    // by name, each card once, and no name of a remark
-    (
-        "ZZ EQU -1\nAB CLA ZZ+ZZ+2 ZZ\nA TRA AB AB\n* AB\n ADD ZZ+1\n",
-        "A            1 0000003\nAB           0 0000002 0000003\nZZ          -1 0000001 0000002 0000005\n",
-    ),
-];
-
-#[test]
-fn writes_cross_references(rt: HostRuntime) {
-    for &(source, text) in &WRITES_CROSS_REFERENCES {
-        compare(&rt, source.as_bytes(), "xref S", 1000, Status::Done, text);
-        compare(&rt, source.as_bytes(), "xref S", 1, Status::Done, text);
-    }
-}
-
-// The words are those of the machine's codes, which a comparison meets and a tape has.
-/// The rows of `takes_a_machine_file`.
-const TAKES_A_MACHINE_FILE: [(&str, Status, &str); 5] = [
+/// The words are those of the machine's codes, which a comparison meets and a tape has.
+const WITH_A_MACHINE_FILE: [Answer; 5] = [
     ("compare S L M", Status::Done, "EQUAL\n"),
     ("tape S M", Status::Done, "4000 000007\n"),
     ("xref S M", Status::Done, "A         2048 0000003\n"),
@@ -176,13 +142,5 @@ const TAKES_A_MACHINE_FILE: [(&str, Status, &str); 5] = [
 
 #[test]
 fn takes_a_machine_file(rt: HostRuntime) {
-    let files = [
-        ("S", FIRST.as_bytes()),
-        ("L", LISTING.as_bytes()),
-        ("M", b"".as_slice()),
-        ("N", b"= =\n".as_slice()),
-    ];
-    for &(line, status, text) in &TAKES_A_MACHINE_FILE {
-        compare_over(&rt, &files, line, 9, status, text);
-    }
+    expect_answers(&rt, &FILES, &WITH_A_MACHINE_FILE);
 }

@@ -1,8 +1,9 @@
 //! Command lines with a machine file. The expected lines are typed by hand from docs/MACHINE.md and the README.
 
-use crate::answer_tests::{compare_over, compare_pair};
+use crate::command_lines::{
+    Answer, Pair, Triple, expect_over, expect_pairs, expect_triples, repeated,
+};
 use ags_top::Status;
-use std::process::Abort;
 
 /// The standard codes, but that CLA and STO have each other's.
 const EXCHANGED: &str =
@@ -19,46 +20,49 @@ const FIRST: &str = "* FIRST\n ORG /4000\nA OCT 7\n";
 const LISTING: &str =
     "0000001             * FIRST\n0000002              ORG /4000\n0000003 4000 000007 A OCT 7\n";
 
-/// The rows of `says_the_first_fault_of_a_machine_file`.
-const SAYS_THE_FIRST_FAULT_OF_A_MACHINE_FILE: [(&str, &str); 5] = [
-    ("= =\n", "MACHINE ERROR 1 NotToml\n"),
+/// A source and a machine file with a fault.
+const FAULTY: [Pair; 5] = [
     (
+        FIRST,
+        "= =\n",
+        Status::BadMachine,
+        "MACHINE ERROR 1 NotToml\n",
+    ),
+    (
+        FIRST,
         "[codes]\nCLA = 0o20\n",
+        Status::BadMachine,
         "MACHINE ERROR 2 MissingKey codes.ABS\n",
     ),
-    ("deda_in = 4096\n", "MACHINE ERROR 3 BadValue deda_in\n"),
-    (SHARED, "MACHINE ERROR 4 SameCode ADD CLA\n"),
     (
+        FIRST,
+        "deda_in = 4096\n",
+        Status::BadMachine,
+        "MACHINE ERROR 3 BadValue deda_in\n",
+    ),
+    (
+        FIRST,
+        SHARED,
+        Status::BadMachine,
+        "MACHINE ERROR 4 SameCode ADD CLA\n",
+    ),
+    (
+        FIRST,
         "input = [{ address = 1 }, { address = 1 }]\n",
+        Status::BadMachine,
         "MACHINE ERROR 5 SamePort 0001\n",
     ),
 ];
 
-/// Compares the fault of a machine file, which a command line names.
-fn compare_refused(rt: &(impl AllocGlobal + Abort), machine: &str, asked: &str, line: &str) {
-    compare_pair(
-        rt,
-        FIRST,
-        ("M", machine),
-        asked,
-        9,
-        Status::BadMachine,
-        line,
-    );
-}
-
 #[test]
 fn says_the_first_fault_of_a_machine_file(rt: HostRuntime) {
-    for &(machine, line) in &SAYS_THE_FIRST_FAULT_OF_A_MACHINE_FILE {
-        compare_refused(&rt, machine, "assemble S M", line);
-        compare_refused(&rt, machine, "run S S M", line);
-        compare_refused(&rt, machine, "assemble Z M", line);
-    }
+    expect_pairs(&rt, "assemble S M", "M", &FAULTY);
+    expect_pairs(&rt, "run S S M", "M", &FAULTY);
+    expect_pairs(&rt, "assemble Z M", "M", &FAULTY);
 }
 
-// The machine file comes first: it counts although the source is absent or has a fault.
-/// The rows of `takes_the_machine_file_first`.
-const TAKES_THE_MACHINE_FILE_FIRST: [(&str, Status, &str); 7] = [
+/// The machine file comes first: it counts although the source is absent or has a fault.
+const FILES_IN_THEIR_ORDER: [Answer; 7] = [
     ("assemble S M", Status::Done, LISTING),
     ("assemble Z Y", Status::AbsentFile, "ABSENT Y\n"),
     ("assemble Z M", Status::AbsentFile, "ABSENT Z\n"),
@@ -73,33 +77,14 @@ const TAKES_THE_MACHINE_FILE_FIRST: [(&str, Status, &str); 7] = [
     ),
 ];
 
+// The long file has one byte more than a machine file may have.
 #[test]
 fn takes_the_machine_file_first(rt: HostRuntime) {
-    let long = vec![in rt.alloc(); b'\n'; 65_537].expect(&rt, "memory for a file");
-    let files = [
-        ("S", FIRST.as_bytes()),
-        ("M", b"".as_slice()),
-        ("L", long.as_slice()),
-    ];
-    for &(line, status, text) in &TAKES_THE_MACHINE_FILE_FIRST {
-        compare_over(&rt, &files, line, 9, status, text);
+    let long = repeated(&rt, rt.alloc(), "", "\n", 65_537);
+    let files = [("S", FIRST), ("M", ""), ("L", &long)];
+    for answer in &FILES_IN_THEIR_ORDER {
+        expect_over(&rt, &(), &files, *answer);
     }
-}
-
-// The words of a listing are those of the machine's codes.
-#[test]
-fn lists_words_of_other_machines(rt: HostRuntime) {
-    let listing = "0000001 0000 100020  CLA /20\n";
-    let machine = ("M", EXCHANGED);
-    compare_pair(
-        &rt,
-        " CLA /20\n",
-        machine,
-        "assemble S M",
-        9,
-        Status::Done,
-        listing,
-    );
 }
 
 /// A source that runs the word 104010.
@@ -108,48 +93,41 @@ const LOADS: &str = " ORG /4000\n OCT 104010\n ORG /4010\n OCT 1234\n";
 /// A source that takes the word of one register twice.
 const TAKES_TWICE: &str = " ORG /4000\n OCT 640017\n OCT 640017\n";
 
-// Other codes, and an input register that holds its word once.
-/// A source, a script, a machine file, and what is shown.
-const PLAYS_ON_OTHER_MACHINES: [(&str, &str, &str, &str); 3] = [
+/// A source and a machine file: the words of a listing are those of the machine's codes.
+const LISTED: [Pair; 1] = [(
+    " CLA /20\n",
+    EXCHANGED,
+    Status::Done,
+    "0000001 0000 100020  CLA /20\n",
+)];
+
+/// A source, a script and a machine file: other codes, and an input register that holds its word once.
+const PLAYED: [Triple; 3] = [
     (
         LOADS,
         "STEP 1\nSHOW REG\n",
         EXCHANGED,
+        Status::Done,
         "A 001234 Q 000000 X 0 V 0 P 4001 R\n",
     ),
     (
         LOADS,
         "STEP 1\nSHOW REG\n",
         "",
+        Status::Done,
         "A 000000 Q 000000 X 0 V 0 P 4001 R\n",
     ),
     (
         TAKES_TWICE,
         "SET 0017 000005\nSTEP 1\nSHOW REG\nSTEP 1\nSHOW REG\n",
         "input = [{ address = 0o17, once = true }]\n",
+        Status::Done,
         "A 000005 Q 000000 X 0 V 0 P 4001 R\nA 000000 Q 000000 X 0 V 0 P 4002 R\n",
     ),
 ];
 
-/// Plays a script over a source on the machine of a file, and compares what is shown.
-fn compare_played(
-    rt: &(impl AllocGlobal + Abort),
-    source: &str,
-    script: &str,
-    machine: &str,
-    text: &str,
-) {
-    let files = [
-        ("S", source.as_bytes()),
-        ("P", script.as_bytes()),
-        ("M", machine.as_bytes()),
-    ];
-    compare_over(rt, &files, "run S P M", 9, Status::Done, text);
-}
-
 #[test]
-fn plays_on_other_machines(rt: HostRuntime) {
-    for &(source, script, machine, text) in &PLAYS_ON_OTHER_MACHINES {
-        compare_played(&rt, source, script, machine, text);
-    }
+fn lists_and_plays_on_other_machines(rt: HostRuntime) {
+    expect_pairs(&rt, "assemble S M", "M", &LISTED);
+    expect_triples(&rt, "run S P M", ("P", "M"), &PLAYED);
 }

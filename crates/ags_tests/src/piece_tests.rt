@@ -2,12 +2,12 @@
 
 ghost use Rattle.ags_outside.specs.ToldFile.{Untold};
 
-use crate::command_lines::{arguments_of, expect_same};
+use crate::command_lines::{expect_end, shelf_of};
 use ags_asm::{AssembleError, Assembled, Building, Placed, SOURCE_LIMIT, assemble};
 use ags_decks::{DECK, DECK_LISTING};
 use ags_isa::Codes;
-use ags_outside::{Pull, Shelf, SteadyShelf, SteadySink, Taker};
-use ags_top::{Status, ags_main};
+use ags_outside::{Pull, Shelf, SteadyShelf, Taker};
+use ags_top::Status;
 use std::alloc::Global;
 use std::process::Abort;
 
@@ -67,18 +67,17 @@ fn expect_same_in_two(rt: &impl Abort, alloc: Global, source: &[u8]) {
     }
 }
 
-#[test]
-fn the_deck_is_assembled_alike_wherever_it_is_cut(rt: HostRuntime) {
-    expect_same_in_two(&rt, rt.alloc(), DECK.as_bytes());
-}
+/// The deck, and sources with a fault.
+const SOURCES: [&str; 3] = [
+    DECK,
+    " CLA Y\r\n ORG 0\n OCT 1\nY EQU 1",
+    " OCT 1\n HLT 1\n",
+];
 
 #[test]
-fn faults_are_told_alike_wherever_a_source_is_cut(rt: HostRuntime) {
-    for source in [
-        b" CLA Y\r\n ORG 0\n OCT 1\nY EQU 1".as_slice(),
-        b" OCT 1\n HLT 1\n",
-    ] {
-        expect_same_in_two(&rt, rt.alloc(), source);
+fn sources_are_told_alike_wherever_they_are_cut(rt: HostRuntime) {
+    for source in SOURCES {
+        expect_same_in_two(&rt, rt.alloc(), source.as_bytes());
     }
 }
 
@@ -102,13 +101,8 @@ impl Shelf for ByteShelf {
 
 #[test]
 fn the_deck_is_listed_byte_by_byte(rt: HostRuntime) {
-    let alloc = rt.alloc();
-    let mut held = SteadyShelf::new(alloc);
-    assert!(&rt; held.add("S", DECK.as_bytes()).is_ok());
+    let held = shelf_of(&rt, rt.alloc(), &[("S", DECK)]);
     let mut shelf = ByteShelf { held };
-    let mut out = SteadySink::new(alloc, 90);
-    let arguments = arguments_of(&rt, alloc, "assemble S");
-    let ended = ags_main(alloc, &arguments, &mut shelf, &mut out);
-    expect_same(&rt, &ended, &Status::Done);
-    expect_same(&rt, &str::from_utf8(out.bytes()), &Ok(DECK_LISTING));
+    let answer = ("assemble S", Status::Done, DECK_LISTING);
+    expect_end(&rt, &(), &mut shelf, 90, answer);
 }

@@ -1,9 +1,7 @@
 //! The command `scales`. The expected lines are typed by hand from docs/SCALES.md.
 
-use crate::answer_tests::compare_over;
+use crate::command_lines::{Answer, File, Triple, expect_answers, expect_triples};
 use ags_top::Status;
-use std::alloc::AllocGlobal;
-use std::process::Abort;
 
 /// A loop that takes a word at scale 3, shifts it to scale 6 and adds 1 at that scale.
 const SUM: &str =
@@ -16,17 +14,9 @@ const SUM_CERTIFICATE: &str =
 /// A certificate that is refused by its verdict: no row stands where the loop goes from its first order.
 const REFUSED: &str = "AGSCERT 1\nROW 4000 A ANY Q ANY X 0 V 0\nEND\n";
 
-/// A source, a certificate and a text of scales, with the status and what is printed.
-type Judged = (
-    &'static str,
-    &'static str,
-    &'static str,
-    Status,
-    &'static str,
-);
-
-/// Scales that agree, and scales of which what fails first is told.
-const JUDGED: [Judged; 5] = [
+/// A source, a certificate and a text of scales: scales that agree, scales of which what fails first is told, and texts that aren't
+/// read.
+const JUDGED: [Triple; 11] = [
     (
         SUM,
         SUM_CERTIFICATE,
@@ -63,82 +53,75 @@ const JUDGED: [Judged; 5] = [
         Status::No,
         "REFUSED 10 NotCovered ROW 1 WORD 642001 X 0 V 0 NEXT 4001\n",
     ),
-];
-
-/// Runs `scales S C K`, also byte by byte, and compares the status and what is printed.
-fn compare_scales(
-    rt: &(impl AllocGlobal + Abort),
-    files: (&str, &str, &str),
-    status: Status,
-    text: &str,
-) {
-    let (source, certificate, scales) = files;
-    let files = [
-        ("S", source.as_bytes()),
-        ("C", certificate.as_bytes()),
-        ("K", scales.as_bytes()),
-    ];
-    compare_over(rt, &files, "scales S C K", 1000, status, text);
-    compare_over(rt, &files, "scales S C K", 1, status, text);
-}
-
-#[test]
-fn judges_scales(rt: HostRuntime) {
-    for &(source, certificate, scales, status, text) in &JUDGED {
-        compare_scales(&rt, (source, certificate, scales), status, text);
-    }
-}
-
-/// Texts of scales for five rows, each with the line of its first fault.
-const FAULTY: [(&str, &str); 6] = [
+    // texts of scales for five rows, each with the line of its first fault
     (
+        SUM,
+        SUM_CERTIFICATE,
         "AGSSCALE 1\nCELL 0020 6\n",
+        Status::BadText,
         "SCALES LINE 3 ERROR 1 BadLine\n",
     ),
     (
+        SUM,
+        SUM_CERTIFICATE,
         "AGSSCALE 1\nIN 2003 1\nEND\n",
+        Status::BadText,
         "SCALES LINE 2 ERROR 1 BadLine\n",
     ),
     (
+        SUM,
+        SUM_CERTIFICATE,
         "AGSSCALE 1\nCELL 0020 128\nEND\n",
+        Status::BadText,
         "SCALES LINE 2 ERROR 1 BadLine\n",
     ),
-    ("AGSSCALE 2\nEND\n", "SCALES LINE 1 ERROR 2 Version\n"),
     (
+        SUM,
+        SUM_CERTIFICATE,
+        "AGSSCALE 2\nEND\n",
+        Status::BadText,
+        "SCALES LINE 1 ERROR 2 Version\n",
+    ),
+    (
+        SUM,
+        SUM_CERTIFICATE,
         "AGSSCALE 1\nROW 2 ANY ANY\nROW 02 RAW 1\nEND\n",
+        Status::BadText,
         "SCALES LINE 3 ERROR 3 Twice\n",
     ),
     (
+        SUM,
+        SUM_CERTIFICATE,
         "AGSSCALE 1\nROW 6 ANY ANY\nEND\n",
+        Status::BadText,
         "SCALES LINE 2 ERROR 4 NoRow\n",
     ),
 ];
 
 #[test]
-fn refuses_texts_of_scales(rt: HostRuntime) {
-    for &(scales, text) in &FAULTY {
-        compare_scales(&rt, (SUM, SUM_CERTIFICATE, scales), Status::BadText, text);
-    }
+fn judges_scales(rt: HostRuntime) {
+    expect_triples(&rt, "scales S C K", ("C", "K"), &JUDGED);
 }
 
-// The source is read first, then the certificate and the text of scales.
+/// The source and its certificate.
+const FILES: [File; 2] = [("S", SUM), ("C", SUM_CERTIFICATE)];
+
+/// The source is read first, then the certificate and the text of scales.
+const FILES_IN_THEIR_ORDER: [Answer; 7] = [
+    ("scales S C Y", Status::AbsentFile, "ABSENT Y\n"),
+    ("scales S Z Y", Status::AbsentFile, "ABSENT Z\n"),
+    ("scales X Z Y", Status::AbsentFile, "ABSENT X\n"),
+    ("scales X Z Y M", Status::AbsentFile, "ABSENT M\n"),
+    (
+        "scales S S Y",
+        Status::BadCert,
+        "CERTIFICATE LINE 1 ERROR 1 BadLine\n",
+    ),
+    ("scales S C", Status::BadWords, "WORDS\n"),
+    ("scales S C Y M X", Status::BadWords, "WORDS\n"),
+];
+
 #[test]
 fn reads_the_files_of_scales_in_order(rt: HostRuntime) {
-    let files = [("S", SUM.as_bytes()), ("C", SUM_CERTIFICATE.as_bytes())];
-    let rows = [
-        ("scales S C Y", Status::AbsentFile, "ABSENT Y\n"),
-        ("scales S Z Y", Status::AbsentFile, "ABSENT Z\n"),
-        ("scales X Z Y", Status::AbsentFile, "ABSENT X\n"),
-        ("scales X Z Y M", Status::AbsentFile, "ABSENT M\n"),
-        (
-            "scales S S Y",
-            Status::BadCert,
-            "CERTIFICATE LINE 1 ERROR 1 BadLine\n",
-        ),
-        ("scales S C", Status::BadWords, "WORDS\n"),
-        ("scales S C Y M X", Status::BadWords, "WORDS\n"),
-    ];
-    for &(line, status, text) in &rows {
-        compare_over(&rt, &files, line, 1000, status, text);
-    }
+    expect_answers(&rt, &FILES, &FILES_IN_THEIR_ORDER);
 }

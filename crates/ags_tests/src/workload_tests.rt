@@ -2,8 +2,7 @@
 
 ghost use Rattle.std.specs.Prelude.{◌≡◌, ◌<◌, ◌≤◌};
 
-use crate::answer_tests::compare_over;
-use crate::command_lines::{arguments_of, expect_same};
+use crate::command_lines::{Answer, arguments_of, expect_answers, expect_same};
 use ags_asm::{Assembled, assemble};
 use ags_cert::{Cert, read};
 use ags_check::{Verdict, check};
@@ -18,52 +17,53 @@ use std::process::Abort;
 use std::sync::ledger::{Blank, Ledger};
 
 /// Command lines with what they print.
-const WORKLOADS: [(&str, &str); 4] = [
+const WORKLOADS: [Answer; 4] = [
     (
         "workload 1",
+        Status::Done,
         "WORKLOAD 1 CARDS 13 WORDS 9 ROWS 9 CASES 9 CERTIFIED\n",
     ),
     (
         "workload 9",
+        Status::Done,
         "WORKLOAD 9 CARDS 29 WORDS 25 ROWS 73 CASES 73 CERTIFIED\n",
     ),
     (
         "workload 10",
+        Status::Done,
         "WORKLOAD 10 CARDS 31 WORDS 27 ROWS 81 CASES 81 CERTIFIED\n",
     ),
     (
         "workload 400",
+        Status::Done,
         "WORKLOAD 400 CARDS 811 WORDS 807 ROWS 3201 CASES 3201 CERTIFIED\n",
     ),
 ];
 
 #[test]
 fn workloads_are_certified(rt: HostRuntime) {
-    for &(line, text) in &WORKLOADS {
-        compare_over(&rt, &[], line, 1000, Status::Done, text);
-    }
+    expect_answers(&rt, &[], &WORKLOADS);
 }
 
 /// Arguments that are no size, as a shell can hand them over.
 const NO_SIZES: [&str; 4] = ["", " 1", "1 ", "1\n"];
 
-/// Expects that the workload's verb and this argument are none of the forms.
-fn expect_no_size(rt: &(impl AllocGlobal + Abort), size: &str) {
-    let alloc = rt.alloc();
-    let mut arguments = arguments_of(rt, alloc, "workload");
-    let own = String::from_str(alloc, size).expect(rt, "memory for an argument");
-    assert!(rt; arguments.push(own).is_ok());
-    let mut shelf = SteadyShelf::new(alloc);
-    let mut out = SteadySink::new(alloc, 9);
-    let ended = ags_main(alloc, &arguments, &mut shelf, &mut out);
-    expect_same(rt, &(size, ended), &(size, Status::BadWords));
-    expect_same(rt, &str::from_utf8(out.bytes()), &Ok("WORDS\n"));
-}
-
+// The workload's verb with one of these arguments is none of the forms.
 #[test]
 fn a_size_is_digits_alone(rt: HostRuntime) {
-    for size in &NO_SIZES {
-        expect_no_size(&rt, size);
+    let alloc = rt.alloc();
+    for size in NO_SIZES {
+        let mut arguments = arguments_of(&rt, alloc, "workload");
+        let own = String::from_str(alloc, size).expect(&rt, "memory for an argument");
+        assert!(&rt; arguments.push(own).is_ok());
+        let mut shelf = SteadyShelf::new(alloc);
+        let mut out = SteadySink::new(alloc, 9);
+        let ended = ags_main(alloc, &arguments, &mut shelf, &mut out);
+        expect_same(
+            &rt,
+            &(size, ended, str::from_utf8(out.bytes())),
+            &(size, Status::BadWords, Ok("WORDS\n")),
+        );
     }
 }
 
@@ -133,11 +133,7 @@ fn expect_accepted(rt: &(impl AllocGlobal + Abort), size: u32, rows: u32, cases:
 }
 
 #[test]
-fn the_least_is_accepted(rt: HostRuntime) {
+fn the_least_and_the_greatest_are_accepted(rt: HostRuntime) {
     expect_accepted(&rt, 1, 9, 9);
-}
-
-#[test]
-fn the_greatest_is_accepted(rt: HostRuntime) {
     expect_accepted(&rt, 400, 3201, 3201);
 }
