@@ -1,133 +1,147 @@
 //! Files of 65,536 bytes of one value, each value as each kind of file. The expected lines are typed by hand from docs/SOURCE.md,
 //! docs/SCRIPT.md, docs/CERTIFICATE.md and docs/MACHINE.md.
 
-use crate::command_lines::arguments_of;
+use crate::command_lines::{Answer, arguments_of, expect_over, expect_same};
 use ags_outside::{MemoryShelf, MemorySink};
 use ags_top::{Status, ags_main};
 use std::alloc::Global;
 use std::process::Abort;
 
-/// How many bytes a file has: as many as a machine file may.
-const BYTES: u32 = 65_536;
-
 /// How many bytes the listing of so many empty cards has: 21 a line.
 const EMPTY_LISTING: usize = 1_376_256;
 
-/// The source, the certificate and the listing that stand beside the file.
-const BESIDE: [(&str, &[u8]); 2] = [("S", b" ORG /4000\n DLY /4000\n"), ("E", b"")];
-
-/// A file of one byte.
-fn file_of(rt: &impl Abort, alloc: Global, byte: u8) -> Vec<u8> {
-    let piece = [byte; 512];
-    let mut bytes = Vec::new(alloc);
-    for _ in 0..BYTES / 512 {
-        assert!(rt; bytes.extend_from_slice(&piece).is_ok());
-    }
-    bytes
-}
-
-/// The files beside it, and the file F of one byte.
+/// The source S, which is that of the certificate and of the listing, the empty source E, and the file F of one byte, which has as many
+/// as a machine file may.
 fn shelf_with(rt: &impl Abort, alloc: Global, byte: u8) -> MemoryShelf {
+    let file = vec![in alloc; byte; 65_536].expect(rt, "memory for a file");
     let mut shelf = MemoryShelf::new(alloc);
-    for &(name, bytes) in &BESIDE {
-        assert!(rt; shelf.add(name, bytes).is_ok());
-    }
-    let file = file_of(rt, alloc, byte);
-    assert!(rt; shelf.add("F", file.as_slice()).is_ok());
+    assert!(rt; shelf.add("S", b" ORG /4000\n DLY /4000\n").is_ok());
+    assert!(rt; shelf.add("E", b"").is_ok() && shelf.add("F", &file).is_ok());
     shelf
 }
 
-/// Runs a command line over the files, and expects its status and what is printed.
-fn expect_line(
-    rt: &(impl AllocGlobal + Abort),
-    shelf: &mut MemoryShelf,
-    line: &str,
-    status: Status,
-    text: &str,
-) {
-    let alloc = rt.alloc();
-    let mut out = MemorySink::new(alloc, 4096);
-    let arguments = arguments_of(rt, alloc, line);
-    let ended = ags_main(alloc, &arguments, shelf, &mut out);
-    assert!(rt; ended == status, "{line}");
-    assert!(rt; out.bytes() == text.as_bytes(), "{line}");
-}
+/// The file as each kind where it is line feeds: empty cards, a script without a line, and a document; but no certificate and no listing.
+const OF_LINE_FEEDS: [Answer; 5] = [
+    ("xref F", Status::Done, ""),
+    ("run S F", Status::Done, ""),
+    (
+        "certify S F",
+        Status::BadCert,
+        "CERTIFICATE LINE 1 ERROR 1 BadLine\n",
+    ),
+    (
+        "compare S F",
+        Status::BadText,
+        "LISTING LINE 1 ERROR 1 BadLine\n",
+    ),
+    ("xref E F", Status::Done, ""),
+];
 
-/// The fault of a source of this byte: it is one card that is too long, unless the byte may stand in no card.
-fn source_fault(byte: u8) -> &'static str {
+/// Where it is one card that is too long, and a document: an empty line, or a comment.
+const OF_A_DOCUMENT: [Answer; 5] = [
+    (
+        "assemble F",
+        Status::BadSource,
+        "SOURCE CARD 0000001 ERROR 2 LongCard\n",
+    ),
+    (
+        "run S F",
+        Status::BadText,
+        "SCRIPT LINE 1 ERROR 1 BadLine\n",
+    ),
+    (
+        "certify S F",
+        Status::BadCert,
+        "CERTIFICATE LINE 1 ERROR 1 BadLine\n",
+    ),
+    (
+        "compare S F",
+        Status::BadText,
+        "LISTING LINE 1 ERROR 1 BadLine\n",
+    ),
+    ("xref E F", Status::Done, ""),
+];
+
+/// Where it is one card that is too long, and no document.
+const OF_A_LONG_CARD: [Answer; 5] = [
+    (
+        "assemble F",
+        Status::BadSource,
+        "SOURCE CARD 0000001 ERROR 2 LongCard\n",
+    ),
+    (
+        "run S F",
+        Status::BadText,
+        "SCRIPT LINE 1 ERROR 1 BadLine\n",
+    ),
+    (
+        "certify S F",
+        Status::BadCert,
+        "CERTIFICATE LINE 1 ERROR 1 BadLine\n",
+    ),
+    (
+        "compare S F",
+        Status::BadText,
+        "LISTING LINE 1 ERROR 1 BadLine\n",
+    ),
+    ("xref E F", Status::BadMachine, "MACHINE ERROR 1 NotToml\n"),
+];
+
+/// Where the byte may stand in no card.
+const OF_NO_CARD: [Answer; 5] = [
+    (
+        "assemble F",
+        Status::BadSource,
+        "SOURCE CARD 0000001 ERROR 1 BadByte\n",
+    ),
+    (
+        "run S F",
+        Status::BadText,
+        "SCRIPT LINE 1 ERROR 1 BadLine\n",
+    ),
+    (
+        "certify S F",
+        Status::BadCert,
+        "CERTIFICATE LINE 1 ERROR 1 BadLine\n",
+    ),
+    (
+        "compare S F",
+        Status::BadText,
+        "LISTING LINE 1 ERROR 1 BadLine\n",
+    ),
+    ("xref E F", Status::BadMachine, "MACHINE ERROR 1 NotToml\n"),
+];
+
+/// What comes of a file of this byte.
+fn answers_of(byte: u8) -> &'static [Answer<'static>] {
     match byte {
-        b'\t' | b' '..=b'~' => "SOURCE CARD 0000001 ERROR 2 LongCard\n",
-        _ => "SOURCE CARD 0000001 ERROR 1 BadByte\n",
+        b'\n' => &OF_LINE_FEEDS,
+        b'\t' | b' ' | b'#' => &OF_A_DOCUMENT,
+        b' '..=b'~' => &OF_A_LONG_CARD,
+        _ => &OF_NO_CARD,
     }
 }
 
-/// Whether a document of this byte is one: it is empty lines, or a comment.
-fn is_document(byte: u8) -> bool {
-    matches!(byte, b'\n' | b'\t' | b' ' | b'#')
-}
-
 #[test]
-fn each_byte_as_a_source(rt: HostRuntime) {
-    let alloc = rt.alloc();
+fn each_byte_as_each_kind_of_file(rt: HostRuntime) {
     for byte in 0u8..=255 {
-        if byte == b'\n' {
-            continue;
+        let mut shelf = shelf_with(&rt, rt.alloc(), byte);
+        for answer in answers_of(byte) {
+            expect_over(&rt, &byte, &mut shelf, 4096, *answer);
         }
-        let mut shelf = shelf_with(&rt, alloc, byte);
-        let text = source_fault(byte);
-        expect_line(&rt, &mut shelf, "assemble F", Status::BadSource, text);
     }
 }
 
-// Line feeds alone are empty cards, and a script without a line.
 #[test]
-fn line_feeds_are_empty_lines(rt: HostRuntime) {
+fn line_feeds_are_empty_cards(rt: HostRuntime) {
     let alloc = rt.alloc();
     let mut shelf = shelf_with(&rt, alloc, b'\n');
-    expect_line(&rt, &mut shelf, "xref F", Status::Done, "");
-    expect_line(&rt, &mut shelf, "run S F", Status::Done, "");
     let mut out = MemorySink::new(alloc, 4096);
     let arguments = arguments_of(&rt, alloc, "assemble F");
     let ended = ags_main(alloc, &arguments, &mut shelf, &mut out);
-    assert!(&rt; ended == Status::Done);
-    assert!(&rt; out.bytes().len() == EMPTY_LISTING);
-}
-
-#[test]
-fn each_byte_as_a_script(rt: HostRuntime) {
-    let alloc = rt.alloc();
-    for byte in 0u8..=255 {
-        if byte == b'\n' {
-            continue;
-        }
-        let mut shelf = shelf_with(&rt, alloc, byte);
-        let text = "SCRIPT LINE 1 ERROR 1 BadLine\n";
-        expect_line(&rt, &mut shelf, "run S F", Status::BadText, text);
-    }
-}
-
-#[test]
-fn each_byte_as_a_certificate_and_as_a_listing(rt: HostRuntime) {
-    let alloc = rt.alloc();
-    for byte in 0u8..=255 {
-        let mut shelf = shelf_with(&rt, alloc, byte);
-        let text = "CERTIFICATE LINE 1 ERROR 1 BadLine\n";
-        expect_line(&rt, &mut shelf, "certify S F", Status::BadCert, text);
-        let text = "LISTING LINE 1 ERROR 1 BadLine\n";
-        expect_line(&rt, &mut shelf, "compare S F", Status::BadText, text);
-    }
-}
-
-#[test]
-fn each_byte_as_a_machine_file(rt: HostRuntime) {
-    let alloc = rt.alloc();
-    for byte in 0u8..=255 {
-        let mut shelf = shelf_with(&rt, alloc, byte);
-        if is_document(byte) {
-            expect_line(&rt, &mut shelf, "xref E F", Status::Done, "");
-        } else {
-            let text = "MACHINE ERROR 1 NotToml\n";
-            expect_line(&rt, &mut shelf, "xref E F", Status::BadMachine, text);
-        }
-    }
+    expect_same(
+        &rt,
+        &(ended, out.bytes().len()),
+        &(Status::Done, EMPTY_LISTING),
+    );
 }

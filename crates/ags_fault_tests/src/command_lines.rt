@@ -1,9 +1,10 @@
 //! Command lines, the files that they read, and what comes of them.
 
 use ags_decks::{DECK, DECK_CERTIFICATE, DECK_SCRIPT, DECK_SPLIT_CERTIFICATE, DECK_TIMES};
-use ags_outside::{MemoryShelf, MemorySink};
+use ags_outside::{MemoryShelf, MemorySink, Shelf};
 use ags_top::{Status, ags_main};
 use std::alloc::Global;
+use std::fmt::Debug;
 use std::process::Abort;
 
 /// A sum of two words at scale 6.
@@ -29,6 +30,13 @@ const RETURN_CERTIFICATE: &str =
 const RETURN_EDITS: &str =
     "AGSEDIT 1\nROW 5 0017 A ANY Q ANY X 0 V 0\nROW 5 0017 A ANY Q ANY X 0 V 0\nAT 0017 WORDS 404001\nEND\n";
 
+/// The listing of the source S.
+pub(crate) const FIRST_LISTING: &str =
+    "0000001             * FIRST\n0000002              ORG /4000\n0000003 4000 000007 A OCT 7\n";
+
+/// A command line, its status, and what is printed.
+pub(crate) type Answer<'a> = (&'a str, Status, &'a str);
+
 /// The arguments of a command line.
 pub(crate) fn arguments_of(rt: &impl Abort, alloc: Global, line: &str) -> Vec<String> {
     let mut arguments = Vec::new(alloc);
@@ -39,16 +47,18 @@ pub(crate) fn arguments_of(rt: &impl Abort, alloc: Global, line: &str) -> Vec<St
     arguments
 }
 
-/// Adds a piece to a text.
-pub(crate) fn add(rt: &impl Abort, text: &mut String, piece: &str) {
-    assert!(rt; text.push_str(piece).is_ok());
-}
-
-/// These two texts, one after the other.
-pub(crate) fn joined(rt: &impl Abort, alloc: Global, first: &str, second: &str) -> String {
-    let mut text = String::new(alloc);
-    add(rt, &mut text, first);
-    add(rt, &mut text, second);
+/// A text of a front, and of a piece that stands so often behind it.
+pub(crate) fn repeated(
+    rt: &impl Abort,
+    alloc: Global,
+    front: &str,
+    piece: &str,
+    count: u32,
+) -> String {
+    let mut text = String::from_str(alloc, front).expect(rt, "memory for a text");
+    for _ in 0..count {
+        assert!(rt; text.push_str(piece).is_ok());
+    }
     text
 }
 
@@ -82,33 +92,39 @@ pub(crate) fn files_without(rt: &impl Abort, alloc: Global, absent: &str) -> Mem
     shelf
 }
 
-/// The listing of the source S.
-pub(crate) const FIRST_LISTING: &str =
-    "0000001             * FIRST\n0000002              ORG /4000\n0000003 4000 000007 A OCT 7\n";
-
-/// The pull that fails and the put that fails, 0 where none does, and how many bytes are put at once.
-#[derive(Clone, Copy)]
-pub(crate) struct Failing {
-    pub(crate) pull: u64,
-    pub(crate) put: u64,
-    pub(crate) most: usize,
+/// Asserts that what is told is what is wanted.
+pub(crate) fn expect_same<T: PartialEq + Debug>(rt: &impl Abort, told: &T, wanted: &T) {
+    assert_eq!(rt; *told, *wanted);
 }
 
-/// Runs a command line, and expects its status and the bytes that were put.
-pub(crate) fn expect_end(
+/// Runs a command line over a shelf and into a sink, and expects its status and all that the sink took. A failed assertion shows the
+/// case.
+pub(crate) fn expect_into<S: Shelf, C: PartialEq + Debug>(
     rt: &(impl AllocGlobal + Abort),
-    line: &str,
-    failing: Failing,
-    status: Status,
-    text: &str,
+    case: &C,
+    shelf: &mut S,
+    out: &mut MemorySink,
+    answer: Answer<'_>,
 ) {
     let alloc = rt.alloc();
-    let mut shelf = files_without(rt, alloc, "");
-    assert!(rt; shelf.fail_at(failing.pull).is_ok());
-    let mut out = MemorySink::new(alloc, failing.most.max(1));
-    assert!(rt; out.fail_at(failing.put).is_ok());
+    let (line, status, text) = answer;
     let arguments = arguments_of(rt, alloc, line);
-    let ended = ags_main(alloc, &arguments, &mut shelf, &mut out);
-    assert!(rt; ended == status, "{line}");
-    assert!(rt; out.bytes() == text.as_bytes(), "{line}");
+    let ended = ags_main(alloc, &arguments, shelf, out);
+    expect_same(
+        rt,
+        &(case, line, ended, str::from_utf8(out.bytes())),
+        &(case, line, status, Ok(text)),
+    );
+}
+
+/// The same into a sink that takes so many bytes at once.
+pub(crate) fn expect_over<S: Shelf, C: PartialEq + Debug>(
+    rt: &(impl AllocGlobal + Abort),
+    case: &C,
+    shelf: &mut S,
+    most: usize,
+    answer: Answer<'_>,
+) {
+    let mut out = MemorySink::new(rt.alloc(), most.max(1));
+    expect_into(rt, case, shelf, &mut out, answer);
 }

@@ -2,11 +2,11 @@
 //! from the README's tables.
 
 use crate::command_lines::{
-    FIRST_LISTING, Failing, add, arguments_of, expect_end, files_without, joined,
+    FIRST_LISTING, expect_into, expect_over, expect_same, files_without, repeated,
 };
 use ags_decks::DECK_LISTING;
 use ags_outside::{MemorySink, PutDone, Sink};
-use ags_top::{Status, ags_main};
+use ags_top::Status;
 use std::process::Abort;
 
 /// How many bytes are put at once where each line is one put.
@@ -14,158 +14,103 @@ const WHOLE_LINES: usize = 4096;
 
 /// Runs a command line that makes so many pulls, of which each fails alone: nothing is put. Where none fails, its text is.
 fn fail_each_pull(rt: &(impl AllocGlobal + Abort), line: &str, pulls: u64, text: &str) {
-    let (put, most) = (0, WHOLE_LINES);
-    for passed in 0..pulls {
-        let pull = passed + 1;
-        expect_end(rt, line, Failing { pull, put, most }, Status::ReadFault, "");
+    for passed in 0..pulls.saturating_add(1) {
+        let mut shelf = files_without(rt, rt.alloc(), "");
+        assert!(rt; shelf.fail_at(passed + 1).is_ok());
+        let answer = if passed < pulls {
+            (line, Status::ReadFault, "")
+        } else {
+            (line, Status::Done, text)
+        };
+        expect_over(rt, &passed, &mut shelf, WHOLE_LINES, answer);
     }
-    let pull = pulls.saturating_add(1);
-    expect_end(rt, line, Failing { pull, put, most }, Status::Done, text);
 }
 
-/// Runs a command line that puts a text line by line, of which each put fails alone: the lines before it are put.
-fn fail_each_put(rt: &(impl AllocGlobal + Abort), line: &str, text: &str) {
-    let (pull, most) = (0, WHOLE_LINES);
+/// Runs a command line of which one put fails, and expects its status and what is put before.
+fn fail_put(rt: &(impl AllocGlobal + Abort), most: usize, put: u64, answer: (&str, Status, &str)) {
+    let alloc = rt.alloc();
+    let mut shelf = files_without(rt, alloc, "");
+    let mut out = MemorySink::new(alloc, most.max(1));
+    assert!(rt; out.fail_at(put).is_ok());
+    expect_into(rt, &put, &mut shelf, &mut out, answer);
+}
+
+/// Runs a command line that puts a text line by line, or byte by byte, of which each put fails alone: what stands before it is put.
+fn fail_each_put(rt: &(impl AllocGlobal + Abort), line: &str, most: usize, text: &str) {
     let mut put = 1u64;
-    let mut front = String::new(rt.alloc());
-    for shown in text.lines() {
-        expect_end(
-            rt,
-            line,
-            Failing { pull, put, most },
-            Status::WriteFault,
-            front.as_str(),
-        );
-        add(rt, &mut front, shown);
-        add(rt, &mut front, "\n");
-        put = put.saturating_add(1);
+    let mut begins = true;
+    for (cut, byte) in text.bytes().enumerate() {
+        if begins || most == 1 {
+            let front = text.get(..cut).expect(rt, "a text of ASCII");
+            fail_put(rt, most, put, (line, Status::WriteFault, front));
+            put = put.saturating_add(1);
+        }
+        begins = byte == b'\n';
     }
-    expect_end(
-        rt,
-        line,
-        Failing { pull, put, most },
-        Status::Done,
-        front.as_str(),
-    );
-}
-
-/// Runs it into a sink that takes one byte a put, of which each fails alone: the bytes before it are put.
-fn fail_each_byte(rt: &(impl AllocGlobal + Abort), line: &str, text: &str) {
-    let (pull, most) = (0, 1);
-    let mut put = 1u64;
-    let mut front = String::new(rt.alloc());
-    for shown in text.chars() {
-        expect_end(
-            rt,
-            line,
-            Failing { pull, put, most },
-            Status::WriteFault,
-            front.as_str(),
-        );
-        assert!(rt; front.push(shown).is_ok());
-        put = put.saturating_add(1);
-    }
-    expect_end(
-        rt,
-        line,
-        Failing { pull, put, most },
-        Status::Done,
-        front.as_str(),
-    );
-}
-
-/// Runs a command line that makes so many pulls and prints this text, with each call failing alone.
-fn fail_each_call(rt: &(impl AllocGlobal + Abort), line: &str, pulls: u64, text: &str) {
-    fail_each_pull(rt, line, pulls, text);
-    fail_each_put(rt, line, text);
-    fail_each_byte(rt, line, text);
-}
-
-// Each file takes two pulls: its bytes, and its end.
-#[test]
-fn a_listing_is_cut_off_at_each_call(rt: HostRuntime) {
-    fail_each_call(&rt, "assemble S", 2, FIRST_LISTING);
-}
-
-#[test]
-fn a_comparison_is_cut_off_at_each_call(rt: HostRuntime) {
-    fail_each_call(&rt, "compare S L", 4, "EQUAL\n");
-}
-
-#[test]
-fn a_tape_is_cut_off_at_each_call(rt: HostRuntime) {
-    fail_each_call(&rt, "tape S", 2, "4000 000007\n");
-}
-
-#[test]
-fn a_cross_reference_is_cut_off_at_each_call(rt: HostRuntime) {
-    fail_each_call(&rt, "xref S", 2, "A         2048 0000003\n");
-}
-
-// A workload reads no file.
-#[test]
-fn a_workload_is_cut_off_at_each_call(rt: HostRuntime) {
-    let text = "WORKLOAD 1 CARDS 13 WORDS 9 ROWS 9 CASES 9 CERTIFIED\n";
-    fail_each_call(&rt, "workload 1", 0, text);
-}
-
-// The certified deck has 4 pulls and 41 puts: the 40 lines of its listing, and the verdict.
-#[test]
-fn a_certified_deck_is_cut_off_at_each_pull_and_line(rt: HostRuntime) {
-    let text = joined(
-        &rt,
-        rt.alloc(),
-        DECK_LISTING,
-        "CERTIFIED ROWS 31 CASES 32\n",
-    );
-    assert!(&rt; text.as_str().lines().count() == 41);
-    fail_each_pull(&rt, "certify D C", 4, text.as_str());
-    fail_each_put(&rt, "certify D C", text.as_str());
-}
-
-#[test]
-fn a_certified_deck_is_cut_off_at_each_byte(rt: HostRuntime) {
-    let text = joined(
-        &rt,
-        rt.alloc(),
-        DECK_LISTING,
-        "CERTIFIED ROWS 31 CASES 32\n",
-    );
-    fail_each_byte(&rt, "certify D C", text.as_str());
+    fail_put(rt, most, put, (line, Status::Done, text));
 }
 
 /// What the deck's script shows.
 const SHOWN: &str = "CELL 0020 001750\nA 777777 Q 404012 X 0 V 0 P 4000 W\nDEDA |047?????? |\n";
 
-#[test]
-fn a_played_deck_is_cut_off_at_each_call(rt: HostRuntime) {
-    fail_each_call(&rt, "run D P", 4, SHOWN);
-}
+/// A command line, how many pulls it makes, how many lines it prints, and those in two parts. Each file takes two pulls: its bytes, and
+/// its end.
+const CALLS: [(&str, u64, usize, &str, &str); 11] = [
+    ("assemble S", 2, 3, FIRST_LISTING, ""),
+    ("compare S L", 4, 1, "EQUAL\n", ""),
+    ("tape S", 2, 1, "4000 000007\n", ""),
+    ("xref S", 2, 1, "A         2048 0000003\n", ""),
+    // a workload reads no file
+    (
+        "workload 1",
+        0,
+        1,
+        "WORKLOAD 1 CARDS 13 WORDS 9 ROWS 9 CASES 9 CERTIFIED\n",
+        "",
+    ),
+    // the 40 lines of the listing, and the verdict
+    (
+        "certify D C",
+        4,
+        41,
+        DECK_LISTING,
+        "CERTIFIED ROWS 31 CASES 32\n",
+    ),
+    ("run D P", 4, 3, SHOWN, ""),
+    ("guard D P C", 6, 4, "CERTIFIED ROWS 31 CASES 32\n", SHOWN),
+    (
+        "budget D K T",
+        6,
+        2,
+        "CERTIFIED ROWS 44 CASES 44\nWITHIN 492\n",
+        "",
+    ),
+    (
+        "scales A B E",
+        6,
+        2,
+        "CERTIFIED ROWS 5 CASES 5\nSCALES AGREE\n",
+        "",
+    ),
+    // the verdict and the line of each edit are sent one by one
+    (
+        "edits R Q U",
+        6,
+        3,
+        "CERTIFIED ROWS 5 CASES 5\n",
+        "EDIT 1 REFUSED 3 CodeUnknown ROW 5\nEDIT 2 CERTIFIED ROWS 5 CASES 5\n",
+    ),
+];
 
 #[test]
-fn a_guarded_deck_is_cut_off_at_each_call(rt: HostRuntime) {
-    let text = joined(&rt, rt.alloc(), "CERTIFIED ROWS 31 CASES 32\n", SHOWN);
-    fail_each_call(&rt, "guard D P C", 6, text.as_str());
-}
-
-#[test]
-fn bounds_of_a_deck_are_cut_off_at_each_call(rt: HostRuntime) {
-    let text = "CERTIFIED ROWS 44 CASES 44\nWITHIN 492\n";
-    fail_each_call(&rt, "budget D K T", 6, text);
-}
-
-#[test]
-fn scales_of_a_sum_are_cut_off_at_each_call(rt: HostRuntime) {
-    let text = "CERTIFIED ROWS 5 CASES 5\nSCALES AGREE\n";
-    fail_each_call(&rt, "scales A B E", 6, text);
-}
-
-// The verdict and the line of each edit are sent one by one.
-#[test]
-fn edits_of_a_subroutine_are_cut_off_at_each_call(rt: HostRuntime) {
-    let text =
-        "CERTIFIED ROWS 5 CASES 5\nEDIT 1 REFUSED 3 CodeUnknown ROW 5\nEDIT 2 CERTIFIED ROWS 5 CASES 5\n";
-    fail_each_call(&rt, "edits R Q U", 6, text);
+fn each_command_is_cut_off_at_each_call(rt: HostRuntime) {
+    for &(line, pulls, lines, front, end) in &CALLS {
+        let text = repeated(&rt, rt.alloc(), front, end, 1);
+        expect_same(&rt, &(line, text.as_str().lines().count()), &(line, lines));
+        fail_each_pull(&rt, line, pulls, &text);
+        fail_each_put(&rt, line, WHOLE_LINES, &text);
+        fail_each_put(&rt, line, 1, &text);
+    }
 }
 
 // Two faults at once: after a pull that failed no put is made, so the first put is still to come, and fails.
@@ -173,15 +118,11 @@ fn edits_of_a_subroutine_are_cut_off_at_each_call(rt: HostRuntime) {
 fn the_second_of_two_faults_is_not_reached(rt: HostRuntime) {
     let alloc = rt.alloc();
     let mut shelf = files_without(&rt, alloc, "");
-    assert!(&rt; shelf.fail_at(3).is_ok());
     let mut out = MemorySink::new(alloc, WHOLE_LINES);
-    assert!(&rt; out.fail_at(1).is_ok());
-    let arguments = arguments_of(&rt, alloc, "certify D C");
-    let ended = ags_main(alloc, &arguments, &mut shelf, &mut out);
-    assert!(&rt; ended == Status::ReadFault);
-    assert!(&rt; out.bytes().is_empty());
-    assert!(&rt; out.put(b"x") == PutDone::Failed);
-    assert!(&rt; out.put(b"x") == PutDone::Took(1));
+    assert!(&rt; shelf.fail_at(3).is_ok() && out.fail_at(1).is_ok());
+    let answer = ("certify D C", Status::ReadFault, "");
+    expect_into(&rt, &(), &mut shelf, &mut out, answer);
+    assert!(&rt; out.put(b"x") == PutDone::Failed && out.put(b"x") == PutDone::Took(1));
 }
 
 /// A command line, the file that is absent, and what is printed.
@@ -203,13 +144,14 @@ const ABSENT: [(&str, &str, &str); 13] = [
 
 #[test]
 fn an_absent_file_ends_the_run(rt: HostRuntime) {
-    let alloc = rt.alloc();
     for &(line, absent, text) in &ABSENT {
-        let mut shelf = files_without(&rt, alloc, absent);
-        let mut out = MemorySink::new(alloc, 3);
-        let arguments = arguments_of(&rt, alloc, line);
-        let ended = ags_main(alloc, &arguments, &mut shelf, &mut out);
-        assert!(&rt; ended == Status::AbsentFile, "{line} {absent}");
-        assert!(&rt; out.bytes() == text.as_bytes(), "{line} {absent}");
+        let mut shelf = files_without(&rt, rt.alloc(), absent);
+        expect_over(
+            &rt,
+            &absent,
+            &mut shelf,
+            3,
+            (line, Status::AbsentFile, text),
+        );
     }
 }

@@ -2,320 +2,574 @@
 
 ghost use Rattle.ags_outside.specs.ToldFile.{Untold};
 
-use crate::command_lines::{add, arguments_of, joined};
-use ags_outside::{MemoryShelf, MemorySink, Pull, Shelf};
-use ags_top::{Status, ags_main};
+use crate::command_lines::{Answer, expect_over, repeated};
+use ags_outside::{MemoryShelf, Pull, Shelf};
+use ags_top::Status;
 use std::alloc::Global;
 use std::process::Abort;
 
 /// A source of one order, which waits for a pulse.
 const WAITING: &str = " ORG /4000\n DLY /4000\n";
 
-/// Runs a command line over any shelf, and expects its status and what is printed.
-fn expect_over<S: Shelf>(
-    rt: &(impl AllocGlobal + Abort),
-    shelf: &mut S,
-    line: &str,
-    status: Status,
-    text: &str,
-) {
-    let alloc = rt.alloc();
-    let mut out = MemorySink::new(alloc, 4096);
-    let arguments = arguments_of(rt, alloc, line);
-    let ended = ags_main(alloc, &arguments, shelf, &mut out);
-    assert!(rt; ended == status, "{line}");
-    assert!(rt; out.bytes() == text.as_bytes(), "{line}");
-}
+/// Its certificate.
+const WAITING_CERTIFICATE: &str = "AGSCERT 1\nROW 4000 A ANY Q ANY X 0 V 0\nEND\n";
 
 /// A shelf with these files.
-fn shelf_of(rt: &impl Abort, alloc: Global, files: &[(&str, &[u8])]) -> MemoryShelf {
+fn shelf_of(rt: &impl Abort, alloc: Global, files: &[(&str, &str)]) -> MemoryShelf {
     let mut shelf = MemoryShelf::new(alloc);
-    for &(name, file) in files {
-        assert!(rt; shelf.add(name, file).is_ok());
+    for &(name, text) in files {
+        assert!(rt; shelf.add(name, text.as_bytes()).is_ok());
     }
     shelf
 }
 
-/// The certificate of the source of one order.
-const WAITING_CERTIFICATE: &str = "AGSCERT 1\nROW 4000 A ANY Q ANY X 0 V 0\nEND\n";
+/// A certificate whose one limit is a set of sixteen words, but for its rows.
+const SIXTEEN: &str =
+    "AGSCERT 1\nCELL 0017 WORDS 000000 000001 000002 000003 000004 000005 000006 000007 000010 000011 000012 000013 000014 000015 000016 000017";
 
-/// The same over the source S that waits, its certificate C, and one file F.
-fn expect_file(
-    rt: &(impl AllocGlobal + Abort),
-    file: &[u8],
-    line: &str,
-    status: Status,
-    text: &str,
-) {
-    let files = [
-        ("S", WAITING.as_bytes()),
-        ("C", WAITING_CERTIFICATE.as_bytes()),
-        ("F", file),
-    ];
-    let mut shelf = shelf_of(rt, rt.alloc(), &files);
-    expect_over(rt, &mut shelf, line, status, text);
+/// A certificate of one row with 64 cells, but for its end.
+const CELLS: &str = "AGSCERT 1
+ROW 4000 A ANY Q ANY X 0 V 0
+AT 0000 ANY
+AT 0001 ANY
+AT 0002 ANY
+AT 0003 ANY
+AT 0004 ANY
+AT 0005 ANY
+AT 0006 ANY
+AT 0007 ANY
+AT 0010 ANY
+AT 0011 ANY
+AT 0012 ANY
+AT 0013 ANY
+AT 0014 ANY
+AT 0015 ANY
+AT 0016 ANY
+AT 0017 ANY
+AT 0020 ANY
+AT 0021 ANY
+AT 0022 ANY
+AT 0023 ANY
+AT 0024 ANY
+AT 0025 ANY
+AT 0026 ANY
+AT 0027 ANY
+AT 0030 ANY
+AT 0031 ANY
+AT 0032 ANY
+AT 0033 ANY
+AT 0034 ANY
+AT 0035 ANY
+AT 0036 ANY
+AT 0037 ANY
+AT 0040 ANY
+AT 0041 ANY
+AT 0042 ANY
+AT 0043 ANY
+AT 0044 ANY
+AT 0045 ANY
+AT 0046 ANY
+AT 0047 ANY
+AT 0050 ANY
+AT 0051 ANY
+AT 0052 ANY
+AT 0053 ANY
+AT 0054 ANY
+AT 0055 ANY
+AT 0056 ANY
+AT 0057 ANY
+AT 0060 ANY
+AT 0061 ANY
+AT 0062 ANY
+AT 0063 ANY
+AT 0064 ANY
+AT 0065 ANY
+AT 0066 ANY
+AT 0067 ANY
+AT 0070 ANY
+AT 0071 ANY
+AT 0072 ANY
+AT 0073 ANY
+AT 0074 ANY
+AT 0075 ANY
+AT 0076 ANY
+AT 0077 ANY
+";
+
+/// A machine file with 32 input registers, but for its end.
+const REGISTERS: &str =
+    "input = [{ address = 0 }, { address = 1 }, { address = 2 }, { address = 3 }, { address = 4 }, { address = 5 }, { address = 6 }, { address = 7 }, { address = 8 }, { address = 9 }, { address = 10 }, { address = 11 }, { address = 12 }, { address = 13 }, { address = 14 }, { address = 15 }, { address = 16 }, { address = 17 }, { address = 18 }, { address = 19 }, { address = 20 }, { address = 21 }, { address = 22 }, { address = 23 }, { address = 24 }, { address = 25 }, { address = 26 }, { address = 27 }, { address = 28 }, { address = 29 }, { address = 30 }, { address = 31 }, ";
+
+/// A file F: its front, the piece that stands behind it, how often, and its end; and a command line that reads it behind the source S and
+/// its certificate C, with the status and what is printed.
+type Limit = (
+    &'static str,
+    &'static str,
+    u32,
+    &'static str,
+    &'static str,
+    Status,
+    &'static str,
+);
+
+/// Expects what comes of each file.
+fn expect_limits(rt: &(impl AllocGlobal + Abort), rows: &[Limit]) {
+    let alloc = rt.alloc();
+    for &(front, piece, count, end, line, status, text) in rows {
+        let pieces = repeated(rt, alloc, front, piece, count);
+        let file = repeated(rt, alloc, &pieces, end, 1);
+        let files = [
+            ("S", WAITING),
+            ("C", WAITING_CERTIFICATE),
+            ("F", file.as_str()),
+        ];
+        let mut shelf = shelf_of(rt, alloc, &files);
+        expect_over(rt, &count, &mut shelf, 4096, (line, status, text));
+    }
 }
 
-/// So many of one byte.
-fn many(rt: &impl Abort, alloc: Global, byte: u8, count: u32) -> Vec<u8> {
-    let piece = [byte; 512];
-    let mut bytes = Vec::new(alloc);
-    for _ in 0..count / 512 {
-        assert!(rt; bytes.extend_from_slice(&piece).is_ok());
-    }
-    for _ in 0..count % 512 {
-        assert!(rt; bytes.push(byte).is_ok());
-    }
-    bytes
-}
-
-/// A command line that reads F, and how long that may be.
-const LIMITS: [(&str, u32, &str); 3] = [
-    ("xref S F", 65_536, "LONG F 65536\n"),
-    ("xref F", 4_194_304, "LONG F 4194304\n"),
-    ("run S F", 4_194_304, "LONG F 4194304\n"),
+/// Files as long as they may be, and one byte longer.
+const FILES: [Limit; 15] = [
+    // a machine file, a source and a script of empty lines, as long as each may be, and one byte longer
+    ("", "\n", 65_536, "", "xref S F", Status::Done, ""),
+    (
+        "",
+        "\n",
+        65_537,
+        "",
+        "xref S F",
+        Status::LongFile,
+        "LONG F 65536\n",
+    ),
+    ("", "\n", 4_194_304, "", "xref F", Status::Done, ""),
+    (
+        "",
+        "\n",
+        4_194_305,
+        "",
+        "xref F",
+        Status::LongFile,
+        "LONG F 4194304\n",
+    ),
+    ("", "\n", 4_194_304, "", "run S F", Status::Done, ""),
+    (
+        "",
+        "\n",
+        4_194_305,
+        "",
+        "run S F",
+        Status::LongFile,
+        "LONG F 4194304\n",
+    ),
+    // a text of times, of scales and of edits of empty lines
+    (
+        "",
+        "\n",
+        4_194_304,
+        "",
+        "budget S C F",
+        Status::BadText,
+        "TIMES LINE 1 ERROR 1 BadLine\n",
+    ),
+    (
+        "",
+        "\n",
+        4_194_305,
+        "",
+        "budget S C F",
+        Status::LongFile,
+        "LONG F 4194304\n",
+    ),
+    (
+        "",
+        "\n",
+        4_194_304,
+        "",
+        "scales S C F",
+        Status::BadText,
+        "SCALES LINE 1 ERROR 1 BadLine\n",
+    ),
+    (
+        "",
+        "\n",
+        4_194_305,
+        "",
+        "scales S C F",
+        Status::LongFile,
+        "LONG F 4194304\n",
+    ),
+    (
+        "",
+        "\n",
+        4_194_304,
+        "",
+        "edits S C F",
+        Status::BadText,
+        "EDITS LINE 1 ERROR 1 BadLine\n",
+    ),
+    (
+        "",
+        "\n",
+        4_194_305,
+        "",
+        "edits S C F",
+        Status::LongFile,
+        "LONG F 4194304\n",
+    ),
+    // a certificate of empty lines after its first, whose END is missing
+    (
+        "AGSCERT 1\n",
+        "\n",
+        67_108_854,
+        "",
+        "certify S F",
+        Status::BadCert,
+        "CERTIFICATE LINE 67108856 ERROR 1 BadLine\n",
+    ),
+    (
+        "AGSCERT 1\n",
+        "\n",
+        67_108_855,
+        "",
+        "certify S F",
+        Status::LongFile,
+        "LONG F 67108864\n",
+    ),
+    // a listing as long as it may be, whose first line is empty
+    (
+        "",
+        "\n",
+        134_217_728,
+        "",
+        "compare S F",
+        Status::BadText,
+        "LISTING LINE 1 ERROR 1 BadLine\n",
+    ),
 ];
 
-// A machine file, a source and a script of empty lines, as long as each may be, and one byte longer.
 #[test]
 fn files_have_limits(rt: HostRuntime) {
-    for &(line, most, text) in &LIMITS {
-        let mut file = many(&rt, rt.alloc(), b'\n', most);
-        expect_file(&rt, file.as_slice(), line, Status::Done, "");
-        assert!(&rt; file.push(b'\n').is_ok());
-        expect_file(&rt, file.as_slice(), line, Status::LongFile, text);
-    }
+    expect_limits(&rt, &FILES);
 }
 
-/// A command line that reads a text F behind a certificate, and what comes of empty lines.
-const BEHIND: [(&str, &str); 3] = [
-    ("budget S C F", "TIMES LINE 1 ERROR 1 BadLine\n"),
-    ("scales S C F", "SCALES LINE 1 ERROR 1 BadLine\n"),
-    ("edits S C F", "EDITS LINE 1 ERROR 1 BadLine\n"),
+/// Lines and steps of scripts.
+const SCRIPTS: [Limit; 5] = [
+    // a script's line has 512 bytes at most, its line feed not counted
+    ("", "#", 512, "", "run S F", Status::Done, ""),
+    (
+        "",
+        "#",
+        513,
+        "",
+        "run S F",
+        Status::BadText,
+        "SCRIPT LINE 1 ERROR 1 BadLine\n",
+    ),
+    // a cycle counts as 20,000 steps, whatever the phase
+    (
+        "CYCLE 4999\nSTEP 20000\n",
+        "",
+        0,
+        "",
+        "run S F",
+        Status::Done,
+        "",
+    ),
+    (
+        "CYCLE 4999\nSTEP 20000\n",
+        "STEP 1\n",
+        1,
+        "",
+        "run S F",
+        Status::BadText,
+        "SCRIPT LINE 3 ERROR 3 TooManySteps\n",
+    ),
+    (
+        "STEP 100000001\n",
+        "",
+        0,
+        "",
+        "run S F",
+        Status::BadText,
+        "SCRIPT LINE 1 ERROR 3 TooManySteps\n",
+    ),
 ];
 
-// A text of times, of scales and of edits of empty lines, as long as it may be, and one byte longer.
 #[test]
-fn texts_behind_a_certificate_have_a_limit(rt: HostRuntime) {
-    for &(line, text) in &BEHIND {
-        let mut file = many(&rt, rt.alloc(), b'\n', 4_194_304);
-        expect_file(&rt, file.as_slice(), line, Status::BadText, text);
-        assert!(&rt; file.push(b'\n').is_ok());
-        let text = "LONG F 4194304\n";
-        expect_file(&rt, file.as_slice(), line, Status::LongFile, text);
+fn scripts_have_limits(rt: HostRuntime) {
+    expect_limits(&rt, &SCRIPTS);
+}
+
+/// How many edits a text may have, words a set, cells a row, and registers a machine.
+const STATED: [Limit; 7] = [
+    // one edit more than 10,000, which is told where it stands, in the line after theirs
+    (
+        "AGSEDIT 1\n",
+        "WORD 4000 704000\n",
+        10_001,
+        "END\n",
+        "edits S C F",
+        Status::BadText,
+        "EDITS LINE 10002 ERROR 6 TooManyEdits\n",
+    ),
+    // a set of words
+    (
+        SIXTEEN,
+        "",
+        0,
+        "\nEND\n",
+        "certify S F",
+        Status::BadCert,
+        "CERTIFICATE LINE 3 ERROR 9 NoRows\n",
+    ),
+    (
+        SIXTEEN,
+        " 000020",
+        1,
+        "\nEND\n",
+        "certify S F",
+        Status::BadCert,
+        "CERTIFICATE LINE 2 ERROR 1 BadLine\n",
+    ),
+    // the cells of a row
+    (
+        CELLS,
+        "",
+        0,
+        "END\n",
+        "certify S F",
+        Status::Done,
+        "0000001              ORG /4000\n0000002 4000 704000  DLY /4000\nCERTIFIED ROWS 1 CASES 1\n",
+    ),
+    (
+        CELLS,
+        "AT 0100 ANY\n",
+        1,
+        "END\n",
+        "certify S F",
+        Status::BadCert,
+        "CERTIFICATE LINE 67 ERROR 8 TooManyAt\n",
+    ),
+    // the input registers of a machine file
+    (REGISTERS, "", 0, "]\n", "xref S F", Status::Done, ""),
+    (
+        REGISTERS,
+        "{ address = 32 }, ",
+        1,
+        "]\n",
+        "xref S F",
+        Status::BadMachine,
+        "MACHINE ERROR 3 BadValue input\n",
+    ),
+];
+
+#[test]
+fn what_is_stated_has_limits(rt: HostRuntime) {
+    expect_limits(&rt, &STATED);
+}
+
+/// A part of a long text.
+enum Part {
+    /// A piece, and how often it stands there.
+    Piece(&'static str, u32),
+    /// Lines for the numbers from 1 to this one, each between two pieces.
+    Numbers(&'static str, u32, &'static str),
+    /// Lines for the addresses from the first to the one before the second, in four octal digits between two pieces, and how often each
+    /// stands there.
+    Addresses(&'static str, u16, u16, u32, &'static str),
+}
+
+/// Adds a piece so often to a text.
+fn add(rt: &impl Abort, text: &mut String, piece: &str, count: u32) {
+    for _ in 0..count {
+        assert!(rt; text.push_str(piece).is_ok());
     }
 }
 
-/// Adds a line to a text.
-fn add_line(rt: &impl Abort, text: &mut Vec<u8>, line: &str) {
-    assert!(rt; text.extend_from_slice(line.as_bytes()).is_ok());
-    assert!(rt; text.push(b'\n').is_ok());
-}
-
-/// An address in four octal digits.
-fn octal(address: u16) -> [u8; 4] {
-    let digits = [
-        address / 512 % 8,
-        address / 64 % 8,
-        address / 8 % 8,
-        address % 8,
-    ];
-    [
-        b'0' + digits[0] as u8,
-        b'0' + digits[1] as u8,
-        b'0' + digits[2] as u8,
-        b'0' + digits[3] as u8,
-    ]
-}
-
-/// Adds a line with an address between two parts to a text.
-fn add_addressed(rt: &impl Abort, text: &mut Vec<u8>, first: &str, address: u16, last: &str) {
-    assert!(rt; text.extend_from_slice(first.as_bytes()).is_ok());
-    assert!(rt; text.extend_from_slice(&octal(address)).is_ok());
-    add_line(rt, text, last);
-}
-
-/// A source of 2000 orders, each of which goes to itself.
-fn loops(rt: &impl Abort, alloc: Global) -> Vec<u8> {
-    let mut text = Vec::new(alloc);
-    add_line(rt, &mut text, " ORG /4000");
-    for _ in 0..2000 {
-        add_line(rt, &mut text, " TRA *");
-    }
-    text
-}
-
-/// A certificate of it, with ten rows at each order.
-fn loops_certificate(rt: &impl Abort, alloc: Global) -> Vec<u8> {
-    let mut text = Vec::new(alloc);
-    add_line(rt, &mut text, "AGSCERT 1");
-    for place in 0..2000u16 {
-        for _ in 0..10 {
-            add_addressed(rt, &mut text, "ROW ", 2048 + place, " A ANY Q ANY X 0 V 0");
-        }
-    }
-    add_line(rt, &mut text, "END");
-    text
-}
-
-/// Adds so many lines, each with its number from 1 between two parts, to a text.
-fn add_numbered(
-    rt: &(impl AllocGlobal + Abort),
-    text: &mut Vec<u8>,
+/// Adds the lines for numbers to a text.
+fn add_numbers(
+    rt: &impl Abort,
+    alloc: Global,
+    text: &mut String,
     first: &str,
     count: u32,
     last: &str,
 ) {
-    for place in 0..count {
-        let number = place + 1;
-        let line = format!(in rt.alloc(); "{first}{number}{last}").expect(rt, "memory for a line");
-        add_line(rt, text, &line);
+    for passed in 0..count {
+        let number = passed + 1;
+        let line = format!(in alloc; "{first}{number}{last}").expect(rt, "memory for a line");
+        add(rt, text, &line, 1);
     }
 }
 
-// A text of times with a bound for each of 20,000 rows, and a text of scales with a scale for each of 4096 cells and tags for each row.
+/// Adds the lines for an address to a text.
+fn add_address(
+    rt: &impl Abort,
+    alloc: Global,
+    text: &mut String,
+    first: &str,
+    address: u16,
+    count: u32,
+    last: &str,
+) {
+    let line = format!(in alloc; "{first}{address:04o}{last}").expect(rt, "memory for a line");
+    add(rt, text, &line, count);
+}
+
+/// The text of these parts.
+fn text_of(rt: &impl Abort, alloc: Global, parts: &[Part]) -> String {
+    let mut text = String::new(alloc);
+    for part in parts {
+        match part {
+            Part::Piece(piece, count) => add(rt, &mut text, piece, *count),
+            Part::Numbers(first, count, last) => {
+                add_numbers(rt, alloc, &mut text, first, *count, last)
+            }
+            Part::Addresses(first, from, to, count, last) => {
+                for address in *from..*to {
+                    add_address(rt, alloc, &mut text, first, address, *count, last);
+                }
+            }
+        }
+    }
+    text
+}
+
+/// A source of 2000 orders, each of which goes to itself.
+const LOOPS: [Part; 2] = [
+    Part::Piece(" ORG /4000\n", 1),
+    Part::Piece(" TRA *\n", 2000),
+];
+
+/// A certificate of it, with ten rows at each order.
+const LOOPS_CERTIFICATE: [Part; 3] = [
+    Part::Piece("AGSCERT 1\n", 1),
+    Part::Addresses("ROW ", 2048, 4048, 10, " A ANY Q ANY X 0 V 0\n"),
+    Part::Piece("END\n", 1),
+];
+
+/// A text of times with a bound for each of 20,000 rows.
+const TIMES: [Part; 3] = [
+    Part::Piece("AGSTIME 1\n", 1),
+    Part::Numbers("TIME ", 20_000, " 20000\n"),
+    Part::Piece("END\n", 1),
+];
+
+/// A text of scales with a scale for each of 4096 cells and tags for each row.
+const SCALES: [Part; 4] = [
+    Part::Piece("AGSSCALE 1\n", 1),
+    Part::Addresses("CELL ", 0, 4096, 1, " -128\n"),
+    Part::Numbers("ROW ", 20_000, " ANY RAW\n"),
+    Part::Piece("END\n", 1),
+];
+
+/// Adds the text of these parts to a shelf.
+fn add_parts(rt: &impl Abort, alloc: Global, shelf: &mut MemoryShelf, name: &str, parts: &[Part]) {
+    let text = text_of(rt, alloc, parts);
+    assert!(rt; shelf.add(name, text.as_bytes()).is_ok());
+}
+
 #[test]
 fn each_row_and_each_cell_may_be_named(rt: HostRuntime) {
     let alloc = rt.alloc();
-    let mut times = Vec::new(alloc);
-    add_line(&rt, &mut times, "AGSTIME 1");
-    add_numbered(&rt, &mut times, "TIME ", 20_000, " 20000");
-    add_line(&rt, &mut times, "END");
-    let mut scales = Vec::new(alloc);
-    add_line(&rt, &mut scales, "AGSSCALE 1");
-    for address in 0..4096u16 {
-        add_addressed(&rt, &mut scales, "CELL ", address, " -128");
-    }
-    add_numbered(&rt, &mut scales, "ROW ", 20_000, " ANY RAW");
-    add_line(&rt, &mut scales, "END");
-    let source = loops(&rt, alloc);
-    let certificate = loops_certificate(&rt, alloc);
-    let files = [
-        ("S", source.as_slice()),
-        ("C", certificate.as_slice()),
-        ("T", times.as_slice()),
-        ("K", scales.as_slice()),
-    ];
-    let mut shelf = shelf_of(&rt, alloc, &files);
+    let mut shelf = MemoryShelf::new(alloc);
+    add_parts(&rt, alloc, &mut shelf, "S", &LOOPS);
+    add_parts(&rt, alloc, &mut shelf, "C", &LOOPS_CERTIFICATE);
+    add_parts(&rt, alloc, &mut shelf, "T", &TIMES);
+    add_parts(&rt, alloc, &mut shelf, "K", &SCALES);
     let text =
         "CERTIFIED ROWS 20000 CASES 20000\nOVER ROW 1 WORD 404000 X 0 V 0 NEXT 4000 NEEDS 20010 BOUND 20000\n";
-    expect_over(&rt, &mut shelf, "budget S C T", Status::No, text);
-    let text = "CERTIFIED ROWS 20000 CASES 20000\nSCALES AGREE\n";
-    expect_over(&rt, &mut shelf, "scales S C K", Status::Done, text);
-}
-
-/// A text of so many edits that put an order into the place where it stands.
-fn same_words(rt: &impl Abort, alloc: Global, count: u32) -> Vec<u8> {
-    let mut text = Vec::new(alloc);
-    add_line(rt, &mut text, "AGSEDIT 1");
-    for _ in 0..count {
-        add_line(rt, &mut text, "WORD 4000 704000");
-    }
-    add_line(rt, &mut text, "END");
-    text
-}
-
-// There are 10,000 edits at most. The further one is told where it stands, in the line after theirs.
-#[test]
-fn texts_of_edits_have_ten_thousand_at_most(rt: HostRuntime) {
-    let alloc = rt.alloc();
-    let mut wanted = String::new(alloc);
-    add(&rt, &mut wanted, "CERTIFIED ROWS 1 CASES 1\n");
-    for place in 0..10_000u32 {
-        let number = place + 1;
-        let line = format!(in alloc; "EDIT {number} CERTIFIED ROWS 1 CASES 1\n");
-        add(&rt, &mut wanted, &line.expect(&rt, "memory for a line"));
-    }
-    let most = same_words(&rt, alloc, 10_000);
-    expect_file(
+    expect_over(
         &rt,
-        most.as_slice(),
-        "edits S C F",
-        Status::Done,
-        wanted.as_str(),
+        &(),
+        &mut shelf,
+        4096,
+        ("budget S C T", Status::No, text),
     );
-    let more = same_words(&rt, alloc, 10_001);
-    let text = "EDITS LINE 10002 ERROR 6 TooManyEdits\n";
-    expect_file(&rt, more.as_slice(), "edits S C F", Status::BadText, text);
+    let text = "CERTIFIED ROWS 20000 CASES 20000\nSCALES AGREE\n";
+    expect_over(
+        &rt,
+        &(),
+        &mut shelf,
+        4096,
+        ("scales S C K", Status::Done, text),
+    );
+}
+
+/// A text of edits that put an order into the place where it stands, as many as there may be.
+const SAME_WORDS: [Part; 3] = [
+    Part::Piece("AGSEDIT 1\n", 1),
+    Part::Piece("WORD 4000 704000\n", 10_000),
+    Part::Piece("END\n", 1),
+];
+
+/// What is told of them.
+const SAME_WORDS_TOLD: [Part; 2] = [
+    Part::Piece("CERTIFIED ROWS 1 CASES 1\n", 1),
+    Part::Numbers("EDIT ", 10_000, " CERTIFIED ROWS 1 CASES 1\n"),
+];
+
+// One more is among the limits above.
+#[test]
+fn texts_of_edits_may_have_ten_thousand(rt: HostRuntime) {
+    let alloc = rt.alloc();
+    let text = text_of(&rt, alloc, &SAME_WORDS_TOLD);
+    let files = [("S", WAITING), ("C", WAITING_CERTIFICATE)];
+    let mut shelf = shelf_of(&rt, alloc, &files);
+    add_parts(&rt, alloc, &mut shelf, "F", &SAME_WORDS);
+    expect_over(
+        &rt,
+        &(),
+        &mut shelf,
+        4096,
+        ("edits S C F", Status::Done, &text),
+    );
 }
 
 /// A certificate of the loops, with ten rows at each of them in which everything may stand.
-fn wide_certificate(rt: &impl Abort, alloc: Global) -> Vec<u8> {
-    let mut text = Vec::new(alloc);
-    add_line(rt, &mut text, "AGSCERT 1");
-    for place in 0..2000u16 {
-        for _ in 0..10 {
-            add_addressed(
-                rt,
-                &mut text,
-                "ROW ",
-                2048 + place,
-                " A ANY Q ANY X 01234567 V 01",
-            );
-        }
+const WIDE_CERTIFICATE: [Part; 3] = [
+    Part::Piece("AGSCERT 1\n", 1),
+    Part::Addresses("ROW ", 2048, 4048, 10, " A ANY Q ANY X 01234567 V 01\n"),
+    Part::Piece("END\n", 1),
+];
+
+/// What is told of edits of its first rows.
+const ROWS_TOLD: [Part; 2] = [
+    Part::Piece("CERTIFIED ROWS 20000 CASES 320000\n", 1),
+    Part::Numbers("EDIT ", 10_000, " CERTIFIED ROWS 20000 CASES 320000\n"),
+];
+
+/// Edits that replace each of the first 10,000 rows by one with a lesser range.
+fn lesser_rows(rt: &impl Abort, alloc: Global) -> String {
+    let mut edits = String::from_str(alloc, "AGSEDIT 1\n").expect(rt, "memory for a text");
+    for passed in 0..10_000u16 {
+        let number = passed + 1;
+        let address = 2048 + passed / 10;
+        let row = format!(in alloc;
+            "ROW {number} {address:04o} A RANGE 0 {number} Q ANY X 01234567 V 01\n"
+        );
+        add(rt, &mut edits, &row.expect(rt, "memory for a line"), 1);
     }
-    add_line(rt, &mut text, "END");
-    text
+    add(rt, &mut edits, "END\n", 1);
+    edits
 }
 
-// Each of the first 10,000 of 20,000 rows is replaced by one with a lesser range. A check from nothing after each would take hours.
+// A check from nothing after each edit would take hours.
 #[test]
 fn ten_thousand_rows_are_edited(rt: HostRuntime) {
     let alloc = rt.alloc();
-    let mut edits = Vec::new(alloc);
-    add_line(&rt, &mut edits, "AGSEDIT 1");
-    let mut wanted = String::new(alloc);
-    add(&rt, &mut wanted, "CERTIFIED ROWS 20000 CASES 320000\n");
-    for place in 0..10_000u32 {
-        let number = place + 1;
-        let row = format!(in alloc; "ROW {number} ").expect(&rt, "memory for a line");
-        let end = format!(in alloc; " A RANGE 0 {number} Q ANY X 01234567 V 01").expect(
-            &rt,
-            "memory for a line",
-        );
-        add_addressed(&rt, &mut edits, &row, 2048 + (place / 10) as u16, &end);
-        let line = format!(in alloc; "EDIT {number} CERTIFIED ROWS 20000 CASES 320000\n");
-        add(&rt, &mut wanted, &line.expect(&rt, "memory for a line"));
-    }
-    add_line(&rt, &mut edits, "END");
-    let source = loops(&rt, alloc);
-    let certificate = wide_certificate(&rt, alloc);
-    let files = [
-        ("S", source.as_slice()),
-        ("C", certificate.as_slice()),
-        ("E", edits.as_slice()),
-    ];
-    let mut shelf = shelf_of(&rt, alloc, &files);
+    let edits = lesser_rows(&rt, alloc);
+    let mut shelf = shelf_of(&rt, alloc, &[("E", edits.as_str())]);
+    add_parts(&rt, alloc, &mut shelf, "S", &LOOPS);
+    add_parts(&rt, alloc, &mut shelf, "C", &WIDE_CERTIFICATE);
+    let text = text_of(&rt, alloc, &ROWS_TOLD);
     expect_over(
         &rt,
+        &(),
         &mut shelf,
-        "edits S C E",
-        Status::Done,
-        wanted.as_str(),
+        4096,
+        ("edits S C E", Status::Done, &text),
     );
-}
-
-// A certificate of empty lines after its first, as long as it may be and one byte longer. Its END is missing.
-#[test]
-fn certificates_have_a_limit(rt: HostRuntime) {
-    let alloc = rt.alloc();
-    let mut file = many(&rt, alloc, b'\n', 0);
-    assert!(&rt; file.extend_from_slice(b"AGSCERT 1\n").is_ok());
-    let lines = many(&rt, alloc, b'\n', 67_108_854);
-    assert!(&rt; file.extend_from_slice(lines.as_slice()).is_ok());
-    let text = "CERTIFICATE LINE 67108856 ERROR 1 BadLine\n";
-    expect_file(&rt, file.as_slice(), "certify S F", Status::BadCert, text);
-    assert!(&rt; file.push(b'\n').is_ok());
-    let text = "LONG F 67108864\n";
-    expect_file(&rt, file.as_slice(), "certify S F", Status::LongFile, text);
-}
-
-// A listing as long as it may be, whose first line is empty.
-#[test]
-fn listings_have_a_limit(rt: HostRuntime) {
-    let file = many(&rt, rt.alloc(), b'\n', 134_217_728);
-    let text = "LISTING LINE 1 ERROR 1 BadLine\n";
-    expect_file(&rt, file.as_slice(), "compare S F", Status::BadText, text);
 }
 
 /// A shelf with the source S, and whose every other file is zeros without an end.
@@ -339,152 +593,47 @@ impl Shelf for EndlessShelf {
     }
 }
 
-/// A command line that reads F, and the limit of that.
-const ENDLESS: [(&str, &str); 5] = [
-    ("assemble F", "LONG F 4194304\n"),
-    ("run S F", "LONG F 4194304\n"),
-    ("xref S F", "LONG F 65536\n"),
-    ("certify S F", "LONG F 67108864\n"),
-    ("compare S F", "LONG F 134217728\n"),
+/// Command lines that read F, and the limit of that.
+const ENDLESS: [Answer; 5] = [
+    ("assemble F", Status::LongFile, "LONG F 4194304\n"),
+    ("run S F", Status::LongFile, "LONG F 4194304\n"),
+    ("xref S F", Status::LongFile, "LONG F 65536\n"),
+    ("certify S F", Status::LongFile, "LONG F 67108864\n"),
+    ("compare S F", Status::LongFile, "LONG F 134217728\n"),
 ];
 
 #[test]
 fn a_file_without_an_end_is_too_long(rt: HostRuntime) {
-    let mut held = MemoryShelf::new(rt.alloc());
-    assert!(&rt; held.add("S", WAITING.as_bytes()).is_ok());
+    let held = shelf_of(&rt, rt.alloc(), &[("S", WAITING)]);
     let mut shelf = EndlessShelf { held };
-    for &(line, text) in &ENDLESS {
-        expect_over(&rt, &mut shelf, line, Status::LongFile, text);
+    for answer in &ENDLESS {
+        expect_over(&rt, &(), &mut shelf, 4096, *answer);
     }
 }
 
-// A script's line has 512 bytes at most, its line feed not counted.
-#[test]
-fn lines_of_scripts_have_a_limit(rt: HostRuntime) {
-    let mut line = many(&rt, rt.alloc(), b'#', 512);
-    expect_file(&rt, line.as_slice(), "run S F", Status::Done, "");
-    assert!(&rt; line.push(b'#').is_ok());
-    let text = "SCRIPT LINE 1 ERROR 1 BadLine\n";
-    expect_file(&rt, line.as_slice(), "run S F", Status::BadText, text);
-}
+/// A source of forty orders, each of which goes to itself.
+const FORTY_LOOPS: [Part; 2] = [Part::Piece(" ORG /4000\n", 1), Part::Piece(" TRA *\n", 40)];
 
-// A cycle counts as 20,000 steps, whatever the phase.
-#[test]
-fn steps_have_a_limit(rt: HostRuntime) {
-    expect_file(
-        &rt,
-        b"CYCLE 4999\nSTEP 20000\n",
-        "run S F",
-        Status::Done,
-        "",
-    );
-    let text = "SCRIPT LINE 3 ERROR 3 TooManySteps\n";
-    expect_file(
-        &rt,
-        b"CYCLE 4999\nSTEP 20000\nSTEP 1\n",
-        "run S F",
-        Status::BadText,
-        text,
-    );
-    let text = "SCRIPT LINE 1 ERROR 3 TooManySteps\n";
-    expect_file(&rt, b"STEP 100000001\n", "run S F", Status::BadText, text);
-}
+/// A certificate of it with 20,000 rows: 512 at each of 39 locations, and 32 at one more.
+const MOST_ROWS: [Part; 4] = [
+    Part::Piece("AGSCERT 1\n", 1),
+    Part::Addresses("ROW ", 2048, 2087, 512, " A ANY Q ANY X 0 V 0\n"),
+    Part::Addresses("ROW ", 2087, 2088, 32, " A ANY Q ANY X 0 V 0\n"),
+    Part::Piece("END\n", 1),
+];
 
-/// A certificate whose one limit is a set of sixteen words, but for its rows.
-const SIXTEEN: &str =
-    "AGSCERT 1\nCELL 0017 WORDS 000000 000001 000002 000003 000004 000005 000006 000007 000010 000011 000012 000013 000014 000015 000016 000017";
-
-#[test]
-fn sets_of_words_have_a_limit(rt: HostRuntime) {
-    let alloc = rt.alloc();
-    let file = joined(&rt, alloc, SIXTEEN, "\nEND\n");
-    let text = "CERTIFICATE LINE 3 ERROR 9 NoRows\n";
-    expect_file(&rt, file.as_bytes(), "certify S F", Status::BadCert, text);
-    let file = joined(&rt, alloc, SIXTEEN, " 000020\nEND\n");
-    let text = "CERTIFICATE LINE 2 ERROR 1 BadLine\n";
-    expect_file(&rt, file.as_bytes(), "certify S F", Status::BadCert, text);
-}
-
-/// A certificate of one row with so many cells.
-fn cells(rt: &impl Abort, alloc: Global, count: u8) -> String {
-    let mut file = joined(rt, alloc, "AGSCERT 1\n", "ROW 4000 A ANY Q ANY X 0 V 0\n");
-    for number in 0..count {
-        let line = format!(in alloc; "AT {number:04o} ANY\n").expect(rt, "memory for a line");
-        add(rt, &mut file, line.as_str());
-    }
-    add(rt, &mut file, "END\n");
-    file
-}
-
-#[test]
-fn cells_of_a_row_have_a_limit(rt: HostRuntime) {
-    let alloc = rt.alloc();
-    let listing = "0000001              ORG /4000\n0000002 4000 704000  DLY /4000\n";
-    let text = joined(&rt, alloc, listing, "CERTIFIED ROWS 1 CASES 1\n");
-    let file = cells(&rt, alloc, 64);
-    expect_file(
-        &rt,
-        file.as_bytes(),
-        "certify S F",
-        Status::Done,
-        text.as_str(),
-    );
-    let file = cells(&rt, alloc, 65);
-    let text = "CERTIFICATE LINE 67 ERROR 8 TooManyAt\n";
-    expect_file(&rt, file.as_bytes(), "certify S F", Status::BadCert, text);
-}
-
-/// A machine file with so many input registers, 64 at most.
-fn registers(rt: &impl Abort, alloc: Global, count: u8) -> String {
-    let mut file = joined(rt, alloc, "input = [", "");
-    for number in 0..count {
-        let entry = format!(in alloc; "{{ address = {number} }}, ").expect(
-            rt,
-            "memory for an entry",
-        );
-        add(rt, &mut file, entry.as_str());
-    }
-    add(rt, &mut file, "]\n");
-    file
-}
-
-#[test]
-fn registers_have_a_limit(rt: HostRuntime) {
-    let alloc = rt.alloc();
-    let file = registers(&rt, alloc, 32);
-    expect_file(&rt, file.as_bytes(), "xref S F", Status::Done, "");
-    let file = registers(&rt, alloc, 33);
-    let text = "MACHINE ERROR 3 BadValue input\n";
-    expect_file(&rt, file.as_bytes(), "xref S F", Status::BadMachine, text);
-}
-
-/// Adds the rows of one location, so many.
-fn add_rows(rt: &impl Abort, alloc: Global, text: &mut String, location: u16, count: u16) {
-    let row = format!(in alloc; "ROW {location:04o} A ANY Q ANY X 0 V 0\n").expect(
-        rt,
-        "memory for a row",
-    );
-    for _ in 0..count {
-        add(rt, text, row.as_str());
-    }
-}
-
-// 20,000 rows: 512 at each of 39 locations, and 32 at one more, where the order goes to itself.
 #[test]
 fn the_most_rows_are_certified(rt: HostRuntime) {
     let alloc = rt.alloc();
-    let mut source = joined(&rt, alloc, " ORG /4000\n", "");
-    let mut certificate = joined(&rt, alloc, "AGSCERT 1\n", "");
-    for place in 0u16..40 {
-        add(&rt, &mut source, " TRA *\n");
-        let count = if place < 39 { 512 } else { 32 };
-        add_rows(&rt, alloc, &mut certificate, 2048 + place, count);
-    }
-    add(&rt, &mut certificate, "END\n");
-    let mut shelf = MemoryShelf::new(alloc);
-    assert!(&rt; shelf.add("S", source.as_bytes()).is_ok());
-    assert!(&rt; shelf.add("P", b"").is_ok());
-    assert!(&rt; shelf.add("C", certificate.as_bytes()).is_ok());
+    let mut shelf = shelf_of(&rt, alloc, &[("P", "")]);
+    add_parts(&rt, alloc, &mut shelf, "S", &FORTY_LOOPS);
+    add_parts(&rt, alloc, &mut shelf, "C", &MOST_ROWS);
     let text = "CERTIFIED ROWS 20000 CASES 20000\n";
-    expect_over(&rt, &mut shelf, "guard S P C", Status::Done, text);
+    expect_over(
+        &rt,
+        &(),
+        &mut shelf,
+        4096,
+        ("guard S P C", Status::Done, text),
+    );
 }
