@@ -1,55 +1,57 @@
 //! The program over files in memory. The expected lines are typed by hand from docs/SOURCE.md, docs/MACHINE.md and
 //! docs/SCRIPT.md.
 
-use crate::command_lines::{Answer, Pair, expect_over, expect_pairs, expect_same, repeated};
+use crate::command_lines::{
+    Answer, File, Pair, expect_answers, expect_over, expect_pairs, expect_same, repeated,
+};
 use ags_command::{arguments_ask_for_one_command, arguments_ask_for_one_thing};
 use ags_top::{
     Status, arguments_have_one_answer, certified_lines_begin_with_certified,
     each_command_has_an_answer,
 };
 
+/// An empty source.
+const EMPTY: [File; 1] = [("S", "")];
+
 /// Arguments that ask for no command.
-const BAD_WORDS: [&str; 30] = [
-    "",
-    "assemble",
-    "workload",
-    "workload 0",
-    "workload 00",
-    "workload 007",
-    "workload 401",
-    "workload 4000000000000",
-    "workload 1 2",
-    "workload 1 M",
-    "workload +1",
-    "workload 1x",
-    "workload -1",
-    "assemble S M N",
-    "assemble S M N O",
-    "run",
-    "run S",
-    "run S P M N",
-    "guard S P",
-    "guard S P C M N",
-    "budget S C",
-    "budget S C T M N",
-    "scales S C",
-    "scales S C K M N",
-    "edits S C",
-    "edits S C E M N",
-    "RUN S P",
-    "run assemble",
-    "ASSEMBLE S",
-    "--help",
+const BAD_WORDS: [Answer; 31] = [
+    ("", Status::BadWords, "WORDS\n"),
+    ("assemble", Status::BadWords, "WORDS\n"),
+    ("workload", Status::BadWords, "WORDS\n"),
+    ("workload 0", Status::BadWords, "WORDS\n"),
+    ("workload 00", Status::BadWords, "WORDS\n"),
+    ("workload 007", Status::BadWords, "WORDS\n"),
+    ("workload 401", Status::BadWords, "WORDS\n"),
+    ("workload 4000000000000", Status::BadWords, "WORDS\n"),
+    ("workload 1 2", Status::BadWords, "WORDS\n"),
+    ("workload 1 M", Status::BadWords, "WORDS\n"),
+    ("workload +1", Status::BadWords, "WORDS\n"),
+    ("workload 1x", Status::BadWords, "WORDS\n"),
+    ("workload -1", Status::BadWords, "WORDS\n"),
+    ("assemble S M N", Status::BadWords, "WORDS\n"),
+    ("assemble S M N O", Status::BadWords, "WORDS\n"),
+    ("run", Status::BadWords, "WORDS\n"),
+    ("run S", Status::BadWords, "WORDS\n"),
+    ("run S P M N", Status::BadWords, "WORDS\n"),
+    ("guard S P", Status::BadWords, "WORDS\n"),
+    ("guard S P C M N", Status::BadWords, "WORDS\n"),
+    ("budget S C", Status::BadWords, "WORDS\n"),
+    ("budget S C T M N", Status::BadWords, "WORDS\n"),
+    ("scales S C", Status::BadWords, "WORDS\n"),
+    ("scales S C K M N", Status::BadWords, "WORDS\n"),
+    ("edits S C", Status::BadWords, "WORDS\n"),
+    ("edits S C E M N", Status::BadWords, "WORDS\n"),
+    ("RUN S P", Status::BadWords, "WORDS\n"),
+    ("run assemble", Status::BadWords, "WORDS\n"),
+    ("ASSEMBLE S", Status::BadWords, "WORDS\n"),
+    ("--help", Status::BadWords, "WORDS\n"),
+    // a file that is absent
+    ("assemble Z", Status::AbsentFile, "ABSENT Z\n"),
 ];
 
 #[test]
 fn refuses_arguments(rt: HostRuntime) {
-    let files = [("S", "")];
-    for line in &BAD_WORDS {
-        expect_over(&rt, &(), &files, (line, Status::BadWords, "WORDS\n"));
-    }
-    let answer = ("assemble Z", Status::AbsentFile, "ABSENT Z\n");
-    expect_over(&rt, &(), &files, answer);
+    expect_answers(&rt, &EMPTY, &BAD_WORDS);
 }
 
 #[test]
@@ -202,9 +204,7 @@ const FILES_IN_THEIR_ORDER: [Answer; 7] = [
 fn takes_files_in_their_order(rt: HostRuntime) {
     let long = repeated(&rt, rt.alloc(), "", "\n", 4_194_305);
     let files = [("S", " OCT 1\n"), ("B", " HLT 1\n"), ("L", &long)];
-    for answer in &FILES_IN_THEIR_ORDER {
-        expect_over(&rt, &(), &files, *answer);
-    }
+    expect_answers(&rt, &files, &FILES_IN_THEIR_ORDER);
     let answer = ("assemble S", Status::LongFile, "LONG S 4194304\n");
     expect_over(&rt, &(), &[("S", &long)], answer);
 }

@@ -26,13 +26,9 @@ const REFUSED: &str = "AGSCERT 1\nROW 4000 A ANY Q ANY X 0 V 0\nEND\n";
 /// A text of times that states nothing.
 const NO_TIMES: &str = "AGSTIME 1\nEND\n";
 
-/// The deck's bounds, of which that of the second row is less by one.
-const DECK_LATE_TIMES: &str =
-    "AGSTIME 1\nTIME 1 492\nTIME 2 471\nTIME 3 432\nTIME 4 422\nTIME 5 316\nTIME 6 306\nTIME 7 286\nTIME 8 266\nTIME 9 226\nTIME 10 216\nTIME 11 110\nTIME 12 100\nTIME 13 80\nTIME 14 60\nTIME 15 50\nTIME 16 40\nTIME 17 30\nTIME 18 10\nTIME 19 406\nTIME 20 396\nTIME 21 386\nTIME 22 346\nTIME 23 336\nTIME 24 376\nTIME 25 366\nTIME 26 356\nTIME 27 346\nTIME 28 336\nTIME 29 346\nTIME 30 336\nTIME 31 326\nTIME 32 200\nTIME 33 190\nTIME 34 180\nTIME 35 140\nTIME 36 130\nTIME 37 170\nTIME 38 160\nTIME 39 150\nTIME 40 140\nTIME 41 130\nTIME 42 140\nTIME 43 130\nTIME 44 120\nEND\n";
-
 /// A source, a certificate and a text of times: bounds that are kept, bounds of which the first that isn't is told, and texts that
 /// aren't read.
-const JUDGED: [Triple; 12] = [
+const JUDGED: [Triple; 10] = [
     (
         LOOP,
         LOOP_CERTIFICATE,
@@ -68,21 +64,6 @@ const JUDGED: [Triple; 12] = [
         NO_TIMES,
         Status::No,
         "REFUSED 10 NotCovered ROW 1 WORD 642001 X 0 V 0 NEXT 4001\n",
-    ),
-    // the deck's bounds, and one of them less by one
-    (
-        DECK,
-        DECK_SPLIT_CERTIFICATE,
-        DECK_TIMES,
-        Status::Done,
-        "CERTIFIED ROWS 44 CASES 44\nWITHIN 492\n",
-    ),
-    (
-        DECK,
-        DECK_SPLIT_CERTIFICATE,
-        DECK_LATE_TIMES,
-        Status::No,
-        "CERTIFIED ROWS 44 CASES 44\nOVER ROW 2 WORD 540003 X 0 V 0 NEXT 4002 NEEDS 472 BOUND 471\n",
     ),
     // texts of times for three rows, each with the line of its first fault
     (
@@ -125,6 +106,33 @@ const JUDGED: [Triple; 12] = [
 #[test]
 fn judges_bounds(rt: HostRuntime) {
     expect_triples(&rt, "budget S C T", ("C", "T"), &JUDGED);
+}
+
+/// The deck's bounds, of which that of the second row is less by one.
+const DECK_LATE_TIMES: &str =
+    "AGSTIME 1\nTIME 1 492\nTIME 2 471\nTIME 3 432\nTIME 4 422\nTIME 5 316\nTIME 6 306\nTIME 7 286\nTIME 8 266\nTIME 9 226\nTIME 10 216\nTIME 11 110\nTIME 12 100\nTIME 13 80\nTIME 14 60\nTIME 15 50\nTIME 16 40\nTIME 17 30\nTIME 18 10\nTIME 19 406\nTIME 20 396\nTIME 21 386\nTIME 22 346\nTIME 23 336\nTIME 24 376\nTIME 25 366\nTIME 26 356\nTIME 27 346\nTIME 28 336\nTIME 29 346\nTIME 30 336\nTIME 31 326\nTIME 32 200\nTIME 33 190\nTIME 34 180\nTIME 35 140\nTIME 36 130\nTIME 37 170\nTIME 38 160\nTIME 39 150\nTIME 40 140\nTIME 41 130\nTIME 42 140\nTIME 43 130\nTIME 44 120\nEND\n";
+
+/// The deck with its certificate, its bounds, and bounds of which one is less.
+const JUDGED_DECK: [Triple; 2] = [
+    (
+        DECK,
+        DECK_SPLIT_CERTIFICATE,
+        DECK_TIMES,
+        Status::Done,
+        "CERTIFIED ROWS 44 CASES 44\nWITHIN 492\n",
+    ),
+    (
+        DECK,
+        DECK_SPLIT_CERTIFICATE,
+        DECK_LATE_TIMES,
+        Status::No,
+        "CERTIFIED ROWS 44 CASES 44\nOVER ROW 2 WORD 540003 X 0 V 0 NEXT 4002 NEEDS 472 BOUND 471\n",
+    ),
+];
+
+#[test]
+fn judges_the_bounds_of_the_deck(rt: HostRuntime) {
+    expect_triples(&rt, "budget S C T", ("C", "T"), &JUDGED_DECK);
 }
 
 /// A source S and one with a fault, P; its certificate C, and one that its verdict refuses, R; its bounds T, and a text that is no

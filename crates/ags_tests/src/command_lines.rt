@@ -57,8 +57,27 @@ pub(crate) fn shelf_of(rt: &impl Abort, alloc: Global, files: &[File<'_>]) -> St
     shelf
 }
 
-/// Runs a command line over a shelf, into a sink that takes so many bytes at once, and expects its status and what is printed. A
-/// failed assertion shows the case.
+/// Runs the program with these arguments over a shelf, into a sink that takes so many bytes at once, and expects its status and what is
+/// printed. A failed assertion shows the case.
+pub(crate) fn expect_told<S: Shelf, C: PartialEq + Debug>(
+    rt: &(impl AllocGlobal + Abort),
+    case: &C,
+    shelf: &mut S,
+    most: usize,
+    arguments: &[String],
+    told: (Status, &str),
+) {
+    let alloc = rt.alloc();
+    let mut out = SteadySink::new(alloc, most.max(1));
+    let ended = ags_main(alloc, arguments, shelf, &mut out);
+    expect_same(
+        rt,
+        &(case, most, ended, str::from_utf8(out.bytes())),
+        &(case, most, told.0, Ok(told.1)),
+    );
+}
+
+/// The same with the arguments of a command line.
 pub(crate) fn expect_end<S: Shelf, C: PartialEq + Debug>(
     rt: &(impl AllocGlobal + Abort),
     case: &C,
@@ -66,16 +85,10 @@ pub(crate) fn expect_end<S: Shelf, C: PartialEq + Debug>(
     most: usize,
     answer: Answer<'_>,
 ) {
-    let alloc = rt.alloc();
     let (line, status, text) = answer;
-    let mut out = SteadySink::new(alloc, most.max(1));
-    let arguments = arguments_of(rt, alloc, line);
-    let ended = ags_main(alloc, &arguments, shelf, &mut out);
-    expect_same(
-        rt,
-        &(case, line, most, ended, str::from_utf8(out.bytes())),
-        &(case, line, most, status, Ok(text)),
-    );
+    let arguments = arguments_of(rt, rt.alloc(), line);
+    let case = (case, line);
+    expect_told(rt, &case, shelf, most, &arguments, (status, text));
 }
 
 /// How many bytes a sink takes at once: a whole line, a few, and one.

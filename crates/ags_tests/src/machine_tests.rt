@@ -1,7 +1,7 @@
 //! Command lines with a machine file. The expected lines are typed by hand from docs/MACHINE.md and the README.
 
 use crate::command_lines::{
-    Answer, Pair, Triple, expect_over, expect_pairs, expect_triples, repeated,
+    Answer, Pair, Triple, expect_answers, expect_pairs, expect_triples, repeated,
 };
 use ags_top::Status;
 
@@ -82,9 +82,7 @@ const FILES_IN_THEIR_ORDER: [Answer; 7] = [
 fn takes_the_machine_file_first(rt: HostRuntime) {
     let long = repeated(&rt, rt.alloc(), "", "\n", 65_537);
     let files = [("S", FIRST), ("M", ""), ("L", &long)];
-    for answer in &FILES_IN_THEIR_ORDER {
-        expect_over(&rt, &(), &files, *answer);
-    }
+    expect_answers(&rt, &files, &FILES_IN_THEIR_ORDER);
 }
 
 /// A source that runs the word 104010.

@@ -50,20 +50,25 @@ fn is_same_source(one: &Assembled, other: &Assembled) -> bool {
         .all(|(card, twin)| is_same_card(card, twin))
 }
 
+/// Whether two answers are the same: the bytes and the source, or the fault.
+fn is_same_answer(
+    one: &Result<(Vec<u8>, Assembled), AssembleError>,
+    other: &Result<Assembled, AssembleError>,
+    source: &[u8],
+) -> bool {
+    match (one, other) {
+        (Ok((bytes, made)), Ok(other)) => bytes.as_slice() == source && is_same_source(made, other),
+        (Err(AssembleError::Source(error)), Err(AssembleError::Source(other))) => error == other,
+        _ => false,
+    }
+}
+
 /// Expects the answer of the whole text, and its bytes where it has no fault, wherever it is cut.
 fn expect_same_in_two(rt: &impl Abort, alloc: Global, source: &[u8]) {
     let wanted = whole(rt, alloc, source);
     for cut in 0..source.len() + 1 {
-        match (&in_two(rt, alloc, source, cut), &wanted) {
-            (Ok((bytes, made)), Ok(other)) => {
-                assert!(rt; bytes.as_slice() == source);
-                assert!(rt; is_same_source(made, other));
-            }
-            (Err(AssembleError::Source(error)), Err(AssembleError::Source(other))) => {
-                assert!(rt; error == other);
-            }
-            _ => assert!(rt; false),
-        }
+        let told = in_two(rt, alloc, source, cut);
+        assert!(rt; is_same_answer(&told, &wanted, source), "cut at {cut}");
     }
 }
 

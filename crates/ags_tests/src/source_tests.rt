@@ -4,12 +4,20 @@
 use crate::command_lines::{expect_end, expect_over};
 use ags_outside::SteadyShelf;
 use ags_top::Status;
+use std::process::Abort;
 
-/// A source, and the line of its first fault.
-type Faulty = (&'static str, &'static str);
+/// A source, and what is printed of it.
+type Printed = (&'static str, &'static str);
+
+/// Expects what a command line prints of each source S.
+fn expect_sources(rt: &(impl AllocGlobal + Abort), line: &str, status: Status, rows: &[Printed]) {
+    for &(source, text) in rows {
+        expect_over(rt, &source, &[("S", source)], (line, status, text));
+    }
+}
 
 /// What is wrong in a source of few cards.
-const FAULTY: [Faulty; 45] = [
+const FAULTY: [Printed; 45] = [
     // a line that is no text
     ("\0", "SOURCE CARD 0000001 ERROR 1 BadByte\n"),
     (" OCT 1\r\r\n", "SOURCE CARD 0000001 ERROR 1 BadByte\n"),
@@ -130,14 +138,11 @@ const FAULTY: [Faulty; 45] = [
 
 #[test]
 fn says_what_is_wrong_in_a_source(rt: HostRuntime) {
-    for &(source, line) in &FAULTY {
-        let answer = ("assemble S", Status::BadSource, line);
-        expect_over(&rt, &source, &[("S", source)], answer);
-    }
+    expect_sources(&rt, "assemble S", Status::BadSource, &FAULTY);
 }
 
 /// Sources of which the phases of cards, places and words find faults.
-const FAULTY_IN_PHASES: [Faulty; 24] = [
+const FAULTY_IN_PHASES: [Printed; 24] = [
     // the phase of cards comes first, and its least number
     (
         " CLA 1\n BSS -1\n XYZ\n",
@@ -207,10 +212,7 @@ const FAULTY_IN_PHASES: [Faulty; 24] = [
 
 #[test]
 fn says_the_fault_of_the_first_phase(rt: HostRuntime) {
-    for &(source, line) in &FAULTY_IN_PHASES {
-        let answer = ("assemble S", Status::BadSource, line);
-        expect_over(&rt, &source, &[("S", source)], answer);
-    }
+    expect_sources(&rt, "assemble S", Status::BadSource, &FAULTY_IN_PHASES);
 }
 
 /// Bytes that are no card: one that is no text, and one too many.
@@ -255,92 +257,77 @@ const LISTS_NAMING: &str =
 const LISTS_TAPE: &str =
     "4000 000001\n4001 000002\n4002 000003\n4005 404001\n4006 000001\n4007 777777\n";
 
-/// A command line over a source S, that source, and what is printed.
-const PRINTED: [(&str, &str, &str); 22] = [
+/// Sources and their listings.
+const LISTED: [Printed; 14] = [
     (
-        "assemble S",
         FIRST,
         "0000001             * FIRST\n0000002              ORG /4000\n0000003 4000 000007 A OCT 7\n",
     ),
-    ("assemble S", "", ""),
+    ("", ""),
     // words of orders, decimals and octal numbers; symbols before and after their cards; places that cards set
     (
-        "assemble S",
         " TRA /4001\n ADD /200,1\n COM ANY REMARK\n",
         "0000001 0000 404001  TRA /4001\n0000002 0001 230200  ADD /200,1\n0000003 0002 600000  COM ANY REMARK\n",
     ),
     (
-        "assemble S",
         " DEC 1.5B3\n DEC -1B0\n DEC 0.5B17\n DEC -0.5B17\n DEC -0\n",
         "0000001 0000 060000  DEC 1.5B3\n0000002 0001 400000  DEC -1B0\n0000003 0002 000001  DEC 0.5B17\n0000004 0003 777777  DEC -0.5B17\n0000005 0004 000000  DEC -0\n",
     ),
+    ("A1 DEC 3E-1B2\n", "0000001 0000 023146 A1 DEC 3E-1B2\n"),
     (
-        "assemble S",
-        "A1 DEC 3E-1B2\n",
-        "0000001 0000 023146 A1 DEC 3E-1B2\n",
-    ),
-    (
-        "assemble S",
         " CLA Y\nY EQU 1\n",
         "0000001 0000 200001  CLA Y\n0000002             Y EQU 1\n",
     ),
     // an ORG's symbol has the new place, a BSS's the old one, and an asterisk is the place of its card
     (
-        "assemble S",
         "A ORG /20\nB BSS *-16\n CLA A\n CLA B\n TRA *+1\n",
         "0000001             A ORG /20\n0000002             B BSS *-16\n0000003 0020 200020  CLA A\n0000004 0021 200020  CLA B\n0000005 0022 400023  TRA *+1\n",
     ),
     // what stands after the first END isn't read
     (
-        "assemble S",
         " OCT -1\r\n END\r\n\0 NO CARD\n",
         "0000001 0000 777777  OCT -1\n0000002              END\n",
     ),
     // the symbol of an END after the last place
     (
-        "assemble S",
         " ORG 4095\n OCT 7\nTOP END",
         "0000001              ORG 4095\n0000002 7777 000007  OCT 7\n0000003             TOP END\n",
     ),
     // tabs, a symbol that is spelled as an operation, and an index on an order that doesn't count it
     (
-        "assemble S",
         "ORG\tOCT\t7\t7\n TIX ORG,1\n",
         "0000001 0000 000007 ORG\tOCT\t7\t7\n0000002 0001 430000  TIX ORG,1\n",
     ),
-    (
-        "assemble S",
-        " OCT 1 ,2\n",
-        "0000001 0000 000001  OCT 1 ,2\n",
-    ),
-    (
-        "assemble S",
-        "\r\n\n",
-        "0000001             \n0000002             \n",
-    ),
+    (" OCT 1 ,2\n", "0000001 0000 000001  OCT 1 ,2\n"),
+    ("\r\n\n", "0000001             \n0000002             \n"),
     // a card of 120 bytes, and an expression that fills it
     (
-        "assemble S",
         " CLA 1+1+1+1+1+1+1+1+1+1+1+1+1+1+1+1+1+1+1+1+1+1+1+1+1+1+1+1+1+1+1+1+1+1+1+1+1+1+1+1+1+1+1+1+1+1+1+1+1+1+1+1+1+1+1+1+1+1\n",
         "0000001 0000 200072  CLA 1+1+1+1+1+1+1+1+1+1+1+1+1+1+1+1+1+1+1+1+1+1+1+1+1+1+1+1+1+1+1+1+1+1+1+1+1+1+1+1+1+1+1+1+1+1+1+1+1+1+1+1+1+1+1+1+1+1\n",
     ),
     // lists have further lines
-    ("assemble S", LISTS, LISTS_LINES),
-    ("xref S", LISTS, LISTS_NAMING),
-    ("tape S", LISTS, LISTS_TAPE),
-    ("tape S", FIRST, "4000 000007\n"),
-    ("tape S", "", ""),
+    (LISTS, LISTS_LINES),
+];
+
+/// Sources and their tapes.
+const TAPES: [Printed; 4] = [
+    (LISTS, LISTS_TAPE),
+    (FIRST, "4000 000007\n"),
+    ("", ""),
     // ascending, whatever the order of the cards, and a word 000000 too
     (
-        "tape S",
         " ORG /30\n OCT 2\n ORG /20\n OCT 0\n DEC -1\n",
         "0020 000000\n0021 777777\n0030 000002\n",
     ),
-    ("xref S", FIRST, "A         2048 0000003\n"),
-    ("xref S", "", ""),
+];
+
+/// Sources and their cross references.
+const REFERENCES: [Printed; 4] = [
+    (LISTS, LISTS_NAMING),
+    (FIRST, "A         2048 0000003\n"),
+    ("", ""),
     // by name, each card once, and no name of a remark
     (
-        "xref S",
         "ZZ EQU -1\nAB CLA ZZ+ZZ+2 ZZ\nA TRA AB AB\n* AB\n ADD ZZ+1\n",
         "A            1 0000003\nAB           0 0000002 0000003\nZZ          -1 0000001 0000002 0000005\n",
     ),
@@ -348,7 +335,7 @@ const PRINTED: [(&str, &str, &str); 22] = [
 
 #[test]
 fn prints_listings_tapes_and_cross_references(rt: HostRuntime) {
-    for &(line, source, text) in &PRINTED {
-        expect_over(&rt, &source, &[("S", source)], (line, Status::Done, text));
-    }
+    expect_sources(&rt, "assemble S", Status::Done, &LISTED);
+    expect_sources(&rt, "tape S", Status::Done, &TAPES);
+    expect_sources(&rt, "xref S", Status::Done, &REFERENCES);
 }

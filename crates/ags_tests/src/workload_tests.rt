@@ -2,15 +2,15 @@
 
 ghost use Rattle.std.specs.Prelude.{◌≡◌, ◌<◌, ◌≤◌};
 
-use crate::command_lines::{Answer, arguments_of, expect_answers, expect_same};
+use crate::command_lines::{Answer, arguments_of, expect_answers, expect_same, expect_told};
 use ags_asm::{Assembled, assemble};
 use ags_cert::{Cert, read};
 use ags_check::{Verdict, check};
 use ags_load::{cert, cert_is_within_its_limit, source, source_is_within_its_limit};
-use ags_outside::{SteadyShelf, SteadySink};
+use ags_outside::SteadyShelf;
 use ags_ports::Machine;
 use ags_steps::Steps;
-use ags_top::{Status, ags_main};
+use ags_top::Status;
 use std::alloc::Global;
 use std::marker::Brand;
 use std::process::Abort;
@@ -52,18 +52,13 @@ const NO_SIZES: [&str; 4] = ["", " 1", "1 ", "1\n"];
 #[test]
 fn a_size_is_digits_alone(rt: HostRuntime) {
     let alloc = rt.alloc();
-    for size in NO_SIZES {
+    for &size in &NO_SIZES {
         let mut arguments = arguments_of(&rt, alloc, "workload");
         let own = String::from_str(alloc, size).expect(&rt, "memory for an argument");
         assert!(&rt; arguments.push(own).is_ok());
         let mut shelf = SteadyShelf::new(alloc);
-        let mut out = SteadySink::new(alloc, 9);
-        let ended = ags_main(alloc, &arguments, &mut shelf, &mut out);
-        expect_same(
-            &rt,
-            &(size, ended, str::from_utf8(out.bytes())),
-            &(size, Status::BadWords, Ok("WORDS\n")),
-        );
+        let told = (Status::BadWords, "WORDS\n");
+        expect_told(&rt, &size, &mut shelf, 9, &arguments, told);
     }
 }
 
