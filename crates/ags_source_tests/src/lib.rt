@@ -1,4 +1,5 @@
-//! Tests of words and numerals, of the source language and of what is made of a source, over what their crates make public.
+//! Tests of files, sinks and plans, of words and numerals, of the source language and of what is made of a source, over what their
+//! crates make public.
 //! They stand in a crate of their own, so that the proofs of those crates aren't done a second time for them.
 #![tactic(auto)]
 
@@ -22,6 +23,8 @@ mod isa_tests;
 mod law_tests;
 #[cfg(test)]
 mod listing_tests;
+#[cfg(test)]
+mod outside;
 #[cfg(test)]
 mod places_tests;
 #[cfg(test)]

@@ -465,7 +465,7 @@ AT 0077 ANY
 ";
 
 /// A certificate: its front, the piece that stands behind it, how often, and its end; and the line of its fault.
-const TOO_MUCH: [(&str, &str, usize, &str, &str); 5] = [
+const TOO_MUCH: [(&str, &str, u32, &str, &str); 5] = [
     // one row more than 20,000
     (
         "AGSCERT 1\nSTART 4000\n",

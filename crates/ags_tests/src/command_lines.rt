@@ -34,7 +34,7 @@ pub(crate) fn repeated(
     alloc: Global,
     front: &str,
     piece: &str,
-    count: usize,
+    count: u32,
 ) -> String {
     let mut text = String::from_str(alloc, front).expect(rt, "memory for a text");
     for _ in 0..count {

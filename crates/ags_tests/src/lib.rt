@@ -1,9 +1,11 @@
-//! Tests of the whole program: command lines over files in memory, and over outsides that fail. They stand in a crate of
-//! their own, so that the program's proofs aren't done a second time for them.
+//! Tests of the whole program: command lines over files in memory and over outsides that fail, and of the bench. They stand in a crate of
+//! their own, so that the programs' proofs aren't done a second time for them.
 #![tactic(auto)]
 
 #[cfg(test)]
 mod answer_tests;
+#[cfg(test)]
+mod bench;
 #[cfg(test)]
 mod budget_tests;
 #[cfg(test)]
@@ -14,6 +16,8 @@ mod command_lines;
 mod edits_tests;
 #[cfg(test)]
 mod fault_tests;
+#[cfg(test)]
+mod faults;
 #[cfg(test)]
 mod key_tests;
 #[cfg(test)]

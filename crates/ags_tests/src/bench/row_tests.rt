@@ -1,0 +1,183 @@
+//! Scripts over the deck with the program's three devices.
+
+use crate::bench::common::{Case, Kept, expect_three};
+use ags_bench::Status;
+use std::test::Fail;
+
+/// The word that the sensor gives, and what comes of a script.
+const CASES: [(u32, Case); 7] = [
+    // a hundred cycles
+    (
+        0o001750,
+        Case {
+            script: "CYCLE 100\nDETACH 3\nSHOW REG\n",
+            most: 4096,
+            failing: 0,
+            status: Status::Done,
+            text: "CERTIFIED ROWS 31 CASES 32\nDETACHED 3 LEFT 0 HEARD 100 LAST 001750\nA 777777 Q 404012 X 0 V 0 P 4000 W\nDEVICE 1 LEFT 0 HEARD 0 LAST ------\nDEVICE 2 LEFT 0 HEARD 9 LAST 000037\n",
+            kept: &[(0, 0, None), (0, 9, Some(0o000037))],
+        },
+    ),
+    // the first word of the sensor is outside: it has left the plan, and neither the pad nor the recorder was asked
+    (
+        0o001751,
+        Case {
+            script: "CYCLE 100\nDETACH 3\nSHOW REG\n",
+            most: 4096,
+            failing: 0,
+            status: Status::No,
+            text: "CERTIFIED ROWS 31 CASES 32\nOUTSIDE IN 2001 001751\n",
+            kept: &[(99, 0, None), (9, 0, None), (0, 0, None)],
+        },
+    ),
+    (
+        0o001751,
+        Case {
+            script: "FEED 2\nFEED 1\nFEED 2\n",
+            most: 4096,
+            failing: 0,
+            status: Status::No,
+            text: "CERTIFIED ROWS 31 CASES 32\nOUTSIDE IN 2001 001751\n",
+            kept: &[(99, 0, None), (8, 0, None), (0, 0, None)],
+        },
+    ),
+    // the line of what a run met can't be written: the devices are those where the run stops
+    (
+        0o001751,
+        Case {
+            script: "CYCLE 100\nDETACH 3\nSHOW REG\n",
+            most: 4096,
+            failing: 2,
+            status: Status::WriteFault,
+            text: "CERTIFIED ROWS 31 CASES 32\n",
+            kept: &[(99, 0, None), (9, 0, None), (0, 0, None)],
+        },
+    ),
+    // a cycle feeds the pad and has it hear: the deck gives back what it is fed
+    (
+        0o001750,
+        Case {
+            script: "CYCLE 2\nSHOW OUT 6200\n",
+            most: 4096,
+            failing: 0,
+            status: Status::Done,
+            text: "CERTIFIED ROWS 31 CASES 32\nOUT 6200 000024\nDEVICE 1 LEFT 98 HEARD 0 LAST ------\nDEVICE 2 LEFT 7 HEARD 2 LAST 000024\nDEVICE 3 LEFT 0 HEARD 2 LAST 000372\n",
+            kept: &[
+                (98, 0, None),
+                (7, 2, Some(0o000024)),
+                (0, 2, Some(0o000372)),
+            ],
+        },
+    ),
+    // numbers close up
+    (
+        0o001750,
+        Case {
+            script: "FEED 1\nDETACH 1\nFEED 1\nDETACH 2\nDETACH 2\n",
+            most: 4096,
+            failing: 0,
+            status: Status::No,
+            text: "CERTIFIED ROWS 31 CASES 32\nDETACHED 1 LEFT 99 HEARD 0 LAST ------\nDETACHED 2 LEFT 0 HEARD 0 LAST ------\nNODEVICE LINE 5 DEVICE 2\n",
+            kept: &[(8, 0, None)],
+        },
+    ),
+    (
+        0o001750,
+        Case {
+            script: "DETACH 2\nFEED 2\n",
+            most: 4096,
+            failing: 0,
+            status: Status::No,
+            text: "CERTIFIED ROWS 31 CASES 32\nDETACHED 2 LEFT 9 HEARD 0 LAST ------\nNOFEED LINE 2 DEVICE 2\n",
+            kept: &[(100, 0, None), (0, 0, None)],
+        },
+    ),
+];
+
+#[test]
+fn scripts_that_ask_the_devices(rt: HostRuntime) -> Result<(), Fail> {
+    for (first, case) in &CASES {
+        expect_three(&rt, *first, case)?;
+    }
+    Ok(())
+}
+
+/// The devices as they are made.
+const MADE: [Kept; 3] = [(100, 0, None), (9, 0, None), (0, 0, None)];
+
+/// A script that leaves them so, its status, and what is written.
+const UNASKED: [(&str, Status, &str); 11] = [
+    // numbers that no device has
+    (
+        "FEED 4\n",
+        Status::No,
+        "CERTIFIED ROWS 31 CASES 32\nNODEVICE LINE 1 DEVICE 4\n",
+    ),
+    (
+        "FEED 0\n",
+        Status::No,
+        "CERTIFIED ROWS 31 CASES 32\nNODEVICE LINE 1 DEVICE 0\n",
+    ),
+    (
+        "# none\n\nDETACH 4\n",
+        Status::No,
+        "CERTIFIED ROWS 31 CASES 32\nNODEVICE LINE 3 DEVICE 4\n",
+    ),
+    (
+        "FEED 999999999\n",
+        Status::No,
+        "CERTIFIED ROWS 31 CASES 32\nNODEVICE LINE 1 DEVICE 999999999\n",
+    ),
+    (
+        "FEED 3\n",
+        Status::No,
+        "CERTIFIED ROWS 31 CASES 32\nNOFEED LINE 1 DEVICE 3\n",
+    ),
+    // scripts of a line or of few
+    (
+        "",
+        Status::Done,
+        "CERTIFIED ROWS 31 CASES 32\nDEVICE 1 LEFT 100 HEARD 0 LAST ------\nDEVICE 2 LEFT 9 HEARD 0 LAST ------\nDEVICE 3 LEFT 0 HEARD 0 LAST ------\n",
+    ),
+    (
+        "STEP 0\nCYCLE 0\nPULSE\n",
+        Status::Done,
+        "CERTIFIED ROWS 31 CASES 32\nDEVICE 1 LEFT 100 HEARD 0 LAST ------\nDEVICE 2 LEFT 9 HEARD 0 LAST ------\nDEVICE 3 LEFT 0 HEARD 0 LAST ------\n",
+    ),
+    (
+        "SHOW REG\n",
+        Status::Done,
+        "CERTIFIED ROWS 31 CASES 32\nA 000000 Q 000000 X 0 V 0 P 4000 R\nDEVICE 1 LEFT 100 HEARD 0 LAST ------\nDEVICE 2 LEFT 9 HEARD 0 LAST ------\nDEVICE 3 LEFT 0 HEARD 0 LAST ------\n",
+    ),
+    (
+        "STEP 1\nSHOW REG\n",
+        Status::Done,
+        "CERTIFIED ROWS 31 CASES 32\nA 000000 Q 000000 X 0 V 0 P 4001 R\nDEVICE 1 LEFT 100 HEARD 0 LAST ------\nDEVICE 2 LEFT 9 HEARD 0 LAST ------\nDEVICE 3 LEFT 0 HEARD 0 LAST ------\n",
+    ),
+    (
+        "SHOW CELL 4036\n",
+        Status::Done,
+        "CERTIFIED ROWS 31 CASES 32\nCELL 4036 001750\nDEVICE 1 LEFT 100 HEARD 0 LAST ------\nDEVICE 2 LEFT 9 HEARD 0 LAST ------\nDEVICE 3 LEFT 0 HEARD 0 LAST ------\n",
+    ),
+    (
+        "SHOW OUT 6001\n",
+        Status::Done,
+        "CERTIFIED ROWS 31 CASES 32\nOUT 6001 000000\nDEVICE 1 LEFT 100 HEARD 0 LAST ------\nDEVICE 2 LEFT 9 HEARD 0 LAST ------\nDEVICE 3 LEFT 0 HEARD 0 LAST ------\n",
+    ),
+];
+
+#[test]
+fn scripts_that_ask_no_device(rt: HostRuntime) -> Result<(), Fail> {
+    for &(script, status, text) in &UNASKED {
+        let case = Case {
+            script,
+            most: 4096,
+            failing: 0,
+            status,
+            text,
+            kept: &MADE,
+        };
+        expect_three(&rt, 0o001750, &case)?;
+    }
+    Ok(())
+}

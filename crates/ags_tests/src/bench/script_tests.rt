@@ -1,0 +1,107 @@
+//! The reader of bench scripts. The rows are typed by hand from docs/BENCH.md.
+
+use crate::command_lines::expect_same;
+use ags_bench::{BenchCommand, BenchScript, read};
+use ags_ports::Machine;
+use ags_script::{ScriptError, ScriptKind};
+use std::alloc::Global;
+use std::process::Abort;
+
+/// What is read of a text for the standard machine.
+fn read_text(rt: &impl Abort, alloc: Global, text: &str) -> Result<BenchScript, ScriptError> {
+    let bytes = text.as_bytes();
+    assert!(rt; bytes.len() <= 4_194_304);
+    read(alloc, bytes, &Machine::standard())
+}
+
+/// Expects the commands of a text, each with its line's number.
+fn expect_commands(rt: &(impl AllocGlobal + Abort), text: &str, wanted: &[(u32, BenchCommand)]) {
+    let script = read_text(rt, rt.alloc(), text).expect(rt, text);
+    expect_same(rt, &script.len(), &wanted.len());
+    for position in 0..script.len() {
+        assert!(rt; position < wanted.len());
+        assert!(rt; script.nth(position) == wanted[position], "{text}");
+    }
+}
+
+/// A script with each form of line.
+const EACH_FORM: &str =
+    "STEP 3\nPULSE\n# none\n\nCYCLE 007\r\n\tSHOW  REG \nSHOW CELL 7777\nSHOW OUT 6200\nFEED 1\nDETACH 000000002\nFEED 0";
+
+/// Its commands, each with its line's number.
+const COMMANDS: [(u32, BenchCommand); 9] = [
+    (1, BenchCommand::Step(3)),
+    (2, BenchCommand::Pulse),
+    (5, BenchCommand::Cycle(7)),
+    (6, BenchCommand::ShowReg),
+    (7, BenchCommand::ShowCell(0o7777)),
+    (8, BenchCommand::ShowOut(0o6200)),
+    (9, BenchCommand::Feed(1)),
+    (10, BenchCommand::Detach(2)),
+    (11, BenchCommand::Feed(0)),
+];
+
+#[test]
+fn each_line_is_read(rt: HostRuntime) {
+    expect_commands(&rt, EACH_FORM, &COMMANDS);
+    expect_commands(&rt, "", &[]);
+    expect_commands(&rt, "CYCLE 5000\n", &[(1, BenchCommand::Cycle(5000))]);
+}
+
+/// Scripts, and the line and the kind of their first fault.
+const FAULTY: [(&str, u32, ScriptKind); 25] = [
+    // lines of no form
+    ("START 4000", 1, ScriptKind::BadLine),
+    ("CELL 0020 000001", 1, ScriptKind::BadLine),
+    ("PORT 2001 000001", 1, ScriptKind::BadLine),
+    ("SET 2001 000001", 1, ScriptKind::BadLine),
+    ("KEY 1", 1, ScriptKind::BadLine),
+    ("SHOW DEDA", 1, ScriptKind::BadLine),
+    ("FEED", 1, ScriptKind::BadLine),
+    ("FEED -1", 1, ScriptKind::BadLine),
+    ("FEED 1 2", 1, ScriptKind::BadLine),
+    ("FEED 0x1", 1, ScriptKind::BadLine),
+    ("FEED 1234567890", 1, ScriptKind::BadLine),
+    ("DETACH", 1, ScriptKind::BadLine),
+    ("DETACH +1", 1, ScriptKind::BadLine),
+    ("DETACH ALL", 1, ScriptKind::BadLine),
+    ("DETACH 1 1", 1, ScriptKind::BadLine),
+    ("feed 1", 1, ScriptKind::BadLine),
+    ("FEED1", 1, ScriptKind::BadLine),
+    ("STEP", 1, ScriptKind::BadLine),
+    ("PULSE 1", 1, ScriptKind::BadLine),
+    ("SHOW CELL 777", 1, ScriptKind::BadLine),
+    // the first of several faults, and faults that no single line has
+    ("SHOW OUT 2001\n", 1, ScriptKind::NoPort),
+    (
+        "FEED 1\n\n# none\nSHOW OUT 6003\nFEED\n",
+        4,
+        ScriptKind::NoPort,
+    ),
+    ("FEED\nSHOW OUT 6003\n", 1, ScriptKind::BadLine),
+    (
+        "STEP 100000000\nFEED 9\nSTEP 0\nSTEP 1\n",
+        4,
+        ScriptKind::TooManySteps,
+    ),
+    ("CYCLE 5001\n", 1, ScriptKind::TooManySteps),
+];
+
+#[test]
+fn first_fault_of_a_script(rt: HostRuntime) {
+    for &(text, line, kind) in &FAULTY {
+        match read_text(&rt, rt.alloc(), text) {
+            Ok(_) => assert!(&rt; false, "{text}"),
+            Err(error) => {
+                expect_same(&rt, &(text, error), &(text, ScriptError::At { line, kind }))
+            }
+        }
+    }
+}
+
+#[test]
+fn laws_can_be_called() {
+    ags_benchscript::laws::lines_spell_what_is_read();
+    ags_benchscript::laws::script_means_one_thing();
+    ags_benchscript::laws::scripts_suit_their_machine();
+}
