@@ -1,7 +1,6 @@
 //! What several tests make, and what they assert.
 
-use ags_certtype::{Cert, CertParts};
-use ags_domain::{Domain, Range, Value};
+use ags_domain::{Domain, Range, Value, WordSet};
 use ags_image::Image;
 use ags_row::{Limits, Link, Post, Row, RowParts, covers};
 use ags_word::Word;
@@ -44,22 +43,66 @@ pub(crate) fn image_of(rt: &impl Abort, alloc: Global, from: u16, words: &[u32])
     image
 }
 
-/// One thing that limits say.
-#[derive(Clone, Copy)]
-pub(crate) enum Limit {
-    /// An erasable cell holds the words between two values.
-    Cell(u16, i32, i32),
-    /// An input register does.
-    Input(u16, i32, i32),
-    /// An output register does.
-    Output(u16, i32, i32),
-    /// A location is named as a place of an overflow.
-    Place(u16),
-}
-
 /// Limits that hold each word.
 pub(crate) fn full_limits<D: Domain>(rt: &impl Abort, alloc: Global) -> Limits<D> {
     Limits::new(alloc).expect(rt, "memory for limits")
+}
+
+/// A value, as a constant says it: it holds no reference, since a table of those costs the check much.
+#[derive(Clone, Copy)]
+pub(crate) enum Held {
+    /// Every word.
+    Any,
+    /// The words between two values.
+    Range(i32, i32),
+    /// One word, by its number.
+    Word(u32),
+    /// Two words.
+    Pair(u32, u32),
+    /// Sixteen words that follow one another, by the number of the first.
+    Sixteen(u32),
+}
+
+/// The words of numbers that ascend, as a value.
+fn words(rt: &impl Abort, numbers: &[u32]) -> Value {
+    assert!(rt; numbers.len() <= 16);
+    let mut words = [Word::ZERO; 16];
+    for place in 0..numbers.len() {
+        words[place] = Word::of(numbers[place]).expect(rt, "a word");
+    }
+    Value::Words(WordSet::of(&words[..numbers.len()]).expect(rt, "some words that ascend"))
+}
+
+/// The value that is said.
+pub(crate) fn value_of(rt: &impl Abort, held: Held) -> Value {
+    match held {
+        Held::Any => Value::full(),
+        Held::Range(least, greatest) => {
+            Value::Range(Range::of(least, greatest).expect(rt, "the ends of a range"))
+        }
+        Held::Word(number) => words(rt, &[number]),
+        Held::Pair(first, second) => words(rt, &[first, second]),
+        Held::Sixteen(first) => {
+            let mut numbers = [first; 16];
+            for place in 0..16usize {
+                numbers[place] = first.wrapping_add(place as u32);
+            }
+            words(rt, &numbers)
+        }
+    }
+}
+
+/// One thing that limits say.
+#[derive(Clone, Copy)]
+pub(crate) enum Limit {
+    /// What an erasable cell holds.
+    Cell(u16, Held),
+    /// What an input register does.
+    Input(u16, Held),
+    /// What an output register does.
+    Output(u16, Held),
+    /// That a location is named as a place of an overflow.
+    Place(u16),
 }
 
 /// Limits that hold each word, but for what is said.
@@ -67,17 +110,17 @@ pub(crate) fn limits_of(rt: &impl Abort, alloc: Global, said: &[Limit]) -> Limit
     let mut limits = full_limits(rt, alloc);
     for &limit in said {
         match limit {
-            Limit::Cell(address, least, greatest) => {
+            Limit::Cell(address, held) => {
                 assert!(rt; address < 2048);
-                limits.set_cell(address, value(rt, (least, greatest)));
+                limits.set_cell(address, value_of(rt, held));
             }
-            Limit::Input(address, least, greatest) => {
+            Limit::Input(address, held) => {
                 assert!(rt; address < 4096);
-                limits.set_input(address, value(rt, (least, greatest)));
+                limits.set_input(address, value_of(rt, held));
             }
-            Limit::Output(address, least, greatest) => {
+            Limit::Output(address, held) => {
                 assert!(rt; address < 4096);
-                limits.set_output(address, value(rt, (least, greatest)));
+                limits.set_output(address, value_of(rt, held));
             }
             Limit::Place(location) => {
                 assert!(rt; location < 4096);
@@ -114,47 +157,6 @@ pub(crate) fn open_parts(
         at: Vec::new(alloc),
         link,
     }
-}
-
-/// A row at each of some locations, where A and Q may hold any word, with index 0, some indicators and, where told, a link.
-fn open_rows(
-    rt: &impl Abort,
-    alloc: Global,
-    locations: &[u16],
-    v: [bool; 2],
-    link: Option<Link>,
-) -> Vec<Row<Value>> {
-    let mut rows = Vec::new(alloc);
-    for location in locations {
-        add(
-            rt,
-            &mut rows,
-            row_of(rt, open_parts(alloc, *location, v, link)),
-        );
-    }
-    rows
-}
-
-/// A certificate of such rows under limits that say so, with what is stated of the cell 0020 at the start; it starts at 4000.
-pub(crate) fn certificate(
-    rt: &impl Abort,
-    alloc: Global,
-    said: &[Limit],
-    stated: Option<Value>,
-    locations: &[u16],
-    v: [bool; 2],
-    link: Option<Link>,
-) -> Cert {
-    let mut init = vec![in alloc; None; 2048].expect(rt, "memory for the start");
-    init[0o20] = stated;
-    let parts = CertParts {
-        start: 0o4000,
-        limits: limits_of(rt, alloc, said),
-        init,
-        rows: open_rows(rt, alloc, locations, v, link),
-    };
-    let made = Cert::of(alloc, parts).expect(rt, "memory for a certificate");
-    made.expect(rt, "the parts of a certificate")
 }
 
 /// Whether a row covers a post of another, where each cell may hold any word.

@@ -3,9 +3,9 @@
 
 ghost use Rattle.std.specs.Prelude.{◌≡◌, ◌<◌};
 
-use crate::common::{Limit, certificate, expect_same, image_of, word};
+use crate::common::{Held, Limit, add, expect_same, image_of, limits_of, open_parts, row_of, word};
 use ags_certread::{CERT_LIMIT, read};
-use ags_certtype::Cert;
+use ags_certtype::{Cert, CertParts};
 use ags_check::{Accepting, Refusal, RowFault, Verdict, check, refusal_of};
 use ags_domain::{Domain, Operands, Value};
 use ags_image::Image;
@@ -164,9 +164,9 @@ fn expect_judged(
 
 /// The limits of the rows.
 const LIMITS: [Limit; 3] = [
-    Limit::Cell(0o20, 0, 5),
-    Limit::Cell(0o22, 0, 15),
-    Limit::Output(0o6001, 0, 5),
+    Limit::Cell(0o20, Held::Range(0, 5)),
+    Limit::Cell(0o22, Held::Range(0, 15)),
+    Limit::Output(0o6001, Held::Range(0, 5)),
 ];
 
 /// Asserts what is refused in the second of two rows with index 0 and both indicators, of two cases a word, where the first at 4000 octal
@@ -182,8 +182,23 @@ fn expect_refused(
     assert!(rt; second < 4096);
     let words = [0o400000 + u32::from(second), number];
     let image = image_of(rt, alloc, 0o4000, &words);
-    let locations = [0o4000, second];
-    let cert = certificate(rt, alloc, &LIMITS, None, &locations, [true, true], None);
+    let mut rows = Vec::new(alloc);
+    for location in [0o4000, second] {
+        add(
+            rt,
+            &mut rows,
+            row_of(rt, open_parts(alloc, location, [true, true], None)),
+        );
+    }
+    let parts = CertParts {
+        start: 0o4000,
+        limits: limits_of(rt, alloc, &LIMITS),
+        init: vec![in alloc; None; 2048].expect(rt, "memory for the start"),
+        rows,
+    };
+    let cert = Cert::of(alloc, parts)
+        .expect(rt, "memory for a certificate")
+        .expect(rt, "the parts of a certificate");
     expect_judged(rt, &image, &cert, &Err(refusal), cases);
 }
 

@@ -206,17 +206,15 @@ enum Other {
     Linked(u16, i32),
 }
 
+/// The cell 20 octal with this value.
+fn cell(value: Value) -> Option<At<Value>> {
+    let address = 0o20;
+    Some(At { address, value })
+}
+
 /// The post that differs so.
 fn post(rt: &impl Abort, other: Other) -> Post<Value> {
-    let address = 0o20;
-    let stored = Some(At {
-        address,
-        value: value(rt, (0, 3)),
-    });
-    let tested = Some(At {
-        address,
-        value: value(rt, (5, 7)),
-    });
+    let tested = cell(value(rt, (5, 7)));
     let post = Post {
         next: 0o4000,
         a: Value::full(),
@@ -224,11 +222,8 @@ fn post(rt: &impl Abort, other: Other) -> Post<Value> {
         x: 0,
         v0: true,
         v1: false,
-        stored,
-        code: Some(At {
-            address,
-            value: Value::of_word(word(rt, 0o100020)),
-        }),
+        stored: cell(value(rt, (0, 3))),
+        code: cell(Value::of_word(word(rt, 0o100020))),
         narrowed: None,
         link: None,
     };

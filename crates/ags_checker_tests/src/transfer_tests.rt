@@ -1,8 +1,8 @@
 //! Cases that were worked out outside the crate: one machine, one image and few rows for all of them.
 
 use crate::common::{
-    Limit, add, expect_same, full_limits, image_of, is_covered_by, limits_of, range, row_of, value,
-    word,
+    Held, Limit, add, expect_same, full_limits, image_of, is_covered_by, limits_of, range, row_of,
+    value, word,
 };
 use crate::counted_tests::posts_of;
 use ags_domain::{Domain, Operands, Range, Value, WordSet};
@@ -59,14 +59,17 @@ pub(crate) enum Limited {
     SomeAndPlace,
 }
 
+/// One cell.
+const ONE_CELL: [Limit; 1] = [Limit::Cell(0o20, Held::Range(-5, 5))];
+
 /// Some cells and registers, and a place.
 const SOME: [Limit; 7] = [
-    Limit::Cell(0o20, 2, 4),
-    Limit::Cell(0o22, 0, 4),
-    Limit::Cell(0o23, 8, 8),
-    Limit::Input(0o2001, 7, 9),
-    Limit::Output(0o2001, 1, 2),
-    Limit::Output(0o6002, 0, 2),
+    Limit::Cell(0o20, Held::Range(2, 4)),
+    Limit::Cell(0o22, Held::Range(0, 4)),
+    Limit::Cell(0o23, Held::Range(8, 8)),
+    Limit::Input(0o2001, Held::Range(7, 9)),
+    Limit::Output(0o2001, Held::Range(1, 2)),
+    Limit::Output(0o6002, Held::Range(0, 2)),
     Limit::Place(0o4000),
 ];
 
@@ -74,7 +77,7 @@ const SOME: [Limit; 7] = [
 pub(crate) fn limits(rt: &impl Abort, alloc: Global, limited: Limited) -> Limits<Value> {
     let said: &[Limit] = match limited {
         Limited::Nothing => &[],
-        Limited::OneCell => &[Limit::Cell(0o20, -5, 5)],
+        Limited::OneCell => &ONE_CELL,
         Limited::Some => &SOME[..6],
         Limited::SomeAndPlace => &SOME,
     };

@@ -4,31 +4,17 @@
 #![tactic(auto)]
 
 #[cfg(test)]
-mod asm_tests;
-#[cfg(test)]
 mod card_tests;
 #[cfg(test)]
 mod common;
-#[cfg(test)]
-mod compare_tests;
-#[cfg(test)]
-mod decimal_tests;
 #[cfg(test)]
 mod fix_up_tests;
 #[cfg(test)]
 mod image_tests;
 #[cfg(test)]
-mod isa_tests;
-#[cfg(test)]
 mod law_tests;
 #[cfg(test)]
-mod listing_tests;
-#[cfg(test)]
 mod outside;
-#[cfg(test)]
-mod places_tests;
-#[cfg(test)]
-mod symbol_tests;
 #[cfg(test)]
 mod tape_tests;
 #[cfg(test)]
@@ -37,5 +23,3 @@ mod text_tests;
 mod two_passes;
 #[cfg(test)]
 mod word_tests;
-#[cfg(test)]
-mod xref_tests;

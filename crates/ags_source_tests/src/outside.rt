@@ -1,7 +1,5 @@
-//! Tests of shelves and sinks, in memory and over real files, of the walk along the files of a command, and of what standard error
-//! says.
+//! Tests of shelves and sinks in memory, of real files, and of the walk along the files of a command.
 
-mod advice;
 mod common;
 mod edge_tests;
 mod outside_tests;

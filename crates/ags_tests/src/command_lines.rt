@@ -12,12 +12,6 @@ pub(crate) type File<'a> = (&'a str, &'a str);
 /// A command line, its status, and what is printed.
 pub(crate) type Answer<'a> = (&'a str, Status, &'a str);
 
-/// A source S and a second file, the status, and what is printed.
-pub(crate) type Pair<'a> = (&'a str, &'a str, Status, &'a str);
-
-/// A source S and two further files, the status, and what is printed.
-pub(crate) type Triple<'a> = (&'a str, &'a str, &'a str, Status, &'a str);
-
 /// The arguments of a command line.
 pub(crate) fn arguments_of(rt: &impl Abort, alloc: Global, line: &str) -> Vec<String> {
     let mut arguments = Vec::new(alloc);
@@ -89,57 +83,4 @@ pub(crate) fn expect_end<S: Shelf, C: PartialEq + Debug>(
     let arguments = arguments_of(rt, rt.alloc(), line);
     let case = (case, line);
     expect_told(rt, &case, shelf, most, &arguments, (status, text));
-}
-
-/// How many bytes a sink takes at once: a whole line, a few, and one.
-const SIZES: [usize; 3] = [1000, 9, 1];
-
-/// The same over these files, into a sink of each size.
-pub(crate) fn expect_over<C: PartialEq + Debug>(
-    rt: &(impl AllocGlobal + Abort),
-    case: &C,
-    files: &[File<'_>],
-    answer: Answer<'_>,
-) {
-    for most in SIZES {
-        let mut shelf = shelf_of(rt, rt.alloc(), files);
-        expect_end(rt, case, &mut shelf, most, answer);
-    }
-}
-
-/// Expects each answer over these files.
-pub(crate) fn expect_answers(
-    rt: &(impl AllocGlobal + Abort),
-    files: &[File<'_>],
-    answers: &[Answer<'_>],
-) {
-    for answer in answers {
-        expect_over(rt, &(), files, *answer);
-    }
-}
-
-/// Expects what comes of a command line over each pair of files, of which the second has this name.
-pub(crate) fn expect_pairs(
-    rt: &(impl AllocGlobal + Abort),
-    line: &str,
-    second: &str,
-    rows: &[Pair<'_>],
-) {
-    for &(source, text, status, printed) in rows {
-        let files = [("S", source), (second, text)];
-        expect_over(rt, &files, &files, (line, status, printed));
-    }
-}
-
-/// Expects what comes of a command line over each three files, of which the second and the third have these names.
-pub(crate) fn expect_triples<'x>(
-    rt: &(impl AllocGlobal + Abort),
-    line: &'x str,
-    names: (&'x str, &'x str),
-    rows: &'x [Triple<'x>],
-) {
-    for &(source, second, third, status, printed) in rows {
-        let files = [("S", source), (names.0, second), (names.1, third)];
-        expect_over(rt, &files, &files, (line, status, printed));
-    }
 }

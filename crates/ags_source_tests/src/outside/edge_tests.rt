@@ -1,206 +1,35 @@
-//! The adapters over real files, for what no clause says: that they succeed, which error of the system is which answer, and what they
-//! remember for a person.
+//! The adapter over real files, for what no clause and no command line says: that a file which is held is read on, and one which stands
+//! elsewhere is opened anew and read at its place.
 
 use crate::common::expect_same;
-use ags_edge::{FileShelf, HeldSink, OutSink};
-use ags_outside::{Pull, PutDone, Shelf, Sink};
+use ags_edge::FileShelf;
+use ags_outside::{Pull, Shelf};
 use std::fs;
-use std::io::{ErrorKind, Write};
-use std::process::Abort;
-use std::rt::Files;
 
-/// A pull of a file, and what comes of it.
-struct Pulled {
-    /// The file, the position from which it is read, and for how many bytes there is room.
-    name: &'static str,
-    from: u64,
-    room: usize,
-    /// What is answered, and the bytes that are given.
-    answer: Pull,
-    bytes: &'static [u8],
-    /// What the shelf remembers then: the file that was looked for last, and the one that couldn't be read, and why.
-    looked_for: Option<&'static str>,
-    unread: Option<&'static str>,
-    reason: Option<ErrorKind>,
-}
+/// A file, the position from which it is read, for how many bytes there is room, the answer, and the bytes.
+type Pulled = (&'static str, u64, usize, Pull, &'static [u8]);
 
-/// An absent file.
-const ABSENT: Pulled = Pulled {
-    name: "no file of this name",
-    from: 0,
-    room: 4,
-    answer: Pull::Absent,
-    bytes: b"",
-    looked_for: None,
-    unread: None,
-    reason: None,
-};
-
-/// A folder, which is told as a fault.
-const FOLDER: Pulled = Pulled {
-    name: ".",
-    answer: Pull::Failed,
-    looked_for: Some("."),
-    unread: Some("."),
-    reason: Some(ErrorKind::IsADirectory),
-    ..ABSENT
-};
-
-/// An empty file, which ends at once.
-const EMPTY: Pulled = Pulled {
-    name: "/dev/null",
-    answer: Pull::End,
-    looked_for: Some("/dev/null"),
-    ..ABSENT
-};
-
-/// The first zeros of a file of zeros.
-const ZEROS: Pulled = Pulled {
-    name: "/dev/zero",
-    answer: Pull::Got(4),
-    bytes: &[0; 4],
-    looked_for: Some("/dev/zero"),
-    ..ABSENT
-};
-
-/// The whole of a file of five letters.
-const LETTERS: Pulled = Pulled {
-    name: "letters",
-    room: 5,
-    answer: Pull::Got(5),
-    bytes: b"ABCDE",
-    looked_for: Some("letters"),
-    ..ABSENT
-};
-
-/// What is pulled of one new shelf after the other.
-const SHELVES: [&[Pulled]; 6] = [
-    &[ABSENT, FOLDER],
-    &[FOLDER],
-    &[
-        EMPTY,
-        Pulled {
-            name: "/dev",
-            looked_for: Some("/dev"),
-            unread: Some("/dev"),
-            ..FOLDER
-        },
-    ],
-    // the first is opened, the second read on, and the third opened anew at its place
-    &[
-        ZEROS,
-        Pulled { from: 4, ..ZEROS },
-        Pulled { from: 2, ..ZEROS },
-    ],
-    // the first, which is empty, is held when the second is asked for
-    &[EMPTY, ZEROS],
-    // after the first pull it stands at its end, so that the second opens it anew
-    &[
-        LETTERS,
-        Pulled {
-            from: 3,
-            room: 2,
-            answer: Pull::Got(2),
-            bytes: b"DE",
-            ..LETTERS
-        },
-    ],
+/// What is pulled of one shelf: zeros that are opened, read on, and opened anew at their place; an empty file, held when another one is
+/// asked for; and letters, at whose end the shelf stands when they are read at another place.
+const PULLS: [Pulled; 7] = [
+    ("/dev/zero", 0, 4, Pull::Got(4), &[0; 4]),
+    ("/dev/zero", 4, 4, Pull::Got(4), &[0; 4]),
+    ("/dev/zero", 2, 4, Pull::Got(4), &[0; 4]),
+    ("/dev/null", 0, 4, Pull::End, &[]),
+    ("/dev/zero", 0, 4, Pull::Got(4), &[0; 4]),
+    ("letters", 0, 5, Pull::Got(5), b"ABCDE"),
+    ("letters", 3, 2, Pull::Got(2), b"DE"),
 ];
 
-/// Expects what a pull answers and gives, and what the shelf remembers then.
-fn expect_pulled<R: Files>(rt: &impl Abort, shelf: &mut FileShelf<'_, R>, pulled: &Pulled) {
-    let name = pulled.name;
-    let mut room = [1u8; 5];
-    assert!(rt; 0 < pulled.room && pulled.room <= 5);
-    let answer = shelf.pull(name, pulled.from, &mut room[..pulled.room]);
-    assert!(rt;
-        answer == pulled.answer && room.starts_with(pulled.bytes),
-        "{name}"
-    );
-    expect_same(
-        rt,
-        &(name, shelf.looked_for(), shelf.unread(), shelf.why_unread()),
-        &(name, pulled.looked_for, pulled.unread, pulled.reason),
-    );
-}
-
 #[test]
-fn files_are_pulled_and_remembered(rt: HostRuntime) {
+fn files_are_read_on_and_opened_anew(rt: HostRuntime) {
     assert!(rt; fs::write(&rt, "letters", b"ABCDE").is_ok());
-    for pulls in &SHELVES {
-        let mut shelf = FileShelf::new(&rt, rt.alloc());
-        assert!(rt; shelf.looked_for().is_none() && shelf.unread().is_none());
-        for pulled in *pulls {
-            expect_pulled(&rt, &mut shelf, pulled);
-        }
+    let mut shelf = FileShelf::new(&rt, rt.alloc());
+    for &(name, from, size, answer, bytes) in &PULLS {
+        let mut room = [1u8; 5];
+        assert!(rt; 0 < size && size <= 5);
+        let told = shelf.pull(name, from, &mut room[..size]);
+        assert!(rt; told == answer && room.starts_with(bytes), "{name} {from}");
     }
-}
-
-/// What is put to a device, and what comes of it.
-struct Put {
-    device: &'static str,
-    /// Pieces, each with what the sink remembers of it: it is taken whole, and kept where it is text.
-    pieces: &'static [(&'static [u8], &'static str)],
-    /// Whether all was written at the end, and why not.
-    written: bool,
-    reason: Option<ErrorKind>,
-}
-
-/// What is put to one new sink after the other.
-const PUTS: [Put; 4] = [
-    Put {
-        device: "/dev/null",
-        pieces: &[(b"A LINE\n", "A LINE\n")],
-        written: true,
-        reason: None,
-    },
-    Put {
-        device: "/dev/null",
-        pieces: &[
-            (b"EQUAL\n", "EQUAL\n"),
-            (b"WORDS\n", "WORDS\n"),
-            (b"\xff", ""),
-        ],
-        written: true,
-        reason: None,
-    },
-    Put {
-        device: "/dev/full",
-        pieces: &[(b"A LINE\n", "A LINE\n")],
-        written: false,
-        reason: Some(ErrorKind::StorageFull),
-    },
-    Put {
-        device: "/dev/full",
-        pieces: &[(b"EQUAL\n", "EQUAL\n")],
-        written: false,
-        reason: Some(ErrorKind::StorageFull),
-    },
-];
-
-/// Expects that a new sink takes pieces and remembers them, and how it ends.
-fn expect_put<W: Write + Drop>(rt: &impl Abort, out: &mut OutSink<W>, put: &Put) {
-    assert!(rt; out.last_piece().is_empty(), "no piece");
-    for &(piece, last) in put.pieces {
-        assert!(rt; !piece.is_empty());
-        assert!(rt; out.put(piece) == PutDone::Took(piece.len()), "{last}");
-        expect_same(rt, &(out.last_piece(), out.why_unwritten()), &(last, None));
-    }
-    let written = out.finish();
-    expect_same(
-        rt,
-        &(put.device, written, out.why_unwritten()),
-        &(put.device, put.written, put.reason),
-    );
-}
-
-#[test]
-fn pieces_are_written_and_remembered(rt: HostRuntime) {
-    for put in &PUTS {
-        let device = fs::create(&rt, put.device).ok().expect(&rt, put.device);
-        let mut out = OutSink::new(rt.alloc(), device)
-            .ok()
-            .expect(&rt, "memory for a sink");
-        expect_put(&rt, &mut out, put);
-    }
+    expect_same(&rt, &shelf.looked_for(), &Some("letters"));
 }

@@ -3,7 +3,7 @@
 use crate::command_lines::expect_same;
 use ags_bench::{BenchCommand, BenchScript, read};
 use ags_ports::Machine;
-use ags_script::{ScriptError, ScriptKind};
+use ags_script::ScriptError;
 use std::alloc::Global;
 use std::process::Abort;
 
@@ -46,57 +46,6 @@ fn each_line_is_read(rt: HostRuntime) {
     expect_commands(&rt, EACH_FORM, &COMMANDS);
     expect_commands(&rt, "", &[]);
     expect_commands(&rt, "CYCLE 5000\n", &[(1, BenchCommand::Cycle(5000))]);
-}
-
-/// Scripts, and the line and the kind of their first fault.
-const FAULTY: [(&str, u32, ScriptKind); 25] = [
-    // lines of no form
-    ("START 4000", 1, ScriptKind::BadLine),
-    ("CELL 0020 000001", 1, ScriptKind::BadLine),
-    ("PORT 2001 000001", 1, ScriptKind::BadLine),
-    ("SET 2001 000001", 1, ScriptKind::BadLine),
-    ("KEY 1", 1, ScriptKind::BadLine),
-    ("SHOW DEDA", 1, ScriptKind::BadLine),
-    ("FEED", 1, ScriptKind::BadLine),
-    ("FEED -1", 1, ScriptKind::BadLine),
-    ("FEED 1 2", 1, ScriptKind::BadLine),
-    ("FEED 0x1", 1, ScriptKind::BadLine),
-    ("FEED 1234567890", 1, ScriptKind::BadLine),
-    ("DETACH", 1, ScriptKind::BadLine),
-    ("DETACH +1", 1, ScriptKind::BadLine),
-    ("DETACH ALL", 1, ScriptKind::BadLine),
-    ("DETACH 1 1", 1, ScriptKind::BadLine),
-    ("feed 1", 1, ScriptKind::BadLine),
-    ("FEED1", 1, ScriptKind::BadLine),
-    ("STEP", 1, ScriptKind::BadLine),
-    ("PULSE 1", 1, ScriptKind::BadLine),
-    ("SHOW CELL 777", 1, ScriptKind::BadLine),
-    // the first of several faults, and faults that no single line has
-    ("SHOW OUT 2001\n", 1, ScriptKind::NoPort),
-    (
-        "FEED 1\n\n# none\nSHOW OUT 6003\nFEED\n",
-        4,
-        ScriptKind::NoPort,
-    ),
-    ("FEED\nSHOW OUT 6003\n", 1, ScriptKind::BadLine),
-    (
-        "STEP 100000000\nFEED 9\nSTEP 0\nSTEP 1\n",
-        4,
-        ScriptKind::TooManySteps,
-    ),
-    ("CYCLE 5001\n", 1, ScriptKind::TooManySteps),
-];
-
-#[test]
-fn first_fault_of_a_script(rt: HostRuntime) {
-    for &(text, line, kind) in &FAULTY {
-        match read_text(&rt, rt.alloc(), text) {
-            Ok(_) => assert!(&rt; false, "{text}"),
-            Err(error) => {
-                expect_same(&rt, &(text, error), &(text, ScriptError::At { line, kind }))
-            }
-        }
-    }
 }
 
 #[test]

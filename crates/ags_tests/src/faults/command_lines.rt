@@ -35,11 +35,16 @@ const RETURN_EDITS: &str =
 pub(crate) const FIRST_LISTING: &str =
     "0000001             * FIRST\n0000002              ORG /4000\n0000003 4000 000007 A OCT 7\n";
 
-/// The files that command lines read, by their names: a source S with its listing L; the deck D with its certificate C, its script P,
+/// A source with symbols in the operands of orders, ORG, EQU and BSS, twice on one card, and in remarks and a comment.
+const NAMED: &str =
+    " ORG /4000\nT CLA T-T\n TRA T,1 N\n* N T\nN EQU T-4095\nB BSS N+2048\n DEC 1 N\n ORG B+/100\nZ9 END\n";
+
+/// The files that command lines read, by their names: a source S with its listing L; one that names symbols, N; the deck D with its certificate C, its script P,
 /// and the certificate K with the bounds T of its rows; the sum A with its certificate B and its scales E; and the subroutine R with its
 /// certificate Q and the edits U.
-const FILES: [(&str, &str); 13] = [
+const FILES: [(&str, &str); 14] = [
     ("S", "* FIRST\n ORG /4000\nA OCT 7\n"),
+    ("N", NAMED),
     ("L", FIRST_LISTING),
     ("D", DECK),
     ("C", DECK_CERTIFICATE),

@@ -54,11 +54,18 @@ const SHOWN: &str = "CELL 0020 001750\nA 777777 Q 404012 X 0 V 0 P 4000 W\nDEDA 
 
 /// A command line, how many pulls it makes, how many lines it prints, and those in two parts. Each file takes two pulls: its bytes, and
 /// its end.
-const CALLS: [(&str, u64, usize, &str, &str); 11] = [
+const CALLS: [(&str, u64, usize, &str, &str); 12] = [
     ("assemble S", 2, 3, FIRST_LISTING, ""),
     ("compare S L", 4, 1, "EQUAL\n", ""),
     ("tape S", 2, 1, "4000 000007\n", ""),
     ("xref S", 2, 1, "A         2048 0000003\n", ""),
+    (
+        "xref N",
+        2,
+        4,
+        "B         2050 0000006 0000008\nN        -2047 0000005 0000006\nT         2048 0000002 0000002 0000003 0000005\n",
+        "Z9        2114 0000009\n",
+    ),
     // a workload reads no file
     (
         "workload 1",
