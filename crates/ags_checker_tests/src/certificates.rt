@@ -1,8 +1,6 @@
-//! Tests of certificates: of those in hand, of their texts read, whole and in pieces, and written, of first lines, and of the values
+//! Tests of certificates: of their rows by location, of their texts read in pieces and written, of lines and first lines, and of the values
 //! at positions of lines.
 
-mod cert_tests;
-mod certread_tests;
 mod certsend_tests;
 mod certtext_tests;
 mod common;

@@ -1,9 +1,8 @@
-//! Tests of the machine, the panel, devices and scripts.
+//! Tests of the machine, the panel and devices.
 
 mod common;
 mod core_tests;
 mod deda_tests;
 mod device_tests;
 mod law_tests;
-mod script_tests;
 mod timed_tests;
