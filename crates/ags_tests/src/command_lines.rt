@@ -1,5 +1,6 @@
 //! What the tests of the program share: command lines over files in memory, and what comes of them.
 
+use ags_device::Device;
 use ags_outside::{Shelf, SteadyShelf, SteadySink};
 use ags_top::{Status, ags_main};
 use std::alloc::Global;
@@ -35,6 +36,11 @@ pub(crate) fn repeated(
         assert!(rt; text.push_str(piece).is_ok());
     }
     text
+}
+
+/// Adds a device to a list.
+pub(crate) fn add(rt: &impl Abort, devices: &mut Vec<Box<dyn Device>>, device: Box<dyn Device>) {
+    assert!(rt; devices.push(device).is_ok());
 }
 
 /// Asserts that what is told is what is wanted.

@@ -1,12 +1,12 @@
 //! What the tests share: the deck with its certificate, the three devices of the program, and what is expected of a call.
 
-use crate::command_lines::{arguments_of, expect_same};
+use crate::command_lines::{add, arguments_of, expect_same};
 use ags_bench::{Status, bench_main};
 use ags_decks::{DECK, DECK_CERTIFICATE};
 use ags_device::{Device, Pad, Recorder, Sensor, count_at, last_at, left_at};
 use ags_outside::{MemoryShelf, MemorySink};
 use ags_word::Word;
-use std::alloc::{AllocError, Global};
+use std::alloc::Global;
 use std::process::Abort;
 
 /// What is expected of a device: how many words it has left, how many it has heard, and the last of those.
@@ -106,16 +106,14 @@ pub(crate) fn expect_call(
 }
 
 /// Runs it with the program's three devices, of which the sensor gives this word.
-pub(crate) fn expect_three(
-    rt: &(impl AllocGlobal + Abort),
-    first: u32,
-    case: &Case<'_>,
-) -> Result<(), AllocError> {
+pub(crate) fn expect_three(rt: &(impl AllocGlobal + Abort), first: u32, case: &Case<'_>) {
     let alloc = rt.alloc();
-    let mut devices: Vec<Box<dyn Device>> = Vec::new(alloc);
-    devices.push(Box::new(alloc, sensor_of(rt, 0o2001, first, 100))?)?;
-    devices.push(Box::new(alloc, pad_of(rt, alloc))?)?;
-    devices.push(Box::new(alloc, Recorder::new(alloc, 0o6001))?)?;
+    let mut devices = Vec::new(alloc);
+    let sensor = Box::new(alloc, sensor_of(rt, 0o2001, first, 100));
+    add(rt, &mut devices, sensor.expect(rt, "memory"));
+    let pad = Box::new(alloc, pad_of(rt, alloc));
+    add(rt, &mut devices, pad.expect(rt, "memory"));
+    let recorder = Box::new(alloc, Recorder::new(alloc, 0o6001));
+    add(rt, &mut devices, recorder.expect(rt, "memory"));
     expect_call(rt, &mut devices, case);
-    Ok(())
 }

@@ -1,9 +1,8 @@
 //! Devices that feed no input register of the machine, and one whose plan is empty.
 
 use crate::bench::common::{Case, Kept, expect_call, sensor_of};
+use crate::command_lines::add;
 use ags_bench::Status;
-use ags_device::Device;
-use std::test::Fail;
 
 /// The devices as they are made: no register is at 2003, the one at 6001 is an output, and the third has nothing to give.
 const MADE: [Kept; 3] = [(3, 0, None), (0, 0, None), (0, 0, None)];
@@ -40,13 +39,14 @@ const FED: [(&str, Status, &str); 5] = [
 ];
 
 #[test]
-fn devices_that_feed_nothing(rt: HostRuntime) -> Result<(), Fail> {
+fn devices_that_feed_nothing(rt: HostRuntime) {
     let alloc = rt.alloc();
     for &(script, status, text) in &FED {
-        let mut devices: Vec<Box<dyn Device>> = Vec::new(alloc);
-        devices.push(Box::new(alloc, sensor_of(&rt, 0o2003, 1, 3))?)?;
-        devices.push(Box::new(alloc, sensor_of(&rt, 0o6001, 1, 0))?)?;
-        devices.push(Box::new(alloc, sensor_of(&rt, 0o2001, 1, 0))?)?;
+        let mut devices = Vec::new(alloc);
+        for (address, count) in [(0o2003, 3), (0o6001, 0), (0o2001, 0)] {
+            let sensor = Box::new(alloc, sensor_of(&rt, address, 1, count));
+            add(&rt, &mut devices, sensor.expect(&rt, "memory"));
+        }
         let case = Case {
             script,
             most: 4096,
@@ -57,5 +57,4 @@ fn devices_that_feed_nothing(rt: HostRuntime) -> Result<(), Fail> {
         };
         expect_call(&rt, &mut devices, &case);
     }
-    Ok(())
 }

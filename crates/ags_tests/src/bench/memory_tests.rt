@@ -1,12 +1,12 @@
 //! A recorder for which memory is wanting at one of its words.
 
 use crate::bench::common::{Case, expect_call, pad_of, sensor_of};
+use crate::command_lines::add;
 use ags_bench::Status;
 use ags_device::Device;
 use ags_word::Word;
 use std::alloc::AllocError;
 use std::marker::Model;
-use std::test::Fail;
 
 /// A recorder that finds memory for so many words, and for no more.
 #[derive(Drop)]
@@ -84,7 +84,7 @@ const STOPS: [(usize, u64, Option<u32>, u64, Option<u32>); 9] = [
 // Of a hundred cycles, with a recorder that has room for so many words, the next one stops the run once the cycle's steps are made, and
 // what the pad would hear in that cycle comes after it.
 #[test]
-fn memory_is_wanting_at_each_word(rt: HostRuntime) -> Result<(), Fail> {
+fn memory_is_wanting_at_each_word(rt: HostRuntime) {
     let alloc = rt.alloc();
     for &(room, words, sum, digits, digit) in &STOPS {
         let small = SmallRecorder {
@@ -92,10 +92,13 @@ fn memory_is_wanting_at_each_word(rt: HostRuntime) -> Result<(), Fail> {
             room,
             words: Vec::new(alloc),
         };
-        let mut devices: Vec<Box<dyn Device>> = Vec::new(alloc);
-        devices.push(Box::new(alloc, sensor_of(&rt, 0o2001, 0o001750, 100))?)?;
-        devices.push(Box::new(alloc, small)?)?;
-        devices.push(Box::new(alloc, pad_of(&rt, alloc))?)?;
+        let mut devices = Vec::new(alloc);
+        let sensor = Box::new(alloc, sensor_of(&rt, 0o2001, 0o001750, 100));
+        add(&rt, &mut devices, sensor.expect(&rt, "memory"));
+        let small = Box::new(alloc, small);
+        add(&rt, &mut devices, small.expect(&rt, "memory"));
+        let pad = Box::new(alloc, pad_of(&rt, alloc));
+        add(&rt, &mut devices, pad.expect(&rt, "memory"));
         let heard = room as u64;
         let case = Case {
             script: "CYCLE 100\nSHOW REG\n",
@@ -107,5 +110,4 @@ fn memory_is_wanting_at_each_word(rt: HostRuntime) -> Result<(), Fail> {
         };
         expect_call(&rt, &mut devices, &case);
     }
-    Ok(())
 }

@@ -1,8 +1,7 @@
 //! Scripts over the deck with the program's three devices.
 
-use crate::bench::common::{Case, Kept, expect_three};
+use crate::bench::common::{Case, expect_three};
 use ags_bench::Status;
-use std::test::Fail;
 
 /// The word that the sensor gives, and what comes of a script.
 const CASES: [(u32, Case); 7] = [
@@ -95,9 +94,8 @@ const CASES: [(u32, Case); 7] = [
 ];
 
 #[test]
-fn scripts_that_ask_the_devices(rt: HostRuntime) -> Result<(), Fail> {
+fn scripts_that_ask_the_devices(rt: HostRuntime) {
     for (first, case) in &CASES {
-        expect_three(&rt, *first, case)?;
+        expect_three(&rt, *first, case);
     }
-    Ok(())
 }

@@ -1,6 +1,6 @@
 //! The kinds of devices, each alone and in a list, and one that is written here.
 
-use crate::command_lines::expect_same;
+use crate::command_lines::{add, expect_same};
 use crate::machine::common::word;
 use ags_device::{
     Device, Pad, Recorder, Sensor, Tape, count_at, feeds_at, hear_all, hear_at, hears_at, last_at,
@@ -10,7 +10,6 @@ use ags_word::Word;
 use std::alloc::{AllocError, Global};
 use std::marker::Model;
 use std::process::Abort;
-use std::test::Fail;
 
 /// The addresses that a device feeds and hears, how many words it has left and has heard, and the last of those.
 type Told = (Option<u16>, Option<u16>, u64, u64, Option<Word>);
@@ -277,23 +276,27 @@ fn expect_step(rt: &impl Abort, devices: &mut Vec<Box<dyn Device>>, step: &Step)
 }
 
 #[test]
-fn kinds_in_one_list(rt: HostRuntime) -> Result<(), Fail> {
+fn kinds_in_one_list(rt: HostRuntime) {
     let alloc = rt.alloc();
-    let mut devices: Vec<Box<dyn Device>> = Vec::new(alloc);
+    let mut devices = Vec::new(alloc);
     let sensor = Sensor::new(0o2001, word(&rt, 1), word(&rt, 2), 3);
-    devices.push(Box::new(alloc, sensor)?)?;
+    let sensor = Box::new(alloc, sensor);
+    add(&rt, &mut devices, sensor.expect(&rt, "memory"));
     let tape = Tape::new(0o2002, words(&rt, alloc, &[5, 7]));
-    devices.push(Box::new(alloc, tape)?)?;
-    let pad = pad(&rt, alloc, 0o2200, 0o6200, &[0, 4, 15]).ok_or("digits")?;
-    devices.push(Box::new(alloc, pad)?)?;
-    devices.push(Box::new(alloc, Recorder::new(alloc, 0o6001))?)?;
+    let tape = Box::new(alloc, tape);
+    add(&rt, &mut devices, tape.expect(&rt, "memory"));
+    let pad = pad(&rt, alloc, 0o2200, 0o6200, &[0, 4, 15]).expect(&rt, "digits");
+    let pad = Box::new(alloc, pad);
+    add(&rt, &mut devices, pad.expect(&rt, "memory"));
+    let recorder = Box::new(alloc, Recorder::new(alloc, 0o6001));
+    add(&rt, &mut devices, recorder.expect(&rt, "memory"));
     let button = Button {
         address: 0o2003,
         word: Word::of(9),
     };
-    devices.push(Box::new(alloc, button)?)?;
+    let button = Box::new(alloc, button);
+    add(&rt, &mut devices, button.expect(&rt, "memory"));
     change_and_drop(&rt, &mut devices);
-    Ok(())
 }
 
 /// Changes each device of the list of kinds, and drops them one by one.
