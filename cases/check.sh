@@ -61,10 +61,14 @@ begins() {
 }
 
 for cases in "$@"; do
+  if [ ! -r "$cases" ]; then
+    printf 'no such file: %s\n' "$cases" >&2
+    exit 2
+  fi
   number=0 at=0 program= words=()
   rm -rf "$files" && mkdir "$files"
   exec 3>/dev/null
-  while IFS= read -r line; do
+  while IFS= read -r line || [ -n "$line" ]; do
     number=$((number + 1))
     case $line in
       '|'*) printf '%s\n' "${line#|}" >&3 ;;
@@ -86,5 +90,6 @@ for cases in "$@"; do
     esac
   done <"$cases"
   starts
+  [ "$at" -gt 0 ] || tell "$number" 'no run in the whole file'
 done
 exit "$differing"
