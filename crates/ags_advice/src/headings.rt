@@ -8,7 +8,7 @@ use crate::hints;
 use crate::programs::Program;
 
 /// How a line goes on after its heading.
-#[derive(Clone, Copy, PartialEq, Eq)]
+#[derive(Clone, Copy)]
 pub(crate) enum Form {
     /// `CARD c ERROR n Kind` or `LINE n ERROR k Kind`, and what the kind is about.
     FaultOnLine,

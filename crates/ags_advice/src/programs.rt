@@ -4,7 +4,7 @@ ghost use Rattle.std.specs.Prelude.{◌≡◌};
 ghost use Rattle.ags_advice.specs.Forms.{forms_of, name_of};
 
 /// A program whose runs are told of.
-#[derive(Clone, Copy, PartialEq, Eq)]
+#[derive(Clone, Copy)]
 pub enum Program {
     /// `ags`.
     Ags,

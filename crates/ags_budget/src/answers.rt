@@ -7,7 +7,7 @@ use ags_check::Refusal;
 use ags_word::Word;
 
 /// A case that needs more time than its row's bound.
-#[derive(Clone, Copy, Debug, PartialEq, Eq)]
+#[derive(Clone, Copy)]
 pub struct LateCase {
     /// The case's word.
     pub word: Word,

@@ -61,7 +61,7 @@ impl Card {
 }
 
 /// Why a line is no card (docs/SOURCE.md, Faults). Of several, the first of this list is told.
-#[derive(Clone, Copy, Debug, PartialEq, Eq)]
+#[derive(Clone, Copy, PartialEq, Eq)]
 pub enum CardFault {
     /// A byte is no tab and no character from the space to the tilde.
     BadByte,

@@ -11,7 +11,7 @@ use arrayvec::ArrayVec;
 use std::marker::Model;
 
 /// What a term stands for (docs/SOURCE.md, Expressions).
-#[derive(Clone, Copy, Default, PartialEq, Eq)]
+#[derive(Clone, Copy, Default)]
 pub enum Atom {
     /// A number, written in octal or in decimal digits.
     Number(u32),
@@ -23,7 +23,7 @@ pub enum Atom {
 }
 
 /// A term of an expression with its sign.
-#[derive(Clone, Copy, Default, PartialEq, Eq)]
+#[derive(Clone, Copy, Default)]
 pub struct Term {
     /// Whether it is taken away.
     pub minus: bool,

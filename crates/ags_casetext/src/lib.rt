@@ -5,7 +5,7 @@ use ags_word::{SixDigits, Word};
 use std::fmt;
 
 /// A case, by its row, its word, its index and its indicator.
-#[derive(Clone, Copy, Debug, PartialEq, Eq)]
+#[derive(Clone, Copy)]
 pub struct CaseAt {
     /// The row's number, from 1.
     pub row: u32,

@@ -9,7 +9,7 @@ use std::fmt;
 
 /// The kinds of statements, in the order in which they stand in a certificate. The lines of a row's cells and its link are of the row's
 /// kind.
-#[derive(Clone, Copy, PartialEq, Eq)]
+#[derive(Clone, Copy)]
 pub enum Kind {
     /// Where a run starts.
     Start,

@@ -1,7 +1,7 @@
 //! What an edit of a certificate is refused for.
 
 /// Why an edit isn't made (docs/EDITS.md). The kinds are numbered from 1; the least that holds is told.
-#[derive(Clone, Copy, Debug, PartialEq, Eq)]
+#[derive(Clone, Copy)]
 pub enum EditError {
     /// No row has the number.
     NoRow,

@@ -31,7 +31,9 @@ fn expect_scales(rt: &impl Abort, scales: &Scales, wanted: &Told) {
 /// The scales of a text for three rows on the standard machine.
 fn scales_of(rt: &impl Abort, alloc: Global, text: &[u8]) -> Scales {
     assert!(rt; text.len() <= SCALES_LIMIT);
-    read(alloc, text, &Machine::standard(), 3).expect(rt, "scales")
+    read(alloc, text, &Machine::standard(), 3)
+        .ok()
+        .expect(rt, "scales")
 }
 
 /// What a text says that states nothing.

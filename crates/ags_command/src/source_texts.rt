@@ -1,7 +1,7 @@
 //! The texts that are made of a source.
 
 /// A text that is made of a source (docs/SOURCE.md).
-#[derive(Clone, Copy, PartialEq, Eq)]
+#[derive(Clone, Copy)]
 pub enum SourceText {
     /// The listing of its cards.
     Listing,

@@ -6,7 +6,7 @@ use ags_image::Image;
 use ags_word::{LOCATIONS, Word};
 
 /// How two images compare.
-#[derive(Clone, Copy, Debug, PartialEq, Eq)]
+#[derive(Clone, Copy)]
 pub enum Compared {
     /// Both have the same word, or both have none, at each of the 4096 locations.
     Equal,

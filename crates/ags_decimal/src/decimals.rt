@@ -14,7 +14,7 @@ use std::marker::Model;
 
 /// A decimal number with its binary scale (docs/SOURCE.md, DEC): at most ten digits, a power of ten from -12 to 12, and
 /// a scale from -30 to 60.
-#[derive(Clone, Copy, PartialEq, Eq)]
+#[derive(Clone, Copy)]
 pub struct Decimal {
     digits: u64,
     power: i8,

@@ -4,7 +4,7 @@ use ags_run::Outside;
 use ags_word::Word;
 
 /// Why a bench script wasn't run to its end.
-#[derive(Clone, Copy, Debug, PartialEq, Eq)]
+#[derive(Clone, Copy)]
 pub enum DriveError {
     /// The output failed in this call.
     WriteFault,

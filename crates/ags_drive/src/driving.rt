@@ -31,7 +31,7 @@ use ags_ports::Machine;
 use ags_ports::laws::machine_is_made_of_tables;
 
 /// How many events a script made.
-#[derive(Clone, Copy, Debug, PartialEq, Eq)]
+#[derive(Clone, Copy)]
 pub struct Driven {
     /// The steps.
     pub steps: u64,

@@ -5,7 +5,7 @@ ghost use Rattle.std.specs.Prelude.{◌≡◌};
 use std::fmt;
 
 /// What is wrong with a line, by the number and the name that it is printed with (docs/EDITS.md, Faults).
-#[derive(Clone, Copy, Debug, PartialEq, Eq)]
+#[derive(Clone, Copy)]
 pub enum EditsKind {
     /// Number 1: the line is none of the forms, out of order or too long, or names a fixed cell; or END is missing.
     BadLine,
@@ -22,7 +22,7 @@ pub enum EditsKind {
 }
 
 /// Why a text of edits wasn't read.
-#[derive(Clone, Copy, Debug, PartialEq, Eq)]
+#[derive(Clone, Copy)]
 pub enum EditsError {
     /// It has a fault, and this is the first.
     At {

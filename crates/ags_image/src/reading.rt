@@ -11,7 +11,7 @@ use crate::lines::split_line;
 use std::alloc::Global;
 
 /// Why a text has no image: the first fault in it, or want of memory.
-#[derive(Clone, Copy, PartialEq, Eq)]
+#[derive(Clone, Copy)]
 pub enum ReadError {
     /// This line hasn't the form.
     BadLine {

@@ -9,7 +9,7 @@ use crate::orders::Order;
 use std::marker::Model;
 
 /// The codes of the 27 orders: each below 32, and no two of them equal.
-#[derive(Clone, Copy, Debug, PartialEq, Eq)]
+#[derive(Clone, Copy)]
 pub struct Codes {
     table: [u8; 27],
     /// The order of each code, so that a word is read without a search.

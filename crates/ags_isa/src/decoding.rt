@@ -15,7 +15,7 @@ const CODE: u32 = 8192;
 const INDEX: u32 = 4096;
 
 /// What a word names: an order with its index bit and its address.
-#[derive(Clone, Copy, Debug, PartialEq, Eq)]
+#[derive(Clone, Copy)]
 pub struct Decoded {
     /// The order.
     pub order: Order,

@@ -7,7 +7,7 @@ ghost use Rattle.ags_isa.specs.declared.orders.Order.{Order};
 ghost use Rattle.ags_isa.specs.Order.{order_number, order_name};
 
 /// An order of the machine. Its number, as `order as usize`, is its position in the alphabet's order.
-#[derive(Clone, Copy, Debug, PartialEq, Eq)]
+#[derive(Clone, Copy)]
 pub enum Order {
     /// A becomes its absolute value.
     Abs,

@@ -4,7 +4,7 @@ use ags_text::FourDigits;
 use std::fmt;
 
 /// The first fault of a listing, or want of memory.
-#[derive(Clone, Copy, PartialEq, Eq)]
+#[derive(Clone, Copy)]
 pub enum ListError {
     /// Number 1: this line hasn't the form of a listing's.
     BadLine {

@@ -4,7 +4,7 @@ use ags_isa::Order;
 use std::fmt;
 
 /// A key of a machine file (docs/MACHINE.md, Machine files).
-#[derive(Clone, Copy, Debug, PartialEq, Eq)]
+#[derive(Clone, Copy)]
 pub enum Key {
     /// The table of codes.
     Codes,

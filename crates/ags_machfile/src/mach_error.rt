@@ -7,7 +7,7 @@ use std::fmt;
 
 /// Why a machine file wasn't read: the first test that it fails, in the order of docs/MACHINE.md (Machine files), or want of
 /// memory.
-#[derive(Clone, Copy, PartialEq, Eq)]
+#[derive(Clone, Copy)]
 pub enum MachError {
     /// Number 1: the bytes are no TOML document in UTF-8.
     NotToml,

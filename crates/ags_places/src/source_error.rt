@@ -61,7 +61,7 @@ pub struct SourceError {
 }
 
 /// Why a source wasn't assembled.
-#[derive(Clone, Copy, PartialEq, Eq)]
+#[derive(Clone, Copy)]
 pub enum AssembleError {
     /// It has this fault.
     Source(SourceError),

@@ -14,7 +14,7 @@ pub enum Phase {
 }
 
 /// One action of one actor: of the processor, of the timer, or of a sensor or the panel.
-#[derive(Clone, Copy, PartialEq, Eq)]
+#[derive(Clone, Copy)]
 pub enum Event {
     /// The processor runs one order.
     Step,

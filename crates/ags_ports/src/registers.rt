@@ -11,7 +11,7 @@ use std::marker::Model;
 pub const MOST_REGISTERS: usize = 32;
 
 /// A register.
-#[derive(Clone, Copy, Default, PartialEq, Eq)]
+#[derive(Clone, Copy, Default)]
 pub struct Port {
     /// Its address.
     pub address: u16,

@@ -7,7 +7,7 @@ use ags_isa::Order;
 use std::marker::Model;
 
 /// How long each of the 27 orders takes, in microseconds: from 1 to 1000.
-#[derive(Clone, Copy, PartialEq, Eq)]
+#[derive(Clone, Copy)]
 pub struct Times {
     micros: [u32; 27],
 }

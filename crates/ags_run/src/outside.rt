@@ -4,7 +4,7 @@ use ags_word::Word;
 
 /// What a certificate doesn't declare of the start of a script: the first of these, cells by their addresses, and input registers
 /// in the order of the machine's table.
-#[derive(Clone, Copy, Debug, PartialEq, Eq)]
+#[derive(Clone, Copy)]
 pub enum Outside {
     /// The location that the script starts at is another than the certificate's.
     Place {

@@ -4,7 +4,7 @@ use crate::outside::Outside;
 use ags_word::Word;
 
 /// Why a script wasn't played to its end.
-#[derive(Clone, Copy, Debug, PartialEq, Eq)]
+#[derive(Clone, Copy)]
 pub enum PlayError {
     /// The output failed in this call.
     WriteFault,

@@ -30,7 +30,7 @@ use ags_script::laws::scripts_suit_their_machine;
 use std::alloc::Global;
 
 /// How many events a script made.
-#[derive(Clone, Copy, Debug, PartialEq, Eq)]
+#[derive(Clone, Copy)]
 pub struct Played {
     /// The steps.
     pub steps: u64,

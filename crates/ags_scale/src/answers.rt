@@ -8,7 +8,7 @@ use ags_tags::{RowTag, Tag};
 use ags_word::Word;
 
 /// Two tags that meet.
-#[derive(Clone, Copy, Debug, PartialEq, Eq)]
+#[derive(Clone, Copy)]
 pub struct Meeting {
     /// The row's tag of A or Q.
     pub left: RowTag,
@@ -17,7 +17,7 @@ pub struct Meeting {
 }
 
 /// What fails of a case.
-#[derive(Clone, Copy, Debug, PartialEq, Eq)]
+#[derive(Clone, Copy)]
 pub enum TagFault {
     /// Its order lets two tags meet that aren't equal.
     Mixes {

@@ -6,7 +6,7 @@ use std::alloc::{AllocError, AllocFailed};
 use std::fmt;
 
 /// What is wrong with a line, by the number and the name that it is printed with.
-#[derive(Clone, Copy, Debug, PartialEq, Eq)]
+#[derive(Clone, Copy)]
 pub enum ScriptKind {
     /// Number 1: the line is none of the forms, out of place, or longer than 512 bytes.
     BadLine,
@@ -17,7 +17,7 @@ pub enum ScriptKind {
 }
 
 /// Why a script wasn't read.
-#[derive(Clone, Copy, Debug, PartialEq, Eq)]
+#[derive(Clone, Copy)]
 pub enum ScriptError {
     /// It has a fault, and this is the first.
     At {

@@ -12,7 +12,7 @@ use std::marker::Model;
 use thiserror::Error;
 
 /// What a symbol stands for.
-#[derive(Clone, Copy, PartialEq, Eq)]
+#[derive(Clone, Copy)]
 pub struct Defined {
     /// Its value (docs/SOURCE.md, Places).
     pub value: i32,

@@ -5,7 +5,7 @@ ghost use Rattle.std.specs.Prelude.{◌≡◌};
 use std::fmt;
 
 /// What is wrong with a line, by the number and the name that it is printed with (docs/SCALES.md, Faults).
-#[derive(Clone, Copy, Debug, PartialEq, Eq)]
+#[derive(Clone, Copy)]
 pub enum ScaleKind {
     /// Number 1: the line is none of the forms, out of order or too long, or names no register of the machine; or END is missing.
     BadLine,
@@ -18,7 +18,7 @@ pub enum ScaleKind {
 }
 
 /// Why a text of scales wasn't read.
-#[derive(Clone, Copy, Debug, PartialEq, Eq)]
+#[derive(Clone, Copy)]
 pub enum ScaleError {
     /// It has a fault, and this is the first.
     At {

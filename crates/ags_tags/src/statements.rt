@@ -3,7 +3,7 @@
 use crate::tags::RowTags;
 
 /// What a line names by its address.
-#[derive(Clone, Copy, Debug, PartialEq, Eq)]
+#[derive(Clone, Copy)]
 pub enum Table {
     /// A cell.
     Cell,
@@ -14,7 +14,7 @@ pub enum Table {
 }
 
 /// The scale of a cell or a register.
-#[derive(Clone, Copy, Debug, PartialEq, Eq)]
+#[derive(Clone, Copy)]
 pub struct Entry {
     /// Its address.
     pub address: u16,
@@ -23,7 +23,7 @@ pub struct Entry {
 }
 
 /// The tags of a row.
-#[derive(Clone, Copy, Debug, PartialEq, Eq)]
+#[derive(Clone, Copy)]
 pub struct RowEntry {
     /// The row's number; the first row of the certificate is 1.
     pub row: u32,
@@ -32,7 +32,7 @@ pub struct RowEntry {
 }
 
 /// What a line states.
-#[derive(Clone, Copy, Debug, PartialEq, Eq)]
+#[derive(Clone, Copy)]
 pub enum ScaleLine {
     /// The scale of a cell or a register.
     Scaled(Table, Entry),

@@ -5,7 +5,7 @@ ghost use Rattle.std.specs.Prelude.{◌≡◌};
 use std::fmt;
 
 /// What is wrong with a line, by the number and the name that it is printed with (docs/TIMES.md, Faults).
-#[derive(Clone, Copy, Debug, PartialEq, Eq)]
+#[derive(Clone, Copy)]
 pub enum BudgetKind {
     /// Number 1: the line is none of the forms, out of order or too long; or END is missing.
     BadLine,
@@ -20,7 +20,7 @@ pub enum BudgetKind {
 }
 
 /// Why a text of times wasn't read.
-#[derive(Clone, Copy, Debug, PartialEq, Eq)]
+#[derive(Clone, Copy)]
 pub enum BudgetError {
     /// It has a fault, and this is the first.
     At {

@@ -10,7 +10,7 @@ use ags_statements::read_count;
 use ags_text::{are_blanks, split_field};
 
 /// The bound of a row, as a line states it.
-#[derive(Clone, Copy, Debug, PartialEq, Eq)]
+#[derive(Clone, Copy)]
 pub struct RowBound {
     /// The row's number; the first row of the certificate is 1.
     pub row: u32,
@@ -19,7 +19,7 @@ pub struct RowBound {
 }
 
 /// What a line states.
-#[derive(Clone, Copy, Debug, PartialEq, Eq)]
+#[derive(Clone, Copy)]
 pub enum TimesLine {
     /// The bound of a row.
     Bound(RowBound),

@@ -5,7 +5,7 @@ use ags_posts::Stop;
 use ags_word::Word;
 
 /// What fails first in one row.
-#[derive(PartialEq, Eq, Drop)]
+#[derive(Drop)]
 pub enum RowFault<D> {
     /// The words at the row's location are more than 16.
     CodeUnknown,

@@ -8,7 +8,7 @@ use crate::words::Word;
 use std::marker::Model;
 
 /// The number of a pair of words, A above Q's low 17 bits: from -2^34 to 2^34 - 1.
-#[derive(Clone, Copy, PartialEq, Eq)]
+#[derive(Clone, Copy)]
 pub struct Long {
     value: i64,
 }

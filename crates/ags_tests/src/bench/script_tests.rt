@@ -16,7 +16,7 @@ fn read_text(rt: &impl Abort, alloc: Global, text: &str) -> Result<BenchScript, 
 
 /// Expects the commands of a text, each with its line's number.
 fn expect_commands(rt: &(impl AllocGlobal + Abort), text: &str, wanted: &[(u32, BenchCommand)]) {
-    let script = read_text(rt, rt.alloc(), text).expect(rt, text);
+    let script = read_text(rt, rt.alloc(), text).ok().expect(rt, text);
     expect_same(rt, &script.len(), &wanted.len());
     for position in 0..script.len() {
         assert!(rt; position < wanted.len());
