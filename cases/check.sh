@@ -8,6 +8,8 @@
 #   file NAME             a file, whose text is the lines below
 #   run STATUS WORD..     a run of AGS with these words over the files above: its status, and below it what is printed
 #   bench STATUS WORD..   the same of AGSBENCH
+#   short STATUS WORD..   the same of AGS with 20,000 kilobytes of memory
+#   shut STATUS WORD..    the same of AGS whose standard output is closed
 #   |LINE                 a line of the text of a file, or of what is printed
 #   $ COMMAND             a piece of such a text that a command writes, which is run in this folder
 #   !LINE                 a line on standard error, which isn't looked at where the case has none
@@ -36,11 +38,20 @@ tell() {
   differing=1
 }
 
+# becomes PROGRAM WORD..: the program, as the case has it
+becomes() {
+  case $how in
+    short) ulimit -v 20000 ;;
+    shut) exec >&- ;;
+  esac
+  exec "$@"
+}
+
 # starts: the run of an earlier case is over, and the text below belongs to another one
 starts() {
   local status
   [ -n "$program" ] || return 0
-  (cd "$files" && exec "$program" "${words[@]:1}" >"$told.out" 2>"$told.err" </dev/null)
+  (cd "$files" && becomes "$program" "${words[@]:1}" >"$told.out" 2>"$told.err" </dev/null)
   status=$?
   [ "$status" = "${words[0]}" ] || tell "$at" "the status is $status, and ${words[0]} is wanted"
   cmp -s "$told.out" "$wanted" || tell "$at" "what is printed differs: $(diff "$wanted" "$told.out" | head -n 5)"
@@ -50,11 +61,11 @@ starts() {
   program=
 }
 
-# begins PROGRAM WORD..: a run, which ends where its text does
+# begins KIND PROGRAM WORD..: a run of that kind, which ends where its text does
 begins() {
   starts
-  program=$1
-  eval "words=($2)"
+  how=$1 program=$2
+  eval "words=($3)"
   at=$number
   : >"$said"
   exec 3>"$wanted"
@@ -65,7 +76,7 @@ for cases in "$@"; do
     printf 'no such file: %s\n' "$cases" >&2
     exit 2
   fi
-  number=0 at=0 program= words=()
+  number=0 at=0 program= how= words=()
   rm -rf "$files" && mkdir "$files"
   exec 3>/dev/null
   while IFS= read -r line || [ -n "$line" ]; do
@@ -78,8 +89,8 @@ for cases in "$@"; do
         starts
         exec 3>"$files/${line#file }"
         ;;
-      'run '*) begins "$ags" "${line#run }" ;;
-      'bench '*) begins "$bench" "${line#bench }" ;;
+      'run '* | 'short '* | 'shut '*) begins "${line%% *}" "$ags" "${line#* }" ;;
+      'bench '*) begins run "$bench" "${line#bench }" ;;
       '== '*)
         starts
         exec 3>/dev/null

@@ -17,6 +17,8 @@ mod law_tests;
 #[cfg(test)]
 mod link_tests;
 #[cfg(test)]
+mod load_tests;
+#[cfg(test)]
 mod row_tests;
 #[cfg(test)]
 mod tags_tests;

@@ -14,6 +14,8 @@ mod image_tests;
 #[cfg(test)]
 mod law_tests;
 #[cfg(test)]
+mod order_tests;
+#[cfg(test)]
 mod outside;
 #[cfg(test)]
 mod tape_tests;

@@ -17,3 +17,5 @@ mod machine;
 mod piece_tests;
 #[cfg(test)]
 mod status_tests;
+#[cfg(test)]
+mod want_tests;

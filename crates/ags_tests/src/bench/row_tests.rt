@@ -4,7 +4,7 @@ use crate::bench::common::{Case, expect_three};
 use ags_bench::Status;
 
 /// The word that the sensor gives, and what comes of a script.
-const CASES: [(u32, Case); 7] = [
+const CASES: [(u32, Case); 10] = [
     // a hundred cycles
     (
         0o001750,
@@ -89,6 +89,40 @@ const CASES: [(u32, Case); 7] = [
             status: Status::No,
             text: "CERTIFIED ROWS 31 CASES 32\nDETACHED 2 LEFT 9 HEARD 0 LAST ------\nNOFEED LINE 2 DEVICE 2\n",
             kept: &[(100, 0, None), (0, 0, None)],
+        },
+    ),
+    // a number that no device has, and a device that feeds no register: the devices are as they were made
+    (
+        0o001750,
+        Case {
+            script: "FEED 4\n",
+            most: 4096,
+            failing: 0,
+            status: Status::No,
+            text: "CERTIFIED ROWS 31 CASES 32\nNODEVICE LINE 1 DEVICE 4\n",
+            kept: &[(100, 0, None), (9, 0, None), (0, 0, None)],
+        },
+    ),
+    (
+        0o001750,
+        Case {
+            script: "FEED 0\n",
+            most: 4096,
+            failing: 0,
+            status: Status::No,
+            text: "CERTIFIED ROWS 31 CASES 32\nNODEVICE LINE 1 DEVICE 0\n",
+            kept: &[(100, 0, None), (9, 0, None), (0, 0, None)],
+        },
+    ),
+    (
+        0o001750,
+        Case {
+            script: "FEED 3\n",
+            most: 4096,
+            failing: 0,
+            status: Status::No,
+            text: "CERTIFIED ROWS 31 CASES 32\nNOFEED LINE 1 DEVICE 3\n",
+            kept: &[(100, 0, None), (9, 0, None), (0, 0, None)],
         },
     ),
 ];

@@ -128,7 +128,7 @@ fn each_byte_as_each_kind_of_file(rt: HostRuntime) {
     for byte in 0u8..=255 {
         let mut shelf = shelf_with(&rt, rt.alloc(), byte);
         for answer in answers_of(byte) {
-            expect_over(&rt, &byte, &mut shelf, 4096, *answer);
+            expect_over(&rt, &byte, &mut shelf, 9, *answer);
         }
     }
 }

@@ -3,9 +3,8 @@
 ghost use Rattle.std.specs.Prelude.{◌<◌, ◌≡◌, length};
 ghost use Rattle.ags_ports.specs.State.{IsState};
 
-use crate::machine::common::word;
+use crate::machine::common::{image_of, word};
 use ags_core::Core;
-use ags_image::Image;
 use ags_ports::{Done, Event, Machine, Stored};
 use std::alloc::Global;
 use std::process::Abort;
@@ -20,13 +19,8 @@ fn loaded(
 ) -> Core
     ensures { IsState machine.now result }
 {
-    let mut image = Image::new(alloc).expect(rt, "memory for an image");
-    for &(address, number) in cells {
-        assert!(rt; address < 4096);
-        image.set(address, word(rt, number));
-    }
     assert!(rt; start < 4096);
-    Core::new(alloc, machine, &image, start).expect(rt, "memory for a core")
+    Core::new(alloc, machine, &image_of(rt, alloc, cells), start).expect(rt, "memory for a core")
 }
 
 /// What is told of an event, with the address of what it takes, stores or gives.
