@@ -6,7 +6,7 @@ use std::alloc::{AllocError, AllocFailed};
 use std::fmt;
 
 /// What is wrong with a line, by the number and the name that it is printed with (docs/CERTIFICATE.md, Faults).
-#[derive(Clone, Copy, Debug, PartialEq, Eq)]
+#[derive(Clone, Copy, PartialEq, Eq)]
 pub enum CertKind {
     /// Number 1: the line is none of the forms, out of order, too long, none of the text's version, or names a fixed cell or no
     /// register; or END is missing.
@@ -30,7 +30,7 @@ pub enum CertKind {
 }
 
 /// Why a certificate wasn't read.
-#[derive(Clone, Copy, Debug, PartialEq, Eq)]
+#[derive(Clone, Copy, PartialEq, Eq)]
 pub enum CertError {
     /// It has a fault, and this is the first.
     At {

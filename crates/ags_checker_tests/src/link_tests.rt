@@ -252,7 +252,7 @@ fn expect_ways(
         first: post_of(rt, link, ways[0]),
         second: post_of(rt, link, ways[1]),
     };
-    expect_same(rt, &(ends, offset, told), &(ends, offset, Ok(pair)));
+    assert!(rt; told == Ok(pair), "{ends:?} {offset}");
 }
 
 #[test]
@@ -277,7 +277,9 @@ fn run_from_linked_cell(
 #[test]
 fn link_to_the_cell_that_is_run(rt: HostRuntime) {
     let alloc = rt.alloc();
-    let pair = run_from_linked_cell(&rt, alloc, -106_474).expect(&rt, "posts");
+    let pair = run_from_linked_cell(&rt, alloc, -106_474)
+        .ok()
+        .expect(&rt, "posts");
     let post = pair.first.expect(&rt, "a post");
     let own = Some(At {
         address: 0o20,
@@ -290,5 +292,5 @@ fn link_to_the_cell_that_is_run(rt: HostRuntime) {
         first: None,
         second: None,
     };
-    expect_same(&rt, &run_from_linked_cell(&rt, alloc, -106_476), &Ok(none));
+    assert!(rt; run_from_linked_cell(&rt, alloc, -106_476) == Ok(none));
 }

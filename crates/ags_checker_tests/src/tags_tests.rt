@@ -25,7 +25,7 @@ fn expect_scales(rt: &impl Abort, scales: &Scales, wanted: &Told) {
         scales.output(0o6001),
     ];
     let rows = [scales.row(1), scales.row(2), scales.row(3), scales.row(4)];
-    expect_same(rt, &(tags, rows), wanted);
+    assert!(rt; (tags, rows) == *wanted);
 }
 
 /// The scales of a text for three rows on the standard machine.

@@ -30,7 +30,7 @@ pub enum Event {
 }
 
 /// A word and the address that it goes to: a cell's in a store, an output register's in OUT.
-#[derive(Clone, Copy, Debug, PartialEq, Eq)]
+#[derive(Clone, Copy, PartialEq, Eq)]
 pub struct Stored {
     /// The address.
     pub address: u16,
@@ -39,7 +39,7 @@ pub struct Stored {
 }
 
 /// What one event makes of the machine: the report of a step.
-#[derive(Clone, Copy, Debug, PartialEq, Eq)]
+#[derive(Clone, Copy, PartialEq, Eq)]
 pub struct Done {
     /// Whether an order ran.
     pub ran: bool,

@@ -4,7 +4,7 @@ use ags_domain::Operands;
 use ags_row::Post;
 
 /// The posts of a case: a single post is the first, and of two the one that goes elsewhere is.
-#[derive(Debug, PartialEq, Eq, Drop)]
+#[derive(PartialEq, Eq, Drop)]
 pub struct PostPair<D> {
     /// The first post.
     pub first: Option<Post<D>>,
@@ -13,7 +13,7 @@ pub struct PostPair<D> {
 }
 
 /// Why the checker stops at a case. Where several reasons hold, the one that stands earlier here is told.
-#[derive(Debug, PartialEq, Eq, Drop)]
+#[derive(PartialEq, Eq, Drop)]
 pub enum Stop<D> {
     /// The word is no order.
     NoOrder,

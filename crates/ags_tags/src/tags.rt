@@ -3,7 +3,7 @@
 use std::fmt;
 
 /// The scale of a word (docs/SCALES.md, Scales).
-#[derive(Clone, Copy, Debug, PartialEq, Eq)]
+#[derive(Clone, Copy, PartialEq, Eq)]
 pub enum Tag {
     /// It has none.
     Raw,
@@ -12,7 +12,7 @@ pub enum Tag {
 }
 
 /// What a row says of the scale of A or Q.
-#[derive(Clone, Copy, Debug, PartialEq, Eq)]
+#[derive(Clone, Copy, PartialEq, Eq)]
 pub enum RowTag {
     /// Nothing: it may have any.
     Any,
@@ -21,7 +21,7 @@ pub enum RowTag {
 }
 
 /// What a row says of the scales of A and Q.
-#[derive(Clone, Copy, Debug, PartialEq, Eq)]
+#[derive(Clone, Copy, PartialEq, Eq)]
 pub struct RowTags {
     /// Of A.
     pub a: RowTag,

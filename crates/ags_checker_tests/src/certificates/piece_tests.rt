@@ -226,11 +226,8 @@ fn a_line_over_three_pieces_is_read_alike(rt: HostRuntime) {
 /// Expects the line of a bad line in pieces.
 fn expect_bad_line(rt: &impl Abort, alloc: Global, pieces: &[&[u8]], line: u32) {
     let kind = CertKind::BadLine;
-    let told = match of_pieces(rt, alloc, pieces) {
-        Ok(_) => None,
-        Err(error) => Some(error),
-    };
-    expect_same(rt, &told, &Some(CertError::At { line, kind }));
+    let told = of_pieces(rt, alloc, pieces).err();
+    assert!(rt; told == Some(CertError::At { line, kind }), "line {line}");
 }
 
 /// A row and the end, as they stand after lines that do nothing.

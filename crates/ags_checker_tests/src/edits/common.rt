@@ -75,5 +75,7 @@ pub(crate) fn expect_verdict<L: Ledger>(
 /// The certificate of a text on the standard machine.
 pub(crate) fn cert_read(rt: &impl Abort, alloc: Global, text: &[u8]) -> Cert {
     assert!(rt; text.len() <= CERT_LIMIT);
-    read(alloc, text, &Ports::standard()).expect(rt, "a certificate")
+    read(alloc, text, &Ports::standard())
+        .ok()
+        .expect(rt, "a certificate")
 }

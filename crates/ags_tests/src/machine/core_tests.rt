@@ -84,7 +84,7 @@ fn expect(
     ensures outputs { length core.new.outputs ≡ length core.old.outputs }
 {
     let done = core.act(machine, event);
-    assert_eq!(rt; done, report(rt, order.0, order.1, told));
+    assert!(rt; done == report(rt, order.0, order.1, told), "{}", order.0);
 }
 
 /// Transfers from registers, a sum that overflows, stores, and transfers to registers, from 4000 octal on.
