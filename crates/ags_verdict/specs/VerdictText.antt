@@ -1,11 +1,13 @@
 -- The line that a verdict is printed as. Words are six octal digits, locations and addresses four, other numbers plain decimals, and
 -- an indicator is 0 or 1.
-use Rattle.std.specs.Prelude.{ℕ, List, ◌++◌, codes, if◌then◌else◌}
+use Rattle.std.specs.Prelude.{ℕ, List, [], ◌++◌, codes, if◌then◌else◌}
 use Rattle.std.specs.Fmt.{decimal}
 use Rattle.ags_text.specs.Numeral.{octal4_text, octal6_text}
 use Rattle.ags_domain.specs.ValueText.{value_text}
 use Rattle.ags_domain.specs.declared.operands.Operands.{Operands}
 use Rattle.ags_domain.specs.declared.values.Value.{Value}
+use Rattle.ags_verdict.specs.declared.texts.Rest.{Rest}
+use Rattle.ags_verdict.specs.declared.texts.Rest.TheVariants.{Nothing, Address, Overflowing, Stored, Uncovered}
 use Rattle.ags_verdict.specs.declared.verdicts.Refusal.{Refusal}
 use Rattle.ags_verdict.specs.declared.verdicts.Refusal.TheVariants.{InitRange, StartUncovered, CodeUnknown, NoOrder, BadPort, FixedWrite, MayOverflow, CellRange, OutputRange, NotCovered}
 use Rattle.ags_verdict.specs.declared.verdicts.Verdict.{Verdict}
@@ -22,6 +24,15 @@ operands_text o = codes " A " ++ octal6_text o.a ++ codes " Q " ++ octal6_text o
 -- an address, with a value
 abbrev pub place_text : ℕ → Value → List ℕ
 place_text address value = codes " AT " ++ octal4_text address ++ codes " VALUE " ++ value_text value
+
+-- what a refusal tells after its row and its word
+abbrev pub rest_text : Rest → List ℕ
+rest_text Nothing = []
+rest_text (Address address) = codes " AT " ++ octal4_text address
+rest_text (Overflowing operands) = operands_text operands
+rest_text (Stored address value) = place_text address value
+rest_text (Uncovered x v next) = codes " X " ++ decimal x ++ codes " V " ++ (if v then codes "1" else codes "0")
+    ++ codes " NEXT " ++ octal4_text next
 
 -- a refusal's number and its name, and what it tells
 abbrev pub refusal_text : Refusal Value → List ℕ

@@ -24,39 +24,6 @@ impl fmt::Display for At {
     }
 }
 
-/// Operands that overflow.
-#[derive(Clone, Copy)]
-struct Overflowing(Operands);
-
-impl fmt::Display for Overflowing {
-    ghost use Rattle.ags_verdict.specs.VerdictText.{operands_text};
-
-    ghost output = { λ operands. Some (operands_text operands.0) };
-
-    fn fmt<W: fmt::Write>(&self, f: &mut fmt::Formatter<W>) -> fmt::Result {
-        let a = SixDigits(self.0.a);
-        let q = SixDigits(self.0.q);
-        let m = SixDigits(self.0.m);
-        write!(f, " A {a} Q {q} M {m}")
-    }
-}
-
-/// An address with a value.
-#[derive(Clone, Copy)]
-struct Place(u16, Value);
-
-impl fmt::Display for Place {
-    ghost use Rattle.ags_verdict.specs.VerdictText.{place_text};
-
-    ghost output = { λ place. Some (place_text place.0 place.1) };
-
-    fn fmt<W: fmt::Write>(&self, f: &mut fmt::Formatter<W>) -> fmt::Result {
-        let address = FourDigits(self.0);
-        let value = self.1;
-        write!(f, " AT {address} VALUE {value}")
-    }
-}
-
 /// A cell's address with its first word.
 #[derive(Clone, Copy)]
 struct First(u16, Word);
@@ -74,27 +41,44 @@ impl fmt::Display for First {
     }
 }
 
-/// An index, an indicator and a location.
+/// What a refusal tells after its row and its word.
 #[derive(Clone, Copy)]
-struct Uncovered {
-    x: u8,
-    v: bool,
-    next: u16,
+enum Rest {
+    /// Nothing.
+    Nothing,
+    /// A cell's address.
+    Address(u16),
+    /// Operands that overflow.
+    Overflowing(Operands),
+    /// An address with a value.
+    Stored(u16, Value),
+    /// An index, an indicator and a location.
+    Uncovered { x: u8, v: bool, next: u16 },
 }
 
-impl fmt::Display for Uncovered {
-    ghost use Rattle.std.specs.Prelude.{◌++◌, codes, if◌then◌else◌};
-    ghost use Rattle.std.specs.Fmt.{decimal};
-    ghost use Rattle.ags_text.specs.Numeral.{octal4_text};
+impl fmt::Display for Rest {
+    ghost use Rattle.ags_verdict.specs.VerdictText.{rest_text};
 
-    ghost output = { λ post. Some (codes " X " ++ decimal post.x
-        ++ codes " V " ++ (if post.v then codes "1" else codes "0") ++ codes " NEXT " ++ octal4_text post.next) };
+    ghost output = { λ rest. Some (rest_text rest) };
 
     fn fmt<W: fmt::Write>(&self, f: &mut fmt::Formatter<W>) -> fmt::Result {
-        let x = self.x;
-        let indicator = if self.v { "1" } else { "0" };
-        let next = FourDigits(self.next);
-        write!(f, " X {x} V {indicator} NEXT {next}")
+        match *self {
+            Rest::Nothing => Ok(()),
+            Rest::Address(address) => write!(f, " AT {}", FourDigits(address)),
+            Rest::Overflowing(operands) => {
+                let a = SixDigits(operands.a);
+                let q = SixDigits(operands.q);
+                let m = SixDigits(operands.m);
+                write!(f, " A {a} Q {q} M {m}")
+            }
+            Rest::Stored(address, value) => {
+                write!(f, " AT {} VALUE {value}", FourDigits(address))
+            }
+            Rest::Uncovered { x, v, next } => {
+                let indicator = if v { "1" } else { "0" };
+                write!(f, " X {x} V {indicator} NEXT {}", FourDigits(next))
+            }
+        }
     }
 }
 
@@ -105,48 +89,44 @@ impl fmt::Display for Refusal<Value> {
     ghost output = { λ refusal. Some (refusal_text refusal) };
 
     fn fmt<W: fmt::Write>(&self, f: &mut fmt::Formatter<W>) -> fmt::Result {
-        match *self {
+        let (name, row, word, rest) = match *self {
             Refusal::InitRange { address, word } => {
-                write!(f, "1 InitRange {}", First(address, word))
+                return write!(f, "1 InitRange {}", First(address, word));
             }
-            Refusal::StartUncovered => f.write_str("2 StartUncovered"),
-            Refusal::CodeUnknown { row } => write!(f, "3 CodeUnknown ROW {row}"),
-            Refusal::NoOrder { row, word } => write!(f, "4 NoOrder{}", At(row, word)),
-            Refusal::BadPort { row, word } => write!(f, "5 BadPort{}", At(row, word)),
+            Refusal::StartUncovered => return f.write_str("2 StartUncovered"),
+            Refusal::CodeUnknown { row } => return write!(f, "3 CodeUnknown ROW {row}"),
+            Refusal::NoOrder { row, word } => ("4 NoOrder", row, word, Rest::Nothing),
+            Refusal::BadPort { row, word } => ("5 BadPort", row, word, Rest::Nothing),
             Refusal::FixedWrite { row, word, address } => {
-                let address = FourDigits(address);
-                write!(f, "6 FixedWrite{} AT {address}", At(row, word))
+                ("6 FixedWrite", row, word, Rest::Address(address))
             }
             Refusal::MayOverflow {
                 row,
                 word,
                 operands,
-            } => write!(f, "7 MayOverflow{}{}", At(row, word), Overflowing(operands)),
+            } => ("7 MayOverflow", row, word, Rest::Overflowing(operands)),
             Refusal::CellRange {
                 row,
                 word,
                 address,
                 value,
-            } => write!(f, "8 CellRange{}{}", At(row, word), Place(address, value)),
+            } => ("8 CellRange", row, word, Rest::Stored(address, value)),
             Refusal::OutputRange {
                 row,
                 word,
                 address,
                 value,
-            } => write!(f, "9 OutputRange{}{}", At(row, word), Place(address, value)),
+            } => ("9 OutputRange", row, word, Rest::Stored(address, value)),
             Refusal::NotCovered {
                 row,
                 word,
                 x,
                 v,
                 next,
-            } => write!(
-                f,
-                "10 NotCovered{}{}",
-                At(row, word),
-                Uncovered { x, v, next }
-            ),
-        }
+            } => ("10 NotCovered", row, word, Rest::Uncovered { x, v, next }),
+        };
+        let at = At(row, word);
+        write!(f, "{name}{at}{rest}")
     }
 }
 
