@@ -5,41 +5,8 @@ ghost use Rattle.std.specs.Prelude.{Some};
 use crate::verdicts::{Refusal, Verdict};
 use ags_domain::{Operands, Value};
 use ags_text::FourDigits;
-use ags_word::{SixDigits, Word};
+use ags_word::SixDigits;
 use std::fmt;
-
-/// A row's number with a case's word.
-#[derive(Clone, Copy)]
-struct At(u32, Word);
-
-impl fmt::Display for At {
-    ghost use Rattle.ags_verdict.specs.VerdictText.{at_text};
-
-    ghost output = { λ at. Some (at_text at.0 at.1) };
-
-    fn fmt<W: fmt::Write>(&self, f: &mut fmt::Formatter<W>) -> fmt::Result {
-        let row = self.0;
-        let word = SixDigits(self.1);
-        write!(f, " ROW {row} WORD {word}")
-    }
-}
-
-/// A cell's address with its first word.
-#[derive(Clone, Copy)]
-struct First(u16, Word);
-
-impl fmt::Display for First {
-    ghost use Rattle.std.specs.Prelude.{◌++◌, codes};
-    ghost use Rattle.ags_text.specs.Numeral.{octal4_text, octal6_text};
-
-    ghost output = { λ first. Some (octal4_text first.0 ++ codes " " ++ octal6_text first.1) };
-
-    fn fmt<W: fmt::Write>(&self, f: &mut fmt::Formatter<W>) -> fmt::Result {
-        let address = FourDigits(self.0);
-        let word = SixDigits(self.1);
-        write!(f, "{address} {word}")
-    }
-}
 
 /// What a refusal tells after its row and its word.
 #[derive(Clone, Copy)]
@@ -91,7 +58,9 @@ impl fmt::Display for Refusal<Value> {
     fn fmt<W: fmt::Write>(&self, f: &mut fmt::Formatter<W>) -> fmt::Result {
         let (name, row, word, rest) = match *self {
             Refusal::InitRange { address, word } => {
-                return write!(f, "1 InitRange {}", First(address, word));
+                let address = FourDigits(address);
+                let word = SixDigits(word);
+                return write!(f, "1 InitRange {address} {word}");
             }
             Refusal::StartUncovered => return f.write_str("2 StartUncovered"),
             Refusal::CodeUnknown { row } => return write!(f, "3 CodeUnknown ROW {row}"),
@@ -125,8 +94,8 @@ impl fmt::Display for Refusal<Value> {
                 next,
             } => ("10 NotCovered", row, word, Rest::Uncovered { x, v, next }),
         };
-        let at = At(row, word);
-        write!(f, "{name}{at}{rest}")
+        let word = SixDigits(word);
+        write!(f, "{name} ROW {row} WORD {word}{rest}")
     }
 }
 
