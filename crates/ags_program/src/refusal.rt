@@ -1,6 +1,6 @@
 //! Why a file is refused.
 
-ghost use Rattle.std.specs.Prelude.{◌≡◌, IfOk};
+ghost use Rattle.std.specs.Prelude.{◌≡◌, ◌++◌, IfOk, IfSome, codes};
 ghost use Rattle.std.specs.String.{string_bytes};
 ghost use Rattle.ags_program.specs.Views.{line_of, status_of};
 
@@ -15,6 +15,7 @@ use ags_script::ScriptError;
 use ags_tags::ScaleError;
 use ags_times::BudgetError;
 use std::alloc::{AllocError, Global};
+use std::fmt;
 
 /// Why a file is refused: the first fault of its text.
 #[derive(Clone, Copy)]
@@ -35,6 +36,13 @@ pub enum Refusal {
     Scales(ScaleError),
     /// A text of edits has this fault.
     Edits(EditsError),
+}
+
+/// A fault as it is printed, with a line feed.
+fn printed_line<E: fmt::Display>(alloc: Global, error: &E) -> Result<String, AllocError>
+    ensures { IfOk result (λ line. IfSome (E.output error.now) (λ text. string_bytes line ≡ text ++ codes "\n")) }
+{
+    format!(in alloc; "{error}\n")
 }
 
 impl Refusal {
@@ -59,14 +67,14 @@ impl Refusal {
         ensures { IfOk result (λ line. string_bytes line ≡ line_of self.now) }
     {
         match *self {
-            Refusal::Machine(error) => format!(in alloc; "{error}\n"),
-            Refusal::Source(error) => format!(in alloc; "{error}\n"),
-            Refusal::Listing(error) => format!(in alloc; "{error}\n"),
-            Refusal::Certificate(error) => format!(in alloc; "{error}\n"),
-            Refusal::Script(error) => format!(in alloc; "{error}\n"),
-            Refusal::Times(error) => format!(in alloc; "{error}\n"),
-            Refusal::Scales(error) => format!(in alloc; "{error}\n"),
-            Refusal::Edits(error) => format!(in alloc; "{error}\n"),
+            Refusal::Machine(error) => printed_line(alloc, &error),
+            Refusal::Source(error) => printed_line(alloc, &error),
+            Refusal::Listing(error) => printed_line(alloc, &error),
+            Refusal::Certificate(error) => printed_line(alloc, &error),
+            Refusal::Script(error) => printed_line(alloc, &error),
+            Refusal::Times(error) => printed_line(alloc, &error),
+            Refusal::Scales(error) => printed_line(alloc, &error),
+            Refusal::Edits(error) => printed_line(alloc, &error),
         }
     }
 }
