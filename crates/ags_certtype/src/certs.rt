@@ -1,11 +1,12 @@
 //! Certificates.
 
-ghost use Rattle.std.specs.Prelude.{◌≡◌, ◌<◌, ◌≤◌, true, false, None, IfOk, length};
+ghost use Rattle.std.specs.Prelude.{◌≡◌, ◌<◌, ◌≤◌, ◌^◌, ◌↔◌, IsTrue, true, false, None, IfOk, length};
 ghost use Rattle.ags_certtype.specs.Cert.{IsCert, IsCertOfParts, certificate_of, stated_by};
-ghost use Rattle.ags_certtype.specs.Index.{numbers_at};
+ghost use Rattle.ags_certtype.specs.Index.{IsIndex, locations_of, numbers_at};
+ghost use Rattle.ags_certtype.specs.Limit.{most_rows};
 
 use crate::checks::{are_few_at_each, are_firsts_within, are_rows_within};
-use crate::indexes::{ENTRIES, fill, numbers_at};
+use crate::indexes::{ENTRIES, numbers_at, refill};
 use ags_domain::Value;
 use ags_row::{Limits, Row};
 use ags_word::{ERASABLE, LOCATIONS};
@@ -84,6 +85,28 @@ fn zeros(alloc: Global, count: usize) -> Result<Vec<u32>, AllocError>
     Ok(vec![in alloc; 0; count]?)
 }
 
+/// Whether a certificate may start where some parts say, and have so many entries for the cells at the start and so many rows.
+fn are_sizes_right(parts: &CertParts) -> bool
+    ensures { IsTrue result ↔ (parts.now.start < 4096
+        × (length parts.now.init.items ≡ 2048 × (1 ≤ length parts.now.rows.items × (length parts.now.rows.items ≤ most_rows)))) }
+{
+    parts.start < LOCATIONS
+        && parts.init.len() == ERASABLE as usize
+        && !parts.rows.is_empty()
+        && parts.rows.len() <= MOST_ROWS
+}
+
+/// An index of some rows by their locations: the entries, and the rows' numbers. The one error is want of memory.
+fn index_of(alloc: Global, rows: &[Row<Value>]) -> Result<(Vec<u32>, Vec<u32>), AllocError>
+    requires { length rows.now < 2 ^ 32 }
+    ensures { IfOk result (λ index. IsIndex (locations_of rows.now) index.0.items index.1.items) }
+{
+    let mut starts = zeros(alloc, ENTRIES)?;
+    let mut numbers = zeros(alloc, rows.len())?;
+    refill(rows, &mut starts, &mut numbers);
+    Ok((starts, numbers))
+}
+
 impl Cert {
     /// Whether some parts make a certificate. The one error is want of memory.
     fn is_made_of(alloc: Global, parts: &CertParts) -> Result<bool, AllocError>
@@ -94,13 +117,7 @@ impl Cert {
         if !are_few_at_each(alloc, parts.rows.as_slice())? {
             return Ok(false);
         }
-        if parts.start >= LOCATIONS
-            || parts.init.len() != ERASABLE as usize
-            || parts.rows.is_empty()
-        {
-            return Ok(false);
-        }
-        if parts.rows.len() > MOST_ROWS {
+        if !are_sizes_right(parts) {
             return Ok(false);
         }
         if !are_firsts_within(parts.init.as_slice(), &parts.limits) {
@@ -124,9 +141,7 @@ impl Cert {
         requires { IsCert (stated_by parts) }
         ensures { IfOk result (λ cert. cert ≡ stated_by parts) }
     {
-        let mut starts = zeros(alloc, ENTRIES)?;
-        let mut numbers = zeros(alloc, parts.rows.len())?;
-        fill(parts.rows.as_slice(), &mut starts[..], &mut numbers[..]);
+        let (starts, numbers) = index_of(alloc, parts.rows.as_slice())?;
         Ok(Cert {
             start: parts.start,
             limits: parts.limits,

@@ -1,12 +1,12 @@
 //! Edits of a certificate, in place. They take no memory, and where one is refused nothing changed.
 
-ghost use Rattle.std.specs.Prelude.{◌≡◌, ◌<◌, ◌≤◌, ◌↔◌, All, IsTrue, IfSome, None, true, length, get_or, set};
+ghost use Rattle.std.specs.Prelude.{◌≡◌, ◌<◌, ◌≤◌, ◌↔◌, All, IsTrue, IfErr, IfSome, OnOk, Err, None, true, length, get_or, set};
 ghost use Rattle.std.specs.List.{remove};
 ghost use Rattle.ags_domain.specs.Domain.{IsWithin};
 ghost use Rattle.ags_domain.specs.Value.{value_meaning};
 ghost use Rattle.ags_row.specs.Cell.{cells_ascend};
 ghost use Rattle.ags_certtype.specs.Cert.{rows_at};
-ghost use Rattle.ags_certtype.specs.Edit.{AreCellsWithin, IsLeastOutside, IsUseWithin, ReplacesLimit, ReplacesRow, others_at};
+ghost use Rattle.ags_certtype.specs.Edit.{AreCellsWithin, IsLeastOutside, IsNoRow, IsUseWithin, ReplacesLimit, ReplacesRow, others_at};
 ghost use Rattle.ags_certtype.specs.Limit.{most_rows_at_one};
 
 use crate::certs::{Cert, MOST_ROWS_AT_ONE};
@@ -102,19 +102,29 @@ impl Cert {
         }
     }
 
-    /// Replaces the row of a number, from 1 (docs/EDITS.md). It takes no memory. A row that isn't taken is dropped, and nothing changed.
-    pub fn replace_row(&mut self, row: u32, new: Row<Value>) -> Result<(), EditError>
-        ensures { ReplacesRow self.old row new result self.new }
+    /// Checks that a row may stand in the place of the row of a number, from 1.
+    fn check_row(&self, row: u32, new: &Row<Value>) -> Result<(), EditError>
+        ensures taken { OnOk result ((¬ IsNoRow self.now row) × AreCellsWithin self.now.limits new.now.at
+            × (others_at self.now.rows row new.now.location < most_rows_at_one)) }
+        ensures refused { IfErr result (λ error. ReplacesRow self.now row new.now (Err error) self.now) }
     {
         if row == 0 || self.rows.len() < row as usize {
             return Err(EditError::NoRow);
         }
-        if let Some(address) = row_outside(&new, &self.limits) {
+        if let Some(address) = row_outside(new, &self.limits) {
             return Err(EditError::OutsideGlobal { address });
         }
         if self.others_at(row, new.location()) >= MOST_ROWS_AT_ONE as usize {
             return Err(EditError::FullLocation);
         }
+        Ok(())
+    }
+
+    /// Replaces the row of a number, from 1 (docs/EDITS.md). It takes no memory. A row that isn't taken is dropped, and nothing changed.
+    pub fn replace_row(&mut self, row: u32, new: Row<Value>) -> Result<(), EditError>
+        ensures { ReplacesRow self.old row new result self.new }
+    {
+        self.check_row(row, &new)?;
         self.put_row(row as usize - 1, new);
         Ok(())
     }
