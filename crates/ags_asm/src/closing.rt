@@ -17,6 +17,14 @@ use ags_isa::{Codes, encode};
 use ags_places::WordFault;
 use ags_symbol::Symbols;
 
+/// What the operand of an order that waited comes to, where its symbols are defined.
+fn closing_sum(symbols: &Symbols, fix_up: &FixUp) -> Option<i32>
+    ensures { result ≡ closed_sum symbols.now fix_up.now }
+{
+    let rest = symbols.sum_of_terms(fix_up.rest.as_slice(), fix_up.place)?;
+    Some(fix_up.sum + rest)
+}
+
 /// The address that an order that waited comes to.
 fn close_address(symbols: &Symbols, fix_up: &FixUp) -> Result<u16, WordFault>
     ensures address { IfOk result (λ address. address ≡ unsigned_abs (unwrap_or (closed_sum symbols.now fix_up.now) (pos 0))) }
@@ -24,10 +32,10 @@ fn close_address(symbols: &Symbols, fix_up: &FixUp) -> Result<u16, WordFault>
     ensures faultless { OnOk result (address_fault (closed_sum symbols.now fix_up.now) ≡ None) }
     ensures fault { IfErr result (λ fault. address_fault (closed_sum symbols.now fix_up.now) ≡ Some fault) }
 {
-    let rest = symbols
-        .sum_of_terms(fix_up.rest.as_slice(), fix_up.place)
-        .ok_or(WordFault::Undefined)?;
-    address_of(fix_up.sum + rest)
+    match closing_sum(symbols, fix_up) {
+        Some(sum) => address_of(sum),
+        None => Err(WordFault::Undefined),
+    }
 }
 
 /// Gives the orders that wait their words, or finds the first card with a fault.
