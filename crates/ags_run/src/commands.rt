@@ -39,22 +39,10 @@ impl<'a> Player<'a> {
             Command::Set { address, word } => Ok(self.set(address, word)),
             Command::Feed => Ok(self.feed()),
             Command::Cycle(count) => Ok(self.run_cycles(count)),
-            Command::ShowReg => {
-                self.show_reg(out)?;
-                Ok(None)
-            }
-            Command::ShowCell(address) => {
-                self.show_cell(address, out)?;
-                Ok(None)
-            }
-            Command::ShowOut(address) => {
-                self.show_out(address, out)?;
-                Ok(None)
-            }
-            Command::ShowDeda => {
-                self.show_deda(out)?;
-                Ok(None)
-            }
+            Command::ShowReg => self.show_reg(out).and(Ok(None)),
+            Command::ShowCell(address) => self.show_cell(address, out).and(Ok(None)),
+            Command::ShowOut(address) => self.show_out(address, out).and(Ok(None)),
+            Command::ShowDeda => self.show_deda(out).and(Ok(None)),
             Command::Start(_) | Command::Cell { .. } | Command::Port { .. } => Ok(None),
         }
     }
