@@ -3,3 +3,4 @@ pub mod GuardLemmas
 pub mod JudgeLemmas
 pub mod TellingLemmas
 pub mod WorkloadLemmas
+pub mod SendingLemmas

@@ -32,6 +32,5 @@ pub(crate) fn write_judged<K: Sink>(
     ensures faults { HasCause (K.faults out.old) (K.faults out.new) (is_write_fault result) }
 {
     send_listing(alloc, &pair.source.bytes, &pair.source.made, out)?;
-    send_line(verdict_line(alloc, verdict), out)?;
-    Ok(verdict_status(verdict))
+    send_line(verdict_line(alloc, verdict), out).and(Ok(verdict_status(verdict)))
 }

@@ -45,8 +45,7 @@ fn say_met<K: Sink>(alloc: Global, error: PlayError, out: &mut K) -> Result<Stat
     ensures front { OnErr result (WroteFront (K.told out.old) (K.told out.new) (error_text error ++ codes "\n")) }
     ensures faults { HasCause (K.faults out.old) (K.faults out.new) (is_write_fault result) }
 {
-    send_line(met_line(alloc, error), out)?;
-    Ok(Status::No)
+    send_line(met_line(alloc, error), out).and(Ok(Status::No))
 }
 
 /// Plays a script with a certificate as its guard, and says what the play met.

@@ -90,6 +90,7 @@ pub(crate) fn judge_scales<K: Sink>(
     ensures faults { HasCause (K.faults out.old) (K.faults out.new) (is_write_fault result) }
 {
     let answer = scaled_of(&pair.machine, &pair.source.made.image, &pair.cert, scales);
-    send_verdict_and(alloc, verdict, scaled_line(alloc, &answer), out)?;
-    Ok(scaled_status(&answer))
+    send_verdict_and(alloc, verdict, scaled_line(alloc, &answer), out).and(Ok(scaled_status(
+        &answer,
+    )))
 }

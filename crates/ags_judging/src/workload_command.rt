@@ -100,6 +100,5 @@ pub(crate) fn write_counts<K: Sink>(
     ensures faults { HasCause (K.faults out.old) (K.faults out.new) (is_write_fault result) }
 {
     let line = counts_line(alloc, size, &pair.source.made, verdict);
-    send_line(line, out)?;
-    Ok(verdict_status(verdict))
+    send_line(line, out).and(Ok(verdict_status(verdict)))
 }

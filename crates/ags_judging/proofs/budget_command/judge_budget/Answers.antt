@@ -1,23 +1,25 @@
-use Rattle.std.proofs.Common.{◌++◌, inl, refl}
-use Rattle.std.proofs.lemmas.Result.{err_from_is_err_and}
+use Rattle.std.proofs.Common.{◌++◌, refl}
+use Rattle.ags_plan.specs.Plan.{WorkAt}
 use Rattle.ags_program.specs.Text.{timed_line, verdict_line}
-use Rattle.ags_program.specs.Work.{BudgetBehind, timed_status}
+use Rattle.ags_program.specs.Views.{pair_of}
+use Rattle.ags_program.specs.Work.{JudgePair, BudgetBehind, timed_status}
 use Rattle.ags_judging.proofs.JudgeLemmas.{judged_in_part, judged_whole}
+use Rattle.ags_judging.proofs.SendingLemmas.{fault_with, said_with}
 use Rattle.ags_judging.proofs.budget_command.judge_budget.Goals as goal
-
-pub returns-in_err-send_verdict_and-clause-says : goal.returns-in_err-send_verdict_and-clause-says
-returns-in_err-send_verdict_and-clause-says g c =
-    let p = err_from_is_err_and c.from_residual.result c.from_residual.ensures.1 in
-    let timed = c.timed_of-timed.result in
-    rw p.1 (inl (judged_in_part c.args.pair.now (BudgetBehind c.args.budget.now) c.args.verdict.now c.requires.source c.requires.verdict
-    (g.K.Sink.told c.args.out.now) (g.K.Sink.told c.send_verdict_and.new.out) (verdict_line c.args.verdict.now ++ timed_line timed) (timed_status timed)
-    (record { timed = timed; is_timed = c.timed_of-timed.ensures; text_is = refl; status_is = refl })
-    (c.in_err-send_verdict_and.ensures.front (timed_line timed) c.timed_line.ensures)))
 
 pub returns-clause-says : goal.returns-clause-says
 returns-clause-says g c =
     let timed = c.timed_of-timed.result in
-    rw c.timed_status.ensures (judged_whole c.args.pair.now (BudgetBehind c.args.budget.now) c.args.verdict.now c.requires.source c.requires.verdict
-    (g.K.Sink.told c.args.out.now) (g.K.Sink.told c.send_verdict_and.new.out) (verdict_line c.args.verdict.now ++ timed_line timed) (timed_status timed)
-    (record { timed = timed; is_timed = c.timed_of-timed.ensures; text_is = refl; status_is = refl })
-    (c.in_ok-send_verdict_and.ensures.sent (timed_line timed) c.timed_line.ensures))
+    let sequel = BudgetBehind c.args.budget.now in
+    let old = g.K.Sink.told c.args.out.now in
+    let new = g.K.Sink.told c.send_verdict_and.new.out in
+    let text = verdict_line c.args.verdict.now ++ timed_line timed in
+    rw (c.and.ensures, c.timed_status.ensures) (said_with c.send_verdict_and.result (WorkAt (JudgePair (pair_of c.args.pair.now) sequel)) old new (timed_status timed)
+    (judged_whole c.args.pair.now sequel c.args.verdict.now c.requires.source c.requires.verdict old new text (timed_status timed)
+    (record { timed = timed; is_timed = c.timed_of-timed.ensures; text_is = refl; status_is = refl }))
+    (judged_in_part c.args.pair.now sequel c.args.verdict.now c.requires.source c.requires.verdict old new text (timed_status timed)
+    (record { timed = timed; is_timed = c.timed_of-timed.ensures; text_is = refl; status_is = refl }))
+    (c.send_verdict_and.ensures.sent (timed_line timed) c.timed_line.ensures) (c.send_verdict_and.ensures.front (timed_line timed) c.timed_line.ensures))
+
+pub returns-clause-faults : goal.returns-clause-faults
+returns-clause-faults g c = rw (c.and.ensures, fault_with c.send_verdict_and.result c.timed_status.result) c.send_verdict_and.ensures.faults
