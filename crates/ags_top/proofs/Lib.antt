@@ -8,5 +8,6 @@ pub mod MainLemmas
 pub mod PlayLemmas
 pub mod PromiseLemmas
 pub mod ScaledLemmas
+pub mod SendingLemmas
 pub mod ThirdFileLemmas
 pub mod WriteLemmas

@@ -96,6 +96,5 @@ pub(crate) fn compare_images<K: Sink>(
     ensures faults { HasCause (K.faults out.old) (K.faults out.new) (is_write_fault result) }
 {
     let compared = compare(&made.image, listed);
-    send_line(compared_line(alloc, &compared), out)?;
-    Ok(compared_status(&compared))
+    send_line(compared_line(alloc, &compared), out).and(Ok(compared_status(&compared)))
 }

@@ -26,8 +26,7 @@ fn write_listing<K: Sink>(
     ensures says { Says program (WorkAt (work.WriteText SourceText.Listing (assembly_of source.now))) (K.told out.old) (K.told out.new) result }
     ensures faults { HasCause (K.faults out.old) (K.faults out.new) (is_write_fault result) }
 {
-    send_listing(alloc, &source.bytes, &source.made, out)?;
-    Ok(Status::Done)
+    send_listing(alloc, &source.bytes, &source.made, out).and(Ok(Status::Done))
 }
 
 /// Writes the tape of a source's words.
@@ -36,8 +35,7 @@ fn write_tape<K: Sink>(source: &SourceFile, out: &mut K) -> Result<Status, SendE
     ensures says { Says program (WorkAt (work.WriteText SourceText.Tape (assembly_of source.now))) (K.told out.old) (K.told out.new) result }
     ensures faults { HasCause (K.faults out.old) (K.faults out.new) (is_write_fault result) }
 {
-    send_tape(&source.made.image, out)?;
-    Ok(Status::Done)
+    send_tape(&source.made.image, out).and(Ok(Status::Done))
 }
 
 /// Writes the cross reference of a source's symbols.
