@@ -91,5 +91,6 @@ pub(crate) fn judge_budget<K: Sink>(
     ensures faults { HasCause (K.faults out.old) (K.faults out.new) (is_write_fault result) }
 {
     let timed = timed_of(&pair.machine, &pair.source.made.image, &pair.cert, budget);
-    send_verdict_and(alloc, verdict, timed_line(alloc, &timed), out).and(Ok(timed_status(&timed)))
+    let line = timed_line(alloc, &timed);
+    send_verdict_and(alloc, verdict, line, out).and(Ok(timed_status(&timed)))
 }

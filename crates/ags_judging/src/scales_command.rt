@@ -90,7 +90,6 @@ pub(crate) fn judge_scales<K: Sink>(
     ensures faults { HasCause (K.faults out.old) (K.faults out.new) (is_write_fault result) }
 {
     let answer = scaled_of(&pair.machine, &pair.source.made.image, &pair.cert, scales);
-    send_verdict_and(alloc, verdict, scaled_line(alloc, &answer), out).and(Ok(scaled_status(
-        &answer,
-    )))
+    let line = scaled_line(alloc, &answer);
+    send_verdict_and(alloc, verdict, line, out).and(Ok(scaled_status(&answer)))
 }

@@ -19,7 +19,7 @@ returns-clause-says g c =
     (record { timed = timed; is_timed = c.timed_of-timed.ensures; text_is = refl; status_is = refl }))
     (judged_in_part c.args.pair.now sequel c.args.verdict.now c.requires.source c.requires.verdict old new text (timed_status timed)
     (record { timed = timed; is_timed = c.timed_of-timed.ensures; text_is = refl; status_is = refl }))
-    (c.send_verdict_and.ensures.sent (timed_line timed) c.timed_line.ensures) (c.send_verdict_and.ensures.front (timed_line timed) c.timed_line.ensures))
+    (c.send_verdict_and.ensures.sent (timed_line timed) c.timed_line-line.ensures) (c.send_verdict_and.ensures.front (timed_line timed) c.timed_line-line.ensures))
 
 pub returns-clause-faults : goal.returns-clause-faults
 returns-clause-faults g c = rw (c.and.ensures, fault_with c.send_verdict_and.result c.timed_status.result) c.send_verdict_and.ensures.faults

@@ -19,7 +19,7 @@ returns-clause-says g c =
     (record { answer = answer; is_scaled = c.scaled_of-answer.ensures; text_is = refl; status_is = refl }))
     (judged_in_part c.args.pair.now sequel c.args.verdict.now c.requires.source c.requires.verdict old new text (scaled_status answer)
     (record { answer = answer; is_scaled = c.scaled_of-answer.ensures; text_is = refl; status_is = refl }))
-    (c.send_verdict_and.ensures.sent (scaled_line answer) c.scaled_line.ensures) (c.send_verdict_and.ensures.front (scaled_line answer) c.scaled_line.ensures))
+    (c.send_verdict_and.ensures.sent (scaled_line answer) c.scaled_line-line.ensures) (c.send_verdict_and.ensures.front (scaled_line answer) c.scaled_line-line.ensures))
 
 pub returns-clause-faults : goal.returns-clause-faults
 returns-clause-faults g c = rw (c.and.ensures, fault_with c.send_verdict_and.result c.scaled_status.result) c.send_verdict_and.ensures.faults
