@@ -9,7 +9,7 @@ use Rattle.ags_device.specs.Record.{DeviceRecord}
 use Rattle.ags_domain.specs.declared.values.Value.{Value}
 use Rattle.ags_outside.specs.declared.sending.SendError.{SendError}
 use Rattle.ags_outside.specs.declared.sending.SendError.TheVariants as send
-use Rattle.ags_outside.specs.Sink.{appended, appended_twice, WroteFront, front_of_wrote, wrote_nothing}
+use Rattle.ags_outside.specs.Sink.{appended, appended_twice, WroteFront}
 use Rattle.ags_ports.specs.declared.machines.Machine.{Machine}
 use Rattle.ags_program.specs.Text.{verdict_line}
 use Rattle.ags_verdict.specs.declared.verdicts.Refusal.{Refusal}
@@ -64,10 +64,6 @@ module _ (machine : Machine) (image : List (Option ℕ)) (cert : Stated) (device
   -- a front of the line was sent, or nothing
   pub line_in_part : (verdict : Verdict Value) (fault : SendError) → now ≡ devices → WroteFront old new (verdict_line verdict) → Benches machine image cert devices lines verdict old new now (Err fault)
   line_in_part verdict fault stayed front = inl (record { front = front; records = stayed })
-
-  pub no_line : (verdict : Verdict Value) (fault : SendError) → now ≡ devices → new ≡ old → Benches machine image cert devices lines verdict old new now (Err fault)
-  no_line verdict fault stayed same =
-      line_in_part verdict fault stayed (subst (λ (o : Option (List ℕ)). WroteFront old o (verdict_line verdict)) (sym same) (front_of_wrote (wrote_nothing old (verdict_line verdict))))
 
   -- or that it is refused
   pub refused_stops : (refusal : Refusal Value) → now ≡ devices → new ≡ appended old (verdict_line (Refused refusal)) → Benches machine image cert devices lines (Refused refusal) old new now (Ok No)

@@ -16,7 +16,8 @@ use ags_check::Verdict;
 use ags_device::Device;
 use ags_drive::{DriveError, drive};
 use ags_image::Image;
-use ags_outside::{SendError, Sink, send};
+use ags_outside::{SendError, Sink};
+use ags_plan::send_line;
 use ags_ports::Machine;
 use ags_program::{ReadPair, Status};
 use ags_run::PlayError;
@@ -53,11 +54,7 @@ fn say_met<K: Sink>(alloc: Global, error: DriveError, out: &mut K) -> Result<Sta
     ensures front { OnErr result (WroteFront (K.told out.old) (K.told out.new) (met_line (met_of error))) }
     ensures faults { HasCause (K.faults out.old) (K.faults out.new) (is_write_fault result) }
 {
-    let Ok(line) = met_line(alloc, error) else {
-        return Err(SendError::NoMemory);
-    };
-    send(out, line.as_bytes())?;
-    Ok(Status::No)
+    send_line(met_line(alloc, error), out).and(Ok(Status::No))
 }
 
 /// Drives a script with the devices, and says what its run met.
@@ -101,10 +98,7 @@ pub(crate) fn drive_pair<K: Sink>(
         (K.told out.old) (K.told out.new) (map record_of devices.new.items) result }
     ensures faults { HasCause (K.faults out.old) (K.faults out.new) (is_write_fault result) }
 {
-    let Ok(line) = verdict_line(alloc, verdict) else {
-        return Err(SendError::NoMemory);
-    };
-    send(out, line.as_bytes())?;
+    send_line(verdict_line(alloc, verdict), out)?;
     match verdict {
         Verdict::Certified { .. } => run_script(
             alloc,

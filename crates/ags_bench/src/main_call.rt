@@ -27,8 +27,7 @@ fn say_forms<K: Sink>(out: &mut K) -> Result<Status, SendError>
     ensures says { Says (definition.program []) (WorkAt work.NoForm) (K.told out.old) (K.told out.new) result }
     ensures faults { HasCause (K.faults out.old) (K.faults out.new) (is_write_fault result) }
 {
-    send(out, b"WORDS\n")?;
-    Ok(Status::BadWords)
+    send(out, b"WORDS\n").and(Ok(Status::BadWords))
 }
 
 /// Does a work that was loaded, with the devices.
