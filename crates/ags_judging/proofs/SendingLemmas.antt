@@ -1,4 +1,4 @@
--- A status that goes with what was sent. The proofs of the commands that judge cite:
+-- A status that goes with what was sent. The proofs of the commands cite:
 --     said_with      it is said whole, or in part where the sending failed
 --     fault_with     the sending's fault is the whole's
 use Rattle.std.proofs.Common.{◌≡◌, ℕ, List, Option, inl, refl}

@@ -8,6 +8,5 @@ pub mod MainLemmas
 pub mod PlayLemmas
 pub mod PromiseLemmas
 pub mod ScaledLemmas
-pub mod SendingLemmas
 pub mod ThirdFileLemmas
 pub mod WriteLemmas
