@@ -1,10 +1,10 @@
 -- Limits that are set, one address after the other, to what is stated there.
-use Rattle.std.proofs.Common.{◌≡◌, ℕ, Bool, false, sym, ap, ◌∙◌, subst, List, get_or, Option, arith}
+use Rattle.std.proofs.Common.{◌≡◌, ℕ, Bool, false, sym, ap, ◌∙◌, subst, List, get_or, Option, Some, ◌+◌, arith, below_more}
 use Rattle.std.proofs.lemmas.List.{get_or_past}
 use Rattle.ags_domain.specs.Domain.{IsFull}
 use Rattle.ags_domain.specs.Value.{value_meaning}
 use Rattle.ags_domain.specs.declared.values.Value.{Value}
-use Rattle.ags_row.specs.Limit.{Limiting, AreLimits, AreFullLimits, cell_limit, input_limit, output_limit, is_named}
+use Rattle.ags_row.specs.Limit.{Limiting, AreLimits, AreFullLimits, SetsOne, cell_limit, input_limit, output_limit, is_named}
 use Rattle.ags_certtext.specs.Text.{IsLimit}
 use Rattle.ags_certread.specs.Gathering.{Gathering, AreLimitsOf, IsSetUpTo, IsNamedUpTo, stated}
 
@@ -68,3 +68,14 @@ module _ (g : Gathering) (second third fourth fifth : Limiting Value)
     places = of_places.below;
     every = full_every fifth tables (subst (λ (d : Value). IsFull value_meaning d) (sym (cells_stay 2048)) (of_cells.above 2048 (omega arith)));
   }
+
+-- ---- one more that is set
+
+pub set_more : (address : ℕ) (table : List (Option Value)) (value : Value) (limit_at set_at : ℕ → Value) → IsSetUpTo address table limit_at
+    → stated table address ≡ Some value → SetsOne limit_at set_at address value → IsSetUpTo (address + 1) table set_at
+set_more address table value limit_at set_at so_far is sets = record {
+  below = below_more _ _
+      (λ other less. subst (λ (limit : Value). IsLimit (stated table other) limit) (sym (sets.others other (omega (arith, less)))) (so_far.below other less))
+      (subst (λ (value_there : Option Value). IsLimit value_there (set_at address)) (sym is) sets.set);
+  above = λ other least. subst (λ (limit : Value). IsFull value_meaning limit) (sym (sets.others other (omega (arith, least)))) (so_far.above other (omega (arith, least)));
+}

@@ -5,7 +5,7 @@ ghost use Rattle.ags_certread.specs.Gathering.{IsCertOfGathering, IsFinished, ga
 
 use crate::gatherer::Gatherer;
 use crate::limits::limits_of;
-use ags_certtype::{Cert, CertParts};
+use ags_certtype::Cert;
 use std::alloc::{AllocError, Global};
 
 /// The certificate of what is gathered. The one error is want of memory.
@@ -14,11 +14,5 @@ pub(crate) fn certificate_of(alloc: Global, gatherer: Gatherer) -> Result<Cert, 
     ensures { IfOk result (IsCertOfGathering (gathering_of gatherer)) }
 {
     let limits = limits_of(alloc, &gatherer)?;
-    let parts = CertParts {
-        start: gatherer.start,
-        limits,
-        init: gatherer.init,
-        rows: gatherer.rows,
-    };
-    Cert::made_of(alloc, parts)
+    Cert::made_of(alloc, gatherer.into_parts(limits))
 }

@@ -6,19 +6,20 @@ ghost use Rattle.ags_certtext.specs.declared.statements.Statement.TheVariants.{R
 ghost use Rattle.ags_certtext.specs.declared.statements.Statement.{Statement};
 ghost use Rattle.ags_certtext.specs.Fault.{fault_in};
 ghost use Rattle.ags_certtext.specs.Statement.{IsStatement};
+ghost use Rattle.ags_certtype.specs.Cert.{stated_by};
 ghost use Rattle.ags_certread.specs.Before.{Stands};
 ghost use Rattle.ags_certread.specs.Gathering.{Closes, ClosesBefore, IsClosable, IsPlaced, IsSized, gathering_of, nothing_stated, with_part, with_statement};
 
 use crate::open_rows::row_of;
 use ags_certtext::{CertKind, Kind, RowLine, Statement, Table};
+use ags_certtype::CertParts;
 use ags_domain::Value;
 use ags_ports::Ports;
-use ags_row::{At, Link, Row};
+use ags_row::{At, Limits, Link, Row};
 use ags_word::{ERASABLE, LOCATIONS};
 use std::alloc::{AllocError, Global};
 
 /// What is gathered of the statements so far.
-#[derive(Drop)]
 pub(crate) struct Gatherer {
     /// The version that the first line opened; 0 where none was read.
     pub(crate) version: u32,
@@ -46,6 +47,27 @@ pub(crate) struct Gatherer {
     pub(crate) row_cells: Vec<At<Value>>,
     /// The link of the open row, if it has one.
     pub(crate) row_link: Option<Link>,
+}
+
+// Written, so that whoever lets one go calls this, and the checker follows no part of it there.
+impl Drop for Gatherer {
+    fn drop(self) {
+        let Gatherer {
+            version: _,
+            last: _,
+            start: _,
+            cells: _,
+            init: _,
+            inputs: _,
+            outputs: _,
+            places: _,
+            rows: _,
+            counts: _,
+            line: _,
+            row_cells: _,
+            row_link: _,
+        } = self;
+    }
 }
 
 /// A table of so many addresses at which nothing is stated.
@@ -83,8 +105,8 @@ impl Gatherer {
             inputs: nothing(alloc, LOCATIONS as usize)?,
             outputs: nothing(alloc, LOCATIONS as usize)?,
             places: no_places(alloc)?,
-            rows: Vec::new(alloc),
             counts: zeros(alloc)?,
+            rows: Vec::new(alloc),
             line: None,
             row_cells: Vec::new(alloc),
             row_link: None,
@@ -183,6 +205,33 @@ impl Gatherer {
                 self.add(statement)?;
                 Ok(None)
             }
+        }
+    }
+
+    /// The parts of the certificate with these limits.
+    pub(crate) fn into_parts(self, limits: Limits<Value>) -> CertParts
+        ensures { stated_by result ≡ record { start = self.start; limits = limits; init = self.init.items; rows = self.rows.items } }
+    {
+        let Gatherer {
+            version: _,
+            last: _,
+            start,
+            cells: _,
+            init,
+            inputs: _,
+            outputs: _,
+            places: _,
+            rows,
+            counts: _,
+            line: _,
+            row_cells: _,
+            row_link: _,
+        } = self;
+        CertParts {
+            start,
+            limits,
+            init,
+            rows,
         }
     }
 }

@@ -43,3 +43,9 @@ returns-in-Ok-clause-refused c =
     err_moved c.args.self.ports c.take.new.self (took_cert c.args.self) (c.take.ensures.ports ∙ ap (λ (k : Kept). k.ports) c.self.view_is)
     (λ text took short. last_read r.lines.state r.lines c.take.new.self r.rest.items text refl (subst (λ (k : Kept). took_cert k text) (sym c.self.view_is) took) short some goes
     c.take.ensures.ports) c.finish-in-Ok.result c.finish-in-Ok.ensures.refused
+
+pub returns-then-is_empty-clause-spent : goal.returns-then-is_empty-clause-spent
+returns-then-is_empty-clause-spent c = λ spent. c.finish.ensures.spent (ap (λ (k : Kept). k.state) c.self.view_is ∙ spent)
+
+pub returns-in-Ok-clause-spent : goal.returns-in-Ok-clause-spent
+returns-in-Ok-clause-spent c = λ spent. c.finish-in-Ok.ensures.spent (c.take.ensures.stays_spent (ap (λ (k : Kept). k.state) c.self.view_is ∙ spent))
