@@ -1,0 +1,13 @@
+use Rattle.ags_posts.specs.Posts.{frees_q}
+use Rattle.ags_transfer.proofs.cases.Case.mpy.Goals as goal
+
+pub returns : goal.returns
+returns g c = λ y. (
+  c.cell-m.result,
+  c.cell-m.ensures,
+  (
+    c.mul_high.result,
+    rw (← c.a.ensures) c.mul_high.ensures,
+    c.computed.ensures (frees_q g.D.Domain.meaning c.args.self.now) c.frees_q.ensures,
+  ),
+)
