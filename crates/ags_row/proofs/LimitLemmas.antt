@@ -1,9 +1,9 @@
 -- What a change of one entry changes, and what the first limits say. The crates above cite:
 --     each_same    a list of one entry has it at each place
-use Rattle.std.proofs.Common.{◌≡◌, ℕ, ◌<◌, List, length, get_or, set, refl, sym, subst, ⊎_elim, true, false, Bool}
+use Rattle.std.proofs.Common.{◌≡◌, ◌∙◌, ap, ℕ, ◌<◌, List, length, get_or, set, refl, sym, subst, ⊎_elim, true, false, Bool}
 use Rattle.std.specs.Prelude.{replicate}
 use Rattle.std.proofs.lemmas.Bool.{cases_lt}
-use Rattle.std.proofs.lemmas.List.{get_or-set_same, get_or-set_other, get_or_past, get_or-replicate, length-replicate}
+use Rattle.std.proofs.lemmas.List.{get_or_default, get_or-set_same, get_or-set_other, get_or_past, get_or-replicate, length-replicate}
 use Rattle.ags_domain.specs.Domain.{Meaning, IsFull}
 use Rattle.ags_row.specs.Limit.{Limiting, AreLimits, AreWholeLimits, cell_limit, input_limit, output_limit, is_named, SetsOne, SetsCell, SetsInput, SetsOutput, NamesPlace, AreFullLimits}
 
@@ -66,3 +66,23 @@ whole_limits {D} meaning every limits full is cells inputs outputs places = reco
   };
   every = subst (λ (d : D). IsFull meaning d) (sym is) full;
 }
+
+-- ---- what is read at an address
+
+pub cell_read : {D : Type 0} (inside now : Limiting D) (address : ℕ) (read : D) → inside ≡ now → AreLimits inside → address < 2048
+    → read ≡ get_or inside.cells address read → read ≡ cell_limit now address
+unfolding cell_limit
+cell_read inside now address read same are within is =
+    is ∙ get_or_default inside.cells address read inside.every (rw are.cells within) ∙ ap (λ (limits : Limiting _). get_or limits.cells address limits.every) same
+
+pub input_read : {D : Type 0} (inside now : Limiting D) (address : ℕ) (read : D) → inside ≡ now → AreLimits inside → address < 4096
+    → read ≡ get_or inside.inputs address read → read ≡ input_limit now address
+unfolding input_limit
+input_read inside now address read same are within is =
+    is ∙ get_or_default inside.inputs address read inside.every (rw are.inputs within) ∙ ap (λ (limits : Limiting _). get_or limits.inputs address limits.every) same
+
+pub output_read : {D : Type 0} (inside now : Limiting D) (address : ℕ) (read : D) → inside ≡ now → AreLimits inside → address < 4096
+    → read ≡ get_or inside.outputs address read → read ≡ output_limit now address
+unfolding output_limit
+output_read inside now address read same are within is =
+    is ∙ get_or_default inside.outputs address read inside.every (rw are.outputs within) ∙ ap (λ (limits : Limiting _). get_or limits.outputs address limits.every) same

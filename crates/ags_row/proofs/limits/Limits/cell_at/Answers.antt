@@ -1,0 +1,5 @@
+use Rattle.ags_row.proofs.LimitLemmas.{cell_read}
+use Rattle.ags_row.proofs.limits.Limits.cell_at.Goals as goal
+
+pub returns : goal.returns
+returns g c = cell_read _ _ c.args.address c.index.result.now c.self.view_is c.self.invariant.tables c.requires c.index.ensures

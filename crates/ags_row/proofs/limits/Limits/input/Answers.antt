@@ -1,0 +1,5 @@
+use Rattle.ags_row.proofs.LimitLemmas.{input_read}
+use Rattle.ags_row.proofs.limits.Limits.input.Goals as goal
+
+pub returns : goal.returns
+returns g c = input_read _ _ c.args.address c.index.result.now c.self.view_is c.self.invariant.tables c.requires c.index.ensures
