@@ -1,7 +1,6 @@
 //! The constants of DEC and OCT: lists of them.
 
-ghost use Rattle.std.specs.Prelude.{◌≡◌, ◌≤◌, ◌==◌, [], ◌∷◌, length, position, take, Some, None, OnOk, OnErr, IfOk, IfErr};
-ghost use Rattle.std.specs.List.{position_or_len};
+ghost use Rattle.std.specs.Prelude.{◌≡◌, ◌≤◌, [], ◌∷◌, length, take, Some, None, OnOk, OnErr, IfOk, IfErr};
 ghost use Rattle.ags_decimal.specs.Decimal.{zero};
 ghost use Rattle.ags_decimal.specs.Reading as decimal;
 ghost use Rattle.ags_card.specs.Constant.{AreConstants};
@@ -10,6 +9,7 @@ ghost use Rattle.ags_card.specs.Reading.{list_reading, octal_reading};
 use crate::cards::CardFault;
 use crate::operands::read_signed_octal;
 use ags_decimal::Decimal;
+use ags_text::front_len;
 use ags_word::Word;
 use arrayvec::ArrayVec;
 use std::marker::Model;
@@ -55,21 +55,6 @@ impl Model for DecList {
     ghost invariant = { λ list. AreConstants list.items.items };
 }
 
-/// Where the first comma stands.
-fn first_comma(text: &[u8]) -> Option<usize>
-    ensures { result ≡ position (λ b. b == 44) text.now }
-{
-    text.iter().position(|byte| *byte == b',')
-}
-
-/// How long the front of a text is before its first comma.
-fn comma_place(text: &[u8]) -> usize
-    ensures place { result ≡ position_or_len (λ b. b == 44) text.now }
-    ensures within { result ≤ length text.now }
-{
-    first_comma(text).unwrap_or(text.len())
-}
-
 /// Puts the words of the octal numbers between a text's commas at the front of a list, and tells how many they are.
 fn read_words(text: &[u8], words: &mut [Word]) -> Result<usize, CardFault>
     requires short { length text.now ≤ 120 }
@@ -81,7 +66,7 @@ fn read_words(text: &[u8], words: &mut [Word]) -> Result<usize, CardFault>
     let mut count = 0;
     let mut rest = text;
     loop {
-        let (front, behind) = rest.split_at(comma_place(rest));
+        let (front, behind) = rest.split_at(front_len(rest, b','));
         let Some(word) = read_signed_octal(front) else {
             return Err(CardFault::BadOctal);
         };
@@ -146,7 +131,7 @@ fn read_decimals(
 {
     let mut rest = text;
     loop {
-        let (front, behind) = rest.split_at(comma_place(rest));
+        let (front, behind) = rest.split_at(front_len(rest, b','));
         let Some(number) = ags_decimal::read(front) else {
             return Err(CardFault::BadDecimal);
         };

@@ -12,6 +12,7 @@ ghost use Rattle.ags_decimal.specs.Spelling.{is_digit};
 ghost use Rattle.ags_card.specs.Symbol.{is_capital, is_symbol};
 ghost use Rattle.ags_card.specs.Padding.{padded};
 
+use ags_text::are_digits;
 use std::hash::{Hash, Hasher};
 use std::marker::Model;
 
@@ -74,13 +75,6 @@ fn are_symbol_bytes(text: &[u8]) -> bool
 {
     text.iter()
         .all(|byte| matches!(*byte, b'A'..=b'Z' | b'0'..=b'9'))
-}
-
-/// Whether each byte of a text is a digit.
-fn are_digits(text: &[u8]) -> bool
-    ensures { result ≡ list_all is_digit text.now }
-{
-    text.iter().all(|byte| matches!(*byte, b'0'..=b'9'))
 }
 
 /// Whether a text is a symbol.

@@ -1,7 +1,7 @@
 //! What is asked of one statement, a question a function.
 
 ghost use Rattle.std.specs.Prelude.{◌≡◌, ◌<◌, ◌&&◌, ◌==◌, length, get_or, false, is_some, Some};
-ghost use Rattle.ags_certtext.specs.Fault.{fault_if, has_register, is_empty, is_fixed, is_of_version, is_outside, is_unmet, lacks_zero};
+ghost use Rattle.ags_certtext.specs.Fault.{fault_if, is_empty, is_fixed, is_of_version, is_outside, is_unmet, lacks_zero};
 ghost use Rattle.ags_certread.specs.Gathering.{stated};
 
 use ags_certtext::{CertKind, Entry, Statement};
@@ -83,13 +83,6 @@ pub(crate) fn leaves(entry: &Entry, limits: &[Option<Value>]) -> bool
         return false;
     }
     is_outside(&entry.value, &limits[place])
-}
-
-/// Whether one of some registers stands at an address.
-pub(crate) fn has_register(ports: &[Port], address: u16) -> bool
-    ensures { result ≡ has_register ports.now address }
-{
-    ports.iter().any(|port| port.address == address)
 }
 
 /// Whether a register holds its word once, and a value doesn't hold 0.

@@ -6,12 +6,12 @@ ghost use Rattle.ags_certtext.specs.declared.statements.Statement.TheVariants.{E
 ghost use Rattle.ags_certtext.specs.Fault.{is_full_with, lacks_word, leaves_limit, may_stand};
 ghost use Rattle.ags_certread.specs.Gathering.{IsPlaced, IsSized, gathering_of, is_stated_in, stated, with_entry_in};
 
-use crate::checks::{has_register, is_fixed, is_stated, is_unmet, leaves};
+use crate::checks::{is_fixed, is_stated, is_unmet, leaves};
 use crate::gatherer::Gatherer;
 use crate::open_rows::{add_cell, has_cell};
 use ags_certtext::{Entry, Table};
 use ags_domain::Value;
-use ags_ports::Ports;
+use ags_ports::{Ports, has_register};
 use ags_row::{At, MOST_CELLS};
 use std::alloc::AllocError;
 

@@ -8,15 +8,6 @@ use Rattle.std.proofs.lemmas.List.Folds.{list_all-append}
 use Rattle.ags_decimal.specs.Reading.{front_at, rest_at, begins_with_minus, behind_sign}
 use Rattle.ags_decimal.specs.Spelling.{IsSign}
 
--- the first place that passes, or the length
-pub position_or_len_is : (p : ℕ → Bool) (text : List ℕ) → unwrap_or (position p text) (length text) ≡ position_or_len p text
-position_or_len_is p text =
-    let most : position_or_len p text ≤ length text = prefix_len-le-length (λ b. not (p b)) text in
-    elim (cases_lt (position_or_len p text) (length text)) [
-      | inl lt ↦ rw (lt-ltb _ _ lt) refl
-      | inr le ↦ rw (le-ltb _ _ le) (omega arith)
-    ]
-
 -- a byte is not the mark
 abbrev pub is_not : ℕ → ℕ → Bool
 is_not mark b = not (b == mark)

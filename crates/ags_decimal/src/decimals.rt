@@ -7,8 +7,9 @@ ghost use Rattle.ags_decimal.specs.Decimal.{IsWithinLimits, nearest_size, decima
 ghost use Rattle.ags_decimal.specs.Reading.{reading, digits_of, places_of, reading_before_scale, limited};
 
 use crate::marks::{begins_with_minus, behind_first, behind_sign, split_at_mark};
-use crate::numbers::{all_digits, number_after, read_marked};
+use crate::numbers::{number_after, read_marked};
 use crate::sizes::{nearest_quotient, product, sides};
+use ags_text::are_digits;
 use ags_word::Word;
 use std::marker::Model;
 
@@ -136,7 +137,7 @@ fn are_number_digits(before: &[u8], behind: &[u8]) -> bool
         return false;
     }
     let count = before.len() + behind.len();
-    all_digits(before) && all_digits(behind) && 0 < count && count <= 10
+    are_digits(before) && are_digits(behind) && 0 < count && count <= 10
 }
 
 /// The number that digits with a point or without write, and how many of them stand after the point.

@@ -1,23 +1,9 @@
 //! A text cut at a mark, and without its sign.
 
-ghost use Rattle.std.specs.Prelude.{◌≡◌, ◌≤◌, ◌==◌, length, position, drop, get_or};
-ghost use Rattle.std.specs.List.{position_or_len};
+ghost use Rattle.std.specs.Prelude.{◌≡◌, ◌==◌, drop, get_or};
 ghost use Rattle.ags_decimal.specs.Reading.{front_at, rest_at, begins_with_minus, behind_sign};
 
-/// Where a byte first stands.
-fn first_mark(text: &[u8], mark: u8) -> Option<usize>
-    ensures { result ≡ position (λ b. b == mark) text.now }
-{
-    text.iter().position(|byte| *byte == mark)
-}
-
-/// How long the front of a text is before the first such byte.
-fn front_len(text: &[u8], mark: u8) -> usize
-    ensures place { result ≡ position_or_len (λ b. b == mark) text.now }
-    ensures within { result ≤ length text.now }
-{
-    first_mark(text, mark).unwrap_or(text.len())
-}
+use ags_text::front_len;
 
 /// The front of a text before the first such byte, and the text from that byte on. Without one all is front.
 #[tactic(auto, unfolding(crate::specs::Reading::front_at, crate::specs::Reading::rest_at))]

@@ -6,13 +6,7 @@ ghost use Rattle.ags_decimal.specs.Spelling.{is_digit, number_after, digits_numb
 ghost use Rattle.ags_decimal.specs.Reading.{signed_reading, marked_reading};
 
 use crate::marks::{begins_with_minus, behind_first, behind_sign};
-
-/// Whether each byte of a text is a digit.
-pub(crate) fn all_digits(text: &[u8]) -> bool
-    ensures { result ≡ list_all is_digit text.now }
-{
-    text.iter().all(|byte| matches!(*byte, b'0'..=b'9'))
-}
+use ags_text::are_digits;
 
 /// The number that digits write after those of a number, of which there are so many.
 pub(crate) fn number_after(start: u64, before: usize, text: &[u8]) -> u64
@@ -47,7 +41,7 @@ fn read_signed(text: &[u8]) -> Option<i8>
     ensures most { IfSome result (λ n. n ≤ℤ pos 99) }
 {
     let digits = behind_sign(text);
-    if !all_digits(digits) || digits.is_empty() || digits.len() > 2 {
+    if !are_digits(digits) || digits.is_empty() || digits.len() > 2 {
         return None;
     }
     let size = small_number(digits);

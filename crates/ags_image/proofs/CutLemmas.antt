@@ -42,14 +42,6 @@ feed_lines-empty (b ∷ text) empty is so = let none : eqb (length (b ∷ text))
 pub some_text : (text : List ℕ) (empty : Bool) → empty ≡ eqb (length text) 0 → empty ≡ false → 0 < length text
 some_text text empty is so = let some : eqb (length text) 0 ≡ false = sym is ∙ so in grind (arith, nat_tests)
 
-pub position_or_len_is : (p : ℕ → Bool) (text : List ℕ) → unwrap_or (position p text) (length text) ≡ position_or_len p text
-position_or_len_is p text =
-    let most : position_or_len p text ≤ length text = prefix_len-le-length (λ b. not (p b)) text in
-    elim (cases_lt (position_or_len p text) (length text)) [
-      | inl lt ↦ rw (lt-ltb _ _ lt) refl
-      | inr le ↦ rw (le-ltb _ _ le) (omega arith)
-    ]
-
 pub feed_lines-feed : (text : List ℕ) (feed : ℕ) → feed ≡ position_or_len is_feed text → feed < length text
     → feed_lines text ≡ take feed text ∷ feed_lines (drop (feed + 1) text)
 feed_lines-feed text feed is within =

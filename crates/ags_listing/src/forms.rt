@@ -6,17 +6,11 @@ ghost use Rattle.ags_image.specs.Form.{entry_of, IsInMemory};
 ghost use Rattle.ags_listing.specs.Reads.{is_digit, is_space, is_ruled, said};
 
 use ags_image::{LineForm, read_columns};
+use ags_text::are_digits;
 use ags_word::Word;
 
 /// A listing: a line puts its card's word at its place, where the card has one.
 pub(crate) struct Listing;
-
-/// Whether a column has decimal digits alone.
-fn are_digits(text: &[u8]) -> bool
-    ensures { result ≡ list_all is_digit text.now }
-{
-    text.iter().all(|byte| matches!(*byte, b'0'..=b'9'))
-}
 
 /// Whether a column is blank.
 fn are_spaces(text: &[u8]) -> bool

@@ -1,7 +1,6 @@
 //! The registers of each direction.
 
-ghost use Rattle.std.specs.Prelude.{◌≡◌, ◌<◌, ◌≤◌, ◌==◌, length, map, codes, option_map, [], Ok, Err, IfOk, IfErr, IfSome, Some};
-ghost use Rattle.std.specs.List.{list_any};
+ghost use Rattle.std.specs.Prelude.{◌≡◌, ◌<◌, ◌≤◌, length, map, codes, option_map, [], Ok, Err, IfOk, IfErr, IfSome, Some};
 ghost use Rattle.toml.specs.Data.{get_member, as_table};
 ghost use Rattle.toml.specs.View.{view, table_view};
 ghost use Rattle.ags_ports.specs.Port.{AreRegisters};
@@ -11,7 +10,7 @@ ghost use Rattle.ags_machfile.specs.PortTable.{direction_key, entry_key, once_gi
 use crate::keys::Key;
 use crate::mach_error::MachError;
 use crate::values::{address_given, value_at};
-use ags_ports::{MOST_REGISTERS, Port, Ports};
+use ags_ports::{MOST_REGISTERS, Port, Ports, has_register};
 use arrayvec::ArrayVec;
 use toml::{Table, Value};
 
@@ -110,7 +109,7 @@ impl Direction {
         let mut ports: PortList = ArrayVec::new();
         for entry in entries {
             let port = self.entry_port(ports.len(), entry)?;
-            if has_address(ports.as_slice(), port.address) {
+            if has_register(ports.as_slice(), port.address) {
                 return Err(MachError::SamePort {
                     address: port.address,
                 });
@@ -173,11 +172,4 @@ fn port_with(
         (None, Some(_)) => Err(MachError::MissingKey { which }),
         (Some(Some(address)), Some(once)) => Ok(Port { address, once }),
     }
-}
-
-/// Whether a register has this address.
-fn has_address(ports: &[Port], address: u16) -> bool
-    ensures { result ≡ list_any (λ other. other.address == address) ports.now }
-{
-    ports.iter().any(|other| other.address == address)
 }

@@ -18,7 +18,7 @@ mod time_tables;
 pub use addressing::effective_address;
 pub use events::{Done, Event, Phase, Stored};
 pub use machines::Machine;
-pub use registers::{MOST_REGISTERS, Port, Ports};
+pub use registers::{MOST_REGISTERS, Port, Ports, has_register};
 pub use time_tables::Times;
 
 // No clause can name a constant, so the number of each that is handed out is proved here.

@@ -1,6 +1,7 @@
 //! The input and output registers of a machine.
 
 ghost use Rattle.std.specs.Prelude.{◌≡◌, ◌≢◌, ◌<◌, ◌≤◌, ◌↔◌, ◌==◌, IsTrue, All, Any, AllPairs, length, slice_get, IfSome, Some, None, false};
+ghost use Rattle.std.specs.List.{list_any};
 ghost use Rattle.ags_ports.specs.Port.{AreRegisters, position_of, is_once, standard_inputs, standard_outputs};
 
 use ags_word::LOCATIONS;
@@ -186,16 +187,17 @@ fn all_distinct(ports: &[Port]) -> bool
     ensures { IsTrue result ↔ AllPairs (λ one another. one.address ≢ another.address) ports.now }
 {
     for (position, port) in ports.iter().enumerate() {
-        if is_among(port.address, &ports[..position]) {
+        if has_register(&ports[..position], port.address) {
             return false;
         }
     }
     true
 }
 
-/// A register has this address.
-fn is_among(address: u16, ports: &[Port]) -> bool
-    ensures { IsTrue result ↔ Any (λ port. port.address ≡ address) ports.now }
+/// Whether one of the registers stands at an address.
+pub fn has_register(ports: &[Port], address: u16) -> bool
+    ensures same { result ≡ list_any (λ port. port.address == address) ports.now }
+    ensures some { IsTrue result ↔ Any (λ port. port.address ≡ address) ports.now }
 {
     ports.iter().any(|port| port.address == address)
 }

@@ -1,18 +1,11 @@
 //! Which addresses a line may name.
 
 ghost use Rattle.std.specs.Prelude.{◌≡◌, ◌<◌, true};
-ghost use Rattle.ags_tags.specs.Text.{has_register, may_stand};
+ghost use Rattle.ags_tags.specs.Text.{may_stand};
 
 use crate::statements::Table;
-use ags_ports::{Port, Ports};
+use ags_ports::{Ports, has_register};
 use ags_word::LOCATIONS;
-
-/// Whether one of the registers stands at an address.
-fn has_register(ports: &[Port], address: u16) -> bool
-    ensures { result ≡ has_register ports.now address }
-{
-    ports.iter().any(|port| port.address == address)
-}
 
 /// Whether a line may name an address: that of a cell, or of a register of the machine.
 pub(crate) fn may_stand(ports: &Ports, table: Table, address: u16) -> bool

@@ -2,6 +2,7 @@
 //! numbers, and the first fault of a list. It stands on `std` alone, and each call is pinned by a definition in `specs/`.
 #![tactic(auto)]
 
+mod bytes;
 mod faults;
 mod field_laws;
 mod fields;
@@ -14,6 +15,7 @@ mod piece_laws;
 mod pieces;
 mod seven_digits;
 
+pub use bytes::{are_digits, front_len};
 pub use faults::{first_fault_is_first, no_fault_is_faultless};
 pub use field_laws::{
     blanks_have_no_field, bytes_tell_fields, cut_fields_stand, numbers_are_fields,

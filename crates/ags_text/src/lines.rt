@@ -1,10 +1,10 @@
 //! The lines of a text (docs/SOURCE.md, Lines).
 
-ghost use Rattle.std.specs.Prelude.{◌≡◌, ◌≤◌, ◌==◌, length, position};
-ghost use Rattle.std.specs.List.{position_or_len};
+ghost use Rattle.std.specs.Prelude.{◌≡◌};
 ghost use Rattle.ags_text.specs.Line.{lines_of, Follow};
 ghost use Rattle.std.specs.Str.Lines.{strip_carriage_return};
 
+use crate::bytes::front_len;
 use std::marker::Model;
 
 /// How many bytes a line of a certificate or of a script has at most, its end not counted.
@@ -58,21 +58,6 @@ pub fn strip_return(part: &[u8]) -> &[u8]
     }
 }
 
-/// Where the first line feed stands.
-pub(crate) fn line_feed(text: &[u8]) -> Option<usize>
-    ensures { result ≡ position (λ b. b == 10) text.now }
-{
-    text.iter().position(|byte| *byte == b'\n')
-}
-
-/// Where the first line feed stands, or the text's length where there is none.
-fn first_feed(text: &[u8]) -> usize
-    ensures place { result ≡ position_or_len (λ b. b == 10) text.now }
-    ensures within { result ≤ length text.now }
-{
-    line_feed(text).unwrap_or(text.len())
-}
-
 impl<'a> Iterator for Lines<'a> {
     ghost use Rattle.std.specs.Iterator.{YieldsFirstBy, item_count};
     ghost use Rattle.ags_text.specs.LineView.{line_at};
@@ -86,7 +71,7 @@ impl<'a> Iterator for Lines<'a> {
     fn next(&mut self) -> Option<Line<'a>> {
         let start = self.start;
         let rest = &self.text[start..];
-        let feed = first_feed(rest);
+        let feed = front_len(rest, b'\n');
         let bytes = strip_return(&rest[..feed]);
         if feed < rest.len() {
             self.start = start + feed + 1;

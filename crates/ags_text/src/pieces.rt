@@ -3,7 +3,7 @@
 ghost use Rattle.std.specs.Prelude.{◌≡◌, ◌<◌, ◌+◌, ◌++◌, ◌∷◌, None, IfSome, length, take, drop};
 ghost use Rattle.ags_text.specs.Line.{HasNoFeed};
 
-use crate::lines::line_feed;
+use crate::bytes::first_place;
 
 /// Where the first line feed stands.
 fn feed_place(text: &[u8]) -> Option<usize>
@@ -12,7 +12,7 @@ fn feed_place(text: &[u8]) -> Option<usize>
     ensures cut { IfSome result (λ feed. text.now ≡ take feed text.now ++ 10 ∷ drop (feed + 1) text.now) }
     ensures none { result ≡ None → HasNoFeed text.now }
 {
-    line_feed(text)
+    first_place(text, b'\n')
 }
 
 /// The bytes before the first line feed, and those after it; and nothing where there is no line feed.

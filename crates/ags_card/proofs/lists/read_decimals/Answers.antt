@@ -9,8 +9,8 @@ use Rattle.ags_card.proofs.lists.read_decimals.Goals as goal
 pub returns-in_default-clause-fault : goal.returns-in_default-clause-fault
 returns-in_default-clause-fault c =
     let l = c.loop-number in (
-      list_none reading l.numbers.items l.rest.now c.split_at.result.0.now c.split_at.result.1.now (list_reading reading [] c.args.text.now) l.invariant.whole (rw c.comma_place.ensures.place at c.split_at.ensures.front)
-          (rw c.comma_place.ensures.place at c.split_at.ensures.back) (cc (c.read.ensures, c.in_default.is)),
+      list_none reading l.numbers.items l.rest.now c.split_at.result.0.now c.split_at.result.1.now (list_reading reading [] c.args.text.now) l.invariant.whole (rw c.front_len.ensures.place at c.split_at.ensures.front)
+          (rw c.front_len.ensures.place at c.split_at.ensures.back) (cc (c.read.ensures, c.in_default.is)),
       refl,
     )
 
@@ -19,8 +19,8 @@ returns-then-is_empty-clause-read c =
     let l = c.loop-number in
     let behind = c.split_at.result.1.now in
     rw c.push.ensures.items (
-    list_last reading l.numbers.items l.rest.now c.split_at.result.0.now behind c.in-Some.number (list_reading reading [] c.args.text.now) l.invariant.whole (rw c.comma_place.ensures.place at c.split_at.ensures.front)
-    (rw c.comma_place.ensures.place at c.split_at.ensures.back) (cc (c.read.ensures, c.in-Some.is)) (is_empty behind c.is_empty.result c.is_empty.ensures c.if-is_empty.true)
+    list_last reading l.numbers.items l.rest.now c.split_at.result.0.now behind c.in-Some.number (list_reading reading [] c.args.text.now) l.invariant.whole (rw c.front_len.ensures.place at c.split_at.ensures.front)
+    (rw c.front_len.ensures.place at c.split_at.ensures.back) (cc (c.read.ensures, c.in-Some.is)) (is_empty behind c.is_empty.result c.is_empty.ensures c.if-is_empty.true)
     )
 
 pub loop-number-preserved : goal.loop-number-preserved
@@ -31,9 +31,9 @@ loop-number-preserved c =
     let some : reading front ≡ Some c.in-Some.number = (cc (c.read.ensures, c.in-Some.is)) in
     let more = not_empty behind c.is_empty.result c.is_empty.ensures c.if-is_empty.false in
     let tail = behind_first behind in
-    let whole = list_more reading l.numbers.items l.rest.now front behind c.in-Some.number (list_reading reading [] c.args.text.now) l.invariant.whole (rw c.comma_place.ensures.place at c.split_at.ensures.front)
-    (rw c.comma_place.ensures.place at c.split_at.ensures.back) some more in
+    let whole = list_more reading l.numbers.items l.rest.now front behind c.in-Some.number (list_reading reading [] c.args.text.now) l.invariant.whole (rw c.front_len.ensures.place at c.split_at.ensures.front)
+    (rw c.front_len.ensures.place at c.split_at.ensures.back) some more in
     record {
       whole = rw (c.push.ensures.items, tail) whole;
-      room = omega (arith, ap length tail, length-drop 1 behind, decimal_some front c.in-Some.number some, c.split_at.ensures.front_len, c.split_at.ensures.back_len, c.comma_place.ensures.within, c.push.ensures.len, l.invariant.room);
+      room = omega (arith, ap length tail, length-drop 1 behind, decimal_some front c.in-Some.number some, c.split_at.ensures.front_len, c.split_at.ensures.back_len, c.front_len.ensures.within, c.push.ensures.len, l.invariant.room);
     }

@@ -10,7 +10,7 @@ pub returns-in_default-clause-fault : goal.returns-in_default-clause-fault
 returns-in_default-clause-fault c =
     let l = c.loop-word in (
       list_none octal_reading (take l.count l.words) l.rest.now c.split_at.result.0.now c.split_at.result.1.now (list_reading octal_reading [] c.args.text.now) l.invariant.whole
-          (rw c.comma_place.ensures.place at c.split_at.ensures.front) (rw c.comma_place.ensures.place at c.split_at.ensures.back) (cc (c.read_signed_octal.ensures, c.in_default.is)),
+          (rw c.front_len.ensures.place at c.split_at.ensures.front) (rw c.front_len.ensures.place at c.split_at.ensures.back) (cc (c.read_signed_octal.ensures, c.in_default.is)),
       refl,
     )
 
@@ -21,7 +21,7 @@ returns-then-is_empty-clause-read c =
     let room : l.count < length l.words = omega arith in
     rw (take_more_set l.words l.count c.in-Some.word room) (
     list_last octal_reading (take l.count l.words) l.rest.now c.split_at.result.0.now behind c.in-Some.word (list_reading octal_reading [] c.args.text.now) l.invariant.whole
-    (rw c.comma_place.ensures.place at c.split_at.ensures.front) (rw c.comma_place.ensures.place at c.split_at.ensures.back) (cc (c.read_signed_octal.ensures, c.in-Some.is)) (is_empty behind c.is_empty.result c.is_empty.ensures c.if-is_empty.true)
+    (rw c.front_len.ensures.place at c.split_at.ensures.front) (rw c.front_len.ensures.place at c.split_at.ensures.back) (cc (c.read_signed_octal.ensures, c.in-Some.is)) (is_empty behind c.is_empty.result c.is_empty.ensures c.if-is_empty.true)
     )
 
 pub loop-word-preserved : goal.loop-word-preserved
@@ -34,9 +34,9 @@ loop-word-preserved c =
     let more = not_empty behind c.is_empty.result c.is_empty.ensures c.if-is_empty.false in
     let tail = behind_first behind in
     let whole = list_more octal_reading (take l.count l.words) l.rest.now front behind c.in-Some.word (list_reading octal_reading [] c.args.text.now) l.invariant.whole
-    (rw c.comma_place.ensures.place at c.split_at.ensures.front) (rw c.comma_place.ensures.place at c.split_at.ensures.back) some more in
+    (rw c.front_len.ensures.place at c.split_at.ensures.front) (rw c.front_len.ensures.place at c.split_at.ensures.back) some more in
     record {
       whole = rw (take_more_set l.words l.count c.in-Some.word room, tail) whole;
       most = omega arith;
-      room = omega (arith, ap length tail, length-drop 1 behind, octal_there front c.in-Some.word some, c.split_at.ensures.front_len, c.split_at.ensures.back_len, c.comma_place.ensures.within, l.invariant.room);
+      room = omega (arith, ap length tail, length-drop 1 behind, octal_there front c.in-Some.word some, c.split_at.ensures.front_len, c.split_at.ensures.back_len, c.front_len.ensures.within, l.invariant.room);
     }

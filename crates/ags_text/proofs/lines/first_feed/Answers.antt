@@ -1,6 +1,0 @@
-use Rattle.ags_text.proofs.FrontLemmas.{position_or_len_is}
-use Rattle.ags_text.proofs.LineLemmas.{is_feed}
-use Rattle.ags_text.proofs.lines.first_feed.Goals as goal
-
-pub returns-clause-place : goal.returns-clause-place
-returns-clause-place c = rw (c.unwrap_or.ensures, c.line_feed.ensures) (position_or_len_is is_feed c.args.text.now)
