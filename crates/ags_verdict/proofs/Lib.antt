@@ -4,3 +4,4 @@ pub mod TurnLemmas
 mod InOrderLemmas
 pub mod VerdictLemmas
 pub mod LocalityLemmas
+mod TextLemmas
