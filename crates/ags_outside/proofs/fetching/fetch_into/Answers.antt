@@ -1,23 +1,59 @@
-use Rattle.std.proofs.Common.{◌≡◌, ◌≤◌, length, arith, refl, drop, ◌∙◌, length-append, length-drop, length-take}
+use Rattle.std.proofs.Common.{arith, refl, drop, ◌∙◌, lt_of_le_of_lt, Ok, Err}
 use Rattle.std.proofs.lemmas.List.{take-append-le}
-use Rattle.ags_outside.proofs.SoFar.{fetched_more, fetched_whole}
+use Rattle.ags_outside.specs.declared.fetching.FetchError.TheVariants.{Absent, ReadFault, TooLong, NoMemory}
+use Rattle.ags_outside.proofs.SoFar.{fetched_none, fetched_more, fetched_whole, fetched_at_most, too_long_tells, absent_tells, fault_tells, no_memory_tells, another_error, counted_last, fault_rose, absence_rose, room_within, room_some, room_whole, got_inside, got_within, filled_long, on_within, on_smaller}
 use Rattle.ags_outside.proofs.fetching.fetch_into.Goals as goal
 
+pub pulls-init : goal.pulls-init
+pulls-init g c = record {
+  within = omega arith;
+  buffer = refl;
+  same = refl;
+  so_far = fetched_none g.T.Taker.took (g.S.Shelf.told c.args.shelf.now c.args.name.now) c.args.taker.now;
+  stays = g.met.T.Taker.stays_at_once c.args.taker.now;
+  faults_stay = refl;
+  absences_stay = refl;
+}
+
+pub overflow_sub-left : goal.overflow_sub-left
+overflow_sub-left g c = c.pulls.invariant.within
+
+pub slice_bounds-piece-end : goal.slice_bounds-piece-end
+slice_bounds-piece-end g c = room_within c.room-asked.result _ c.pulls.piece c.room-asked.ensures c.pulls.invariant.buffer
+
+pub slice_bounds-pull-end : goal.slice_bounds-pull-end
+slice_bounds-pull-end g c =
+    room_whole c.room-asked.result c.pulls.piece (room_within c.room-asked.result _ c.pulls.piece c.room-asked.ensures c.pulls.invariant.buffer)
+
+pub pull-requires : goal.pull-requires
+pull-requires g c = room_some c.room-asked.result _ c.pulls.piece c.room-asked.ensures c.pulls.invariant.buffer
+
+pub slice_bounds-piece-end-in-Got : goal.slice_bounds-piece-end-in-Got
+slice_bounds-piece-end-in-Got g c = got_within c.in-Got.count c.room-asked.result c.pulls.piece c.pull.new.into c.pull.auto.into c.in-Got.ensures.got.1
+
+pub slice_bounds-take-end : goal.slice_bounds-take-end
+slice_bounds-take-end g c =
+    room_whole c.in-Got.count _ (got_within c.in-Got.count c.room-asked.result c.pulls.piece c.pull.new.into c.pull.auto.into c.in-Got.ensures.got.1)
+
+pub take-requires : goal.take-requires
+take-requires g c κs = λ within. within
+
 pub overflow_add-from : goal.overflow_add-from
-overflow_add-from g c = omega (arith, c.ranges.limit.fits, c.if-count-left.false, c.pulls.invariant.within)
+overflow_add-from g c =
+    record { fits = lt_of_le_of_lt (on_within c.pulls.from c.in-Got.count c.args.limit c.pulls.invariant.within c.if-count-left.false) c.ranges.limit.fits }
 
 pub pulls-smaller : goal.pulls-smaller
-pulls-smaller g c = omega (arith, c.in-Got.ensures.got, c.if-count-left.false)
+pulls-smaller g c = on_smaller c.pulls.from c.in-Got.count c.args.limit c.in-Got.ensures.got.0 c.if-count-left.false
 
 pub pulls-preserved : goal.pulls-preserved
 pulls-preserved g c =
     let told = g.S.Shelf.told c.args.shelf.now c.args.name.now in
-    let long : length c.pull.new.into ≡ c.room-asked.result = omega (arith, length-take c.room-asked.result c.pulls.piece) in
-    let inside : c.in-Got.count ≤ length c.pull.new.into = omega (arith, c.in-Got.ensures.got) in
+    let inside = got_inside c.in-Got.count c.room-asked.result c.pulls.piece c.pull.new.into c.pull.auto.into c.in-Got.ensures.got.1 in
     let more = c.in-Ok.ensures.took in
     record {
-      within = omega (arith, c.if-count-left.false);
-      buffer = simp (length-append, length-drop) (omega (arith, length-take c.room-asked.result c.pulls.piece));
+      within = on_within c.pulls.from c.in-Got.count c.args.limit c.pulls.invariant.within c.if-count-left.false;
+      buffer = filled_long c.room-asked.result c.pulls.piece c.pull.new.into
+          (room_within c.room-asked.result _ c.pulls.piece c.room-asked.ensures c.pulls.invariant.buffer) c.pull.auto.into c.pulls.invariant.buffer;
       same = c.pull.ensures.same ∙ c.pulls.invariant.same;
       so_far = fetched_more g.T.Taker.took told c.pulls.from c.in-Got.count c.args.taker.now c.pulls.taker c.take.new.self c.pull.new.into inside
           c.pulls.invariant.so_far (rw (← c.pulls.invariant.same) c.in-Got.ensures.tells)
@@ -27,30 +63,106 @@ pulls-preserved g c =
       absences_stay = c.in-Got.ensures.absences.clean refl ∙ c.pulls.invariant.absences_stay;
     }
 
-pub returns-in-End-clause-took : goal.returns-in-End-clause-took
-returns-in-End-clause-took g c =
-    fetched_whole g.T.Taker.took (g.S.Shelf.told c.args.shelf.now c.args.name.now) c.pulls.from c.args.limit c.args.taker.now c.pulls.taker
-    c.pull.new.into c.pulls.invariant.within c.pulls.invariant.so_far (rw (← c.pulls.invariant.same) c.in-End.ensures.tells)
+pub returns-then-count-left : goal.returns-then-count-left
+returns-then-count-left g c =
+    let told = g.S.Shelf.told c.args.shelf.now c.args.name.now in
+    let faults = counted_last _ _ _ _ c.pulls.invariant.faults_stay c.in-Got.ensures.faults in
+    let absences = counted_last _ _ _ _ c.pulls.invariant.absences_stay c.in-Got.ensures.absences in
+    record {
+      same = c.pull.ensures.same ∙ c.pulls.invariant.same;
+      took = tt;
+      stays = tt;
+      handed = λ _. fetched_at_most g.T.Taker.took told c.pulls.from c.args.limit c.args.taker.now c.pulls.taker c.pulls.invariant.within c.pulls.invariant.so_far;
+      tells = too_long_tells told c.pull.new.into c.pulls.from c.in-Got.count c.args.limit c.if-count-left.true c.pulls.invariant.within
+          (rw (← c.pulls.invariant.same) c.in-Got.ensures.tells);
+      absent = absence_rose (Err TooLong) _ _ absences;
+      read_fault = fault_rose (Err TooLong) _ _ faults;
+      faults = faults;
+      absences = absences;
+    }
 
-pub returns-in-Absent-clause-took : goal.returns-in-Absent-clause-took
-returns-in-Absent-clause-took g c = tt
+pub returns-in-Err : goal.returns-in-Err
+returns-in-Err g c =
+    let told = g.S.Shelf.told c.args.shelf.now c.args.name.now in
+    let faults = counted_last _ _ _ _ c.pulls.invariant.faults_stay c.in-Got.ensures.faults in
+    let absences = counted_last _ _ _ _ c.pulls.invariant.absences_stay c.in-Got.ensures.absences in
+    record {
+      same = c.pull.ensures.same ∙ c.pulls.invariant.same;
+      took = tt;
+      stays = tt;
+      handed = another_error (Err NoMemory) refl;
+      tells = no_memory_tells told c.args.limit;
+      absent = absence_rose (Err NoMemory) _ _ absences;
+      read_fault = fault_rose (Err NoMemory) _ _ faults;
+      faults = faults;
+      absences = absences;
+    }
 
-pub returns-in-Absent-clause-absences : goal.returns-in-Absent-clause-absences
-returns-in-Absent-clause-absences g c = rw (← c.pulls.invariant.absences_stay) c.in-Absent.ensures.absences
+pub returns-in-End : goal.returns-in-End
+returns-in-End g c =
+    let told = g.S.Shelf.told c.args.shelf.now c.args.name.now in
+    let faults = counted_last _ _ _ _ c.pulls.invariant.faults_stay c.in-End.ensures.faults in
+    let absences = counted_last _ _ _ _ c.pulls.invariant.absences_stay c.in-End.ensures.absences in
+    record {
+      same = c.pull.ensures.same ∙ c.pulls.invariant.same;
+      took = fetched_whole g.T.Taker.took told c.pulls.from c.args.limit c.args.taker.now c.pulls.taker
+          c.pull.new.into c.pulls.invariant.within c.pulls.invariant.so_far (rw (← c.pulls.invariant.same) c.in-End.ensures.tells);
+      stays = c.pulls.invariant.stays;
+      handed = another_error (Ok tt) refl;
+      tells = tt;
+      absent = absence_rose (Ok tt) _ _ absences;
+      read_fault = fault_rose (Ok tt) _ _ faults;
+      faults = faults;
+      absences = absences;
+    }
 
-pub returns-in-Failed-clause-took : goal.returns-in-Failed-clause-took
-returns-in-Failed-clause-took g c = tt
+pub returns-in-Absent : goal.returns-in-Absent
+returns-in-Absent g c =
+    let told = g.S.Shelf.told c.args.shelf.now c.args.name.now in
+    let faults = counted_last _ _ _ _ c.pulls.invariant.faults_stay c.in-Absent.ensures.faults in
+    let absences = counted_last _ _ _ _ c.pulls.invariant.absences_stay c.in-Absent.ensures.absences in
+    record {
+      same = c.pull.ensures.same ∙ c.pulls.invariant.same;
+      took = tt;
+      stays = tt;
+      handed = another_error (Err Absent) refl;
+      tells = absent_tells told c.pull.new.into c.pulls.from c.args.limit (rw (← c.pulls.invariant.same) c.in-Absent.ensures.tells);
+      absent = absence_rose (Err Absent) _ _ absences;
+      read_fault = fault_rose (Err Absent) _ _ faults;
+      faults = faults;
+      absences = absences;
+    }
 
-pub returns-in-Failed-clause-stays : goal.returns-in-Failed-clause-stays
-returns-in-Failed-clause-stays g c = tt
+pub returns-in-Failed : goal.returns-in-Failed
+returns-in-Failed g c =
+    let told = g.S.Shelf.told c.args.shelf.now c.args.name.now in
+    let faults = counted_last _ _ _ _ c.pulls.invariant.faults_stay c.in-Failed.ensures.faults in
+    let absences = counted_last _ _ _ _ c.pulls.invariant.absences_stay c.in-Failed.ensures.absences in
+    record {
+      same = c.pull.ensures.same ∙ c.pulls.invariant.same;
+      took = tt;
+      stays = tt;
+      handed = another_error (Err ReadFault) refl;
+      tells = fault_tells told c.args.limit;
+      absent = absence_rose (Err ReadFault) _ _ absences;
+      read_fault = fault_rose (Err ReadFault) _ _ faults;
+      faults = faults;
+      absences = absences;
+    }
 
-pub returns-in-Failed-clause-faults : goal.returns-in-Failed-clause-faults
-returns-in-Failed-clause-faults g c = rw (← c.pulls.invariant.faults_stay) c.in-Failed.ensures.faults
-
-pub returns-in-Failed-clause-absences : goal.returns-in-Failed-clause-absences
-returns-in-Failed-clause-absences g c = rw (← c.pulls.invariant.absences_stay) c.in-Failed.ensures.absences
-
-pub returns-then-count-left-clause-handed : goal.returns-then-count-left-clause-handed
-returns-then-count-left-clause-handed g c = λ _.
-    let so = c.pulls.invariant.so_far in
-    record { bytes = so.bytes; within = omega (arith, so.many, c.pulls.invariant.within); more = so.more }
+pub returns-in-NoMemory : goal.returns-in-NoMemory
+returns-in-NoMemory g c =
+    let told = g.S.Shelf.told c.args.shelf.now c.args.name.now in
+    let faults = counted_last _ _ _ _ c.pulls.invariant.faults_stay c.in-NoMemory.ensures.faults in
+    let absences = counted_last _ _ _ _ c.pulls.invariant.absences_stay c.in-NoMemory.ensures.absences in
+    record {
+      same = c.pull.ensures.same ∙ c.pulls.invariant.same;
+      took = tt;
+      stays = tt;
+      handed = another_error (Err NoMemory) refl;
+      tells = no_memory_tells told c.args.limit;
+      absent = absence_rose (Err NoMemory) _ _ absences;
+      read_fault = fault_rose (Err NoMemory) _ _ faults;
+      faults = faults;
+      absences = absences;
+    }
