@@ -1,11 +1,14 @@
 -- One pass over a source's lines, one line further.
-use Rattle.std.proofs.Common.{◌≡◌, ℕ, ◌+◌, Bool, true, false, cond, List, [], ◌∷◌, ◌++◌, length, Option, Some, None, refl, sym, ap, subst, ◌∙◌, append_assoc, append-nil, inl, inr, arith}
+use Rattle.std.proofs.Common.{◌≡◌, ℕ, ◌+◌, ◌≤◌, Bool, true, false, cond, List, [], ◌∷◌, ◌++◌, length, Option, Some, None, refl, sym, ap, subst, ◌∙◌, append_assoc, append-nil, inl, inr, arith}
 use Rattle.std.specs.Prelude.{Ok, is_some, not}
 use Rattle.std.specs.Global.{Vec}
 use Rattle.std.proofs.lemmas.Bool.{true≢false}
 use Rattle.ags_places.specs.declared.placed.Placed.{Placed}
 use Rattle.std.proofs.lemmas.List.{length-append, length-replicate, get_or-replicate}
+use Rattle.std.proofs.lemmas.List.Sums.{count_by-le-length}
 use Rattle.ags_text.specs.Line.{LineAt, Follow}
+use Rattle.ags_card.specs.declared.cards.Body.{Body}
+use Rattle.ags_card.specs.declared.cards.Body.TheVariants.{Comment, Order, Org, Equ, Bss, Bes, Dec, Oct, End}
 use Rattle.ags_card.specs.declared.cards.Card.{Card}
 use Rattle.ags_card.specs.declared.cards.CardFault.{CardFault}
 use Rattle.ags_card.specs.Reading.{reading}
@@ -18,14 +21,14 @@ use Rattle.ags_places.specs.declared.source_error.SourceKind.TheVariants as kind
 use Rattle.ags_places.specs.declared.source_error.WordFault.{WordFault}
 use Rattle.ags_places.specs.Deck.{is_end, ends, deck, card_lines, card_of, cards_in, cards}
 use Rattle.ags_places.specs.Fault.{place_fault_at, first_card_fault}
-use Rattle.ags_places.specs.Place.{count, place, symbol_value, pair_of, place_of_word}
+use Rattle.ags_places.specs.Place.{count, place, place_after, symbol_value, pair_of, place_of_word}
 use Rattle.ags_places.specs.Source.{IsFirstPlaceFault, placed_at}
 use Rattle.ags_places.proofs.PlacingLemmas.{deck_left, ends_so}
 use Rattle.ags_places.proofs.RunningLemmas.{known, next_pair, next_pairs, AgreesAlong, agrees_along, fits_some}
 use Rattle.ags_asm.specs.declared.passing.Pass.{Pass}
 use Rattle.ags_asm.specs.declared.half_words.HalfWords.{HalfWords}
 use Rattle.ags_asm.specs.Word.{owner}
-use Rattle.ags_asm.specs.HalfMade.{IsFreshWords, IsHalfMade, StandsNext}
+use Rattle.ags_asm.specs.HalfMade.{AreFew, IsFreshWords, IsHalfMade, StandsNext, is_number, met_once}
 use Rattle.ags_asm.specs.Pass.{IsFresh, IsEnded, IsPassed}
 use Rattle.ags_asm.specs.Passing.{IsMisread, IsTaken, IsTakenLine, IsTakenWhole, IsWithinLimits}
 use Rattle.ags_asm.specs.Source.{IsFaulty, IsRefused}
@@ -157,6 +160,34 @@ module _ (codes text : List ℕ) (line : LineAt) (left : List LineAt) (number : 
 pub none_of : {F : Type 0} (found : Option F) (b : Bool) → is_some found ≡ not b → b ≡ true → found ≡ None
 none_of None b is so = refl
 none_of (Some one) b is so = absurd (true≢false (is ∙ ap not so))
+
+-- the placing was stopped before
+pub stopped_before : (codes : List ℕ) (line : LineAt) (number : ℕ) (card : Card) (was : Pass) (b : Bool) → b ≡ is_some was.misplaced → b ≡ true → IsTaken codes line number card was was
+stopped_before codes line number card was b is so = let found = some_found was.misplaced (sym is ∙ so) in inr (inr (found.0, found.1, found.1))
+  where
+    some_found : {F : Type 0} (found : Option F) → is_some found ≡ true → (one : F) × (found ≡ Some one)
+    some_found None is = absurd (true≢false (sym is))
+    some_found (Some one) is = (one, refl)
+
+-- where a card is left behind the memory's end at most, so its words do
+pub room_of_words : (S : List Entry) (at : ℕ) (body : Body) (next : ℕ) → at ≤ 4096 → next ≡ place_after S at body → next ≤ 4096 → at + count body ≤ 4096
+room_of_words S at Comment next from is within = omega (arith, from)
+room_of_words S at (Order order terms indexed) next from is within = omega (arith, is, within)
+room_of_words S at (Org terms) next from is within = omega (arith, from)
+room_of_words S at (Equ terms) next from is within = omega (arith, from)
+room_of_words S at (Bss terms) next from is within = omega (arith, from)
+room_of_words S at (Bes terms) next from is within = omega (arith, from)
+room_of_words S at (Dec numbers) next from is within = omega (arith, is, within)
+room_of_words S at (Oct words) next from is within = omega (arith, is, within)
+room_of_words S at End next from is within = omega (arith, from)
+
+-- not more than 4097 orders wait
+pub few_wait : (words : HalfWords) → length words.owners.items ≡ 4096 → AreFew words → length words.waiting.items ≤ 4097
+few_wait words whole few = omega (arith, few, whole, count_by-le-length is_number words.owners.items, once words.met)
+  where
+    once : (met : Option (ℕ × WordFault)) → met_once met ≤ 1
+    once None = omega arith
+    once (Some found) = omega arith
 
 pub taken_comment : (codes : List ℕ) (line : LineAt) (number : ℕ) (was : Pass) (placed : Vec Placed) → was.misplaced ≡ None → IsWithinLimits was → placed.items ≡ was.cards.items ++ placed_at line None 0 ∷ []
     → IsTaken codes line number comment_card was (record { cards = placed; symbols = was.symbols; place = was.place; words = was.words; misplaced = was.misplaced })

@@ -1,8 +1,8 @@
-use Rattle.std.proofs.Common.{[], length, Some, None, sym, refl, append-nil, arith}
+use Rattle.std.proofs.Common.{[], length, Some, None, sym, refl, append-nil, ◌∙◌, arith}
 use Rattle.std.specs.Vec.{with_items}
 use Rattle.ags_asm.specs.declared.half_words.HalfWords.{HalfWords}
 use Rattle.ags_asm.proofs.KeptLemmas.{keep_taken, keep_free, none_small, not_some, found_there, owned_there}
-use Rattle.ags_asm.proofs.OwnedLemmas.{count_owned}
+use Rattle.ags_asm.proofs.OwnedLemmas.{count_owned, length-owned_from}
 use Rattle.ags_asm.proofs.half_words.HalfWords.add_words.Goals as goal
 
 pub returns-in-Some-clause-step : goal.returns-in-Some-clause-step
@@ -22,3 +22,36 @@ returns-clause-few c =
     let many = length c.args.words.now in
     let owned = owned_there c.args.self.now.owners c.own.new.owners c.deref_mut.result.now c.args.at many c.args.number c.deref_mut.ensures.value c.own.ensures in
     rw owned (omega (arith, c.requires.few, count_owned c.args.self.now.owners.items c.args.at many c.args.number (omega (arith, c.requires.room, c.requires.whole)) c.requires.positive))
+
+pub overflow_cast-words : goal.overflow_cast-words
+overflow_cast-words c = omega (arith, c.requires.room)
+
+pub first_taken-requires-clause-whole : goal.first_taken-requires-clause-whole
+first_taken-requires-clause-whole c = rw c.deref.ensures.value c.requires.whole
+
+pub first_taken-requires-clause-room : goal.first_taken-requires-clause-room
+first_taken-requires-clause-room c = c.requires.room
+
+pub returns-in-Some-clause-whole : goal.returns-in-Some-clause-whole
+returns-in-Some-clause-whole c = c.requires.whole
+
+pub returns-in-Some-clause-few : goal.returns-in-Some-clause-few
+returns-in-Some-clause-few c = omega (arith, rw c.requires.not_met at c.requires.few)
+
+pub overflow_cast-words-2 : goal.overflow_cast-words-2
+overflow_cast-words-2 c = omega (arith, c.requires.room)
+
+pub own-requires-clause-whole : goal.own-requires-clause-whole
+own-requires-clause-whole c = rw c.deref_mut.ensures.value c.requires.whole
+
+pub own-requires-clause-room : goal.own-requires-clause-room
+own-requires-clause-room c = c.requires.room
+
+pub fill-requires : goal.fill-requires
+fill-requires c = c.requires.room
+
+pub returns-clause-whole : goal.returns-clause-whole
+returns-clause-whole c =
+    let many = length c.args.words.now in
+    let owned = owned_there c.args.self.now.owners c.own.new.owners c.deref_mut.result.now c.args.at many c.args.number c.deref_mut.ensures.value c.own.ensures in
+    rw owned (length-owned_from c.args.self.now.owners.items c.args.at many c.args.number ∙ c.requires.whole)
