@@ -84,11 +84,47 @@ name_some operation =
       | inr some ↦ some
     ]
 
-pub named : (text : List ℕ) (result : Option Operation) → IfSome result (λ operation. operation_name operation ≡ text)
+named : (text : List ℕ) (result : Option Operation) → IfSome result (λ operation. operation_name operation ≡ text)
     → ((operation : Operation) → operation_name operation ≡ text → result ≡ Some operation) → result ≡ operation_named text
 named text result found only =
     same_answer (λ operation. operation_name operation ≡ text) result (operation_named text) found only (named_name text)
     (λ operation is. ap operation_named (sym is) ∙ name_named operation)
+
+-- ---- the search for a name, among the orders first
+
+-- a name of an order
+pub of_order : (text : List ℕ) (order : Order) → order_name order ≡ text → Some (op.OfOrder order) ≡ operation_named text
+of_order text order is = sym (ap operation_named (sym is) ∙ order_named_name order)
+
+-- the first of the others that has a name
+first_named : List ℕ → Option Operation
+first_named text = find (λ operation. pointwise nat_eq (operation_name operation) text) (op.Org ∷ op.Equ ∷ op.Syn ∷ op.Bss ∷ op.Bes ∷ op.Dec ∷ op.Oct ∷ op.End ∷ [])
+
+tells_name : (text : List ℕ) (found : Option Operation) → first_named text ≡ found → IfSome found (λ operation. operation_name operation ≡ text)
+unfolding first_named
+tells_name text None is = tt
+tells_name text (Some operation) is =
+    same_text (operation_name operation) text (sym (found_passes (λ o. pointwise nat_eq (operation_name o) text) (op.Org ∷ op.Equ ∷ op.Syn ∷ op.Bss ∷ op.Bes ∷ op.Dec ∷ op.Oct ∷ op.End ∷ []) operation is))
+
+finds_name : (text : List ℕ) → ((order : Order) → order_name order ≡ text → ⊥) → (operation : Operation) → operation_name operation ≡ text → first_named text ≡ Some operation
+unfolding first_named
+finds_name text none (op.OfOrder order) is = absurd (none order is)
+finds_name text none op.Org is = rw (sym is) refl
+finds_name text none op.Equ is = rw (sym is) refl
+finds_name text none op.Syn is = rw (sym is) refl
+finds_name text none op.Bss is = rw (sym is) refl
+finds_name text none op.Bes is = rw (sym is) refl
+finds_name text none op.Dec is = rw (sym is) refl
+finds_name text none op.Oct is = rw (sym is) refl
+finds_name text none op.End is = rw (sym is) refl
+
+-- a text that is no order's name
+pub of_other : (text : List ℕ) (answer : Option Order) → answer ≡ None → ((order : Order) → order_name order ≡ text → answer ≡ Some order)
+    → find (λ operation. pointwise nat_eq (operation_name operation) text) (op.Org ∷ op.Equ ∷ op.Syn ∷ op.Bss ∷ op.Bes ∷ op.Dec ∷ op.Oct ∷ op.End ∷ []) ≡ operation_named text
+unfolding first_named
+of_other text answer none only =
+    named text (first_named text) (tells_name text (first_named text) refl)
+    (finds_name text (λ order is. let both : ◌≡◌ {A = Option Order} None (Some order) = sym none ∙ only order is in absurd (cc)))
 
 -- ---- the operations that give a value
 

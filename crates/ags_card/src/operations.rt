@@ -1,7 +1,8 @@
 //! The operations of cards and their names.
 
-ghost use Rattle.std.specs.Prelude.{◌≡◌, IfSome, Some};
-ghost use Rattle.ags_card.specs.declared.operations.Operation.{Operation};
+ghost use Rattle.std.specs.Prelude.{◌≡◌, nat_eq};
+ghost use Rattle.std.specs.List.{find};
+ghost use Rattle.std.specs.Cmp.Lexicographic.{pointwise};
 ghost use Rattle.ags_card.specs.Operation.{operation_name, operation_named, is_bare};
 
 use ags_isa::{Order, order_named};
@@ -29,6 +30,44 @@ pub(crate) enum Operation {
     End,
 }
 
+impl Operation {
+    /// The operations that are no orders.
+    const NO_ORDERS: [Operation; 8] = [
+        Operation::Org,
+        Operation::Equ,
+        Operation::Syn,
+        Operation::Bss,
+        Operation::Bes,
+        Operation::Dec,
+        Operation::Oct,
+        Operation::End,
+    ];
+
+    /// The operation's name, as a card writes it.
+    fn name(self) -> &'static str
+        ensures { result.now ≡ operation_name self }
+    {
+        match self {
+            Operation::OfOrder(order) => order.name(),
+            Operation::Org => "ORG",
+            Operation::Equ => "EQU",
+            Operation::Syn => "SYN",
+            Operation::Bss => "BSS",
+            Operation::Bes => "BES",
+            Operation::Dec => "DEC",
+            Operation::Oct => "OCT",
+            Operation::End => "END",
+        }
+    }
+
+    /// Whether a text is the operation's name.
+    fn has_name(self, text: &[u8]) -> bool
+        ensures { result ≡ pointwise nat_eq (operation_name self) text.now }
+    {
+        self.name().as_bytes() == text
+    }
+}
+
 /// Whether an order stands without an operand.
 pub(crate) fn is_bare(order: Order) -> bool
     ensures { result ≡ is_bare order }
@@ -37,29 +76,21 @@ pub(crate) fn is_bare(order: Order) -> bool
 }
 
 /// The operation of a name, and nothing for a text that is none of the names, letter for letter.
-fn operation_of(text: &[u8]) -> Option<Operation>
-    ensures found { IfSome result (λ operation. operation_name operation ≡ text.now) }
-    ensures only { (operation : Operation) → operation_name operation ≡ text.now → result ≡ Some operation }
-{
-    match text {
-        b"ORG" => Some(Operation::Org),
-        b"EQU" => Some(Operation::Equ),
-        b"SYN" => Some(Operation::Syn),
-        b"BSS" => Some(Operation::Bss),
-        b"BES" => Some(Operation::Bes),
-        b"DEC" => Some(Operation::Dec),
-        b"OCT" => Some(Operation::Oct),
-        b"END" => Some(Operation::End),
-        _ => match order_named(text) {
-            Some(order) => Some(Operation::OfOrder(order)),
-            None => None,
-        },
-    }
-}
-
-/// The operation of a name.
 pub(crate) fn operation_named(text: &[u8]) -> Option<Operation>
     ensures { result ≡ operation_named text.now }
 {
-    operation_of(text)
+    match order_named(text) {
+        Some(order) => Some(Operation::OfOrder(order)),
+        None => first_named(&Operation::NO_ORDERS, text),
+    }
+}
+
+/// The first of these operations that has a name.
+fn first_named(operations: &[Operation], text: &[u8]) -> Option<Operation>
+    ensures { result ≡ find (λ operation. pointwise nat_eq (operation_name operation) text.now) operations.now }
+{
+    operations
+        .iter()
+        .find(|operation| operation.has_name(text))
+        .copied()
 }

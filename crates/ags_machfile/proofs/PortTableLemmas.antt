@@ -3,7 +3,7 @@ use Rattle.std.proofs.Common.{◌≡◌, ◌≢◌, ℕ, zero, suc, ◌+◌, ◌
 use Rattle.std.specs.Prelude.{Ok, Err, Option, Some, nat_le}
 use Rattle.std.specs.List.{list_any}
 use Rattle.std.proofs.lemmas.Bool.Decides.{nat_tests}
-use Rattle.std.proofs.lemmas.List.{drop_more, length-append, length-map}
+use Rattle.std.proofs.lemmas.List.{drop_all, drop_more, length-append, length-map}
 use Rattle.std.proofs.Common.{le-leb, true≢false}
 use Rattle.std.proofs.lemmas.List.Elements.{All-push}
 use Rattle.std.proofs.lemmas.List.Quantifiers.{all_pairs_push}
@@ -13,6 +13,7 @@ use Rattle.toml.specs.Data.{Data, Items}
 use Rattle.toml.specs.declared.value.Value.{Value}
 use Rattle.ags_ports.specs.declared.registers.Port.{Port}
 use Rattle.ags_ports.specs.Port.{AreRegisters}
+use Rattle.ags_machfile.specs.declared.mach_error.MachError.{MachError}
 use Rattle.ags_machfile.specs.declared.mach_error.MachError.TheVariants.{BadValue, SamePort}
 use Rattle.ags_machfile.specs.declared.port_tables.Direction.{Direction}
 use Rattle.ags_machfile.specs.Value.{values_of}
@@ -74,6 +75,17 @@ pub listed_twice : (direction : Direction) (values : List Value) (ports : List P
     → AreListed direction values ports position → ports_behind direction [] (map view values) ≡ Err (SamePort port.address)
 listed_twice direction values ports position value port within at is same listed =
     listed.rest ∙ rw (drop_more values position value within, ← at, is, same) refl
+
+-- an entry's own fault decides
+pub listed_fault : (direction : Direction) (values : List Value) (ports : List Port) (position : ℕ) (value : Value) (fault : MachError) → position < length values
+    → value ≡ get_or values position value → entry_port direction (length ports) (as_table (view value)) ≡ Err fault
+    → AreListed direction values ports position → ports_behind direction [] (map view values) ≡ Err fault
+listed_fault direction values ports position value fault within at is listed = listed.rest ∙ rw (drop_more values position value within, ← at, is) refl
+
+-- behind the last entry the list has them all
+pub listed_all : (direction : Direction) (values : List Value) (ports : List Port) (position : ℕ) → length values ≤ position → AreListed direction values ports position
+    → ports_behind direction [] (map view values) ≡ Ok ports
+listed_all direction values ports position whole listed = listed.rest ∙ rw (drop_all position values whole) refl
 
 -- ---- an array of entries
 
