@@ -15,9 +15,9 @@ use Rattle.ags_verdict.specs.declared.verdicts.RowFault.{RowFault}
 use Rattle.ags_verdict.specs.declared.verdicts.Refusal.{Refusal}
 use Rattle.ags_walk.specs.Counting.{HasCases}
 use Rattle.ags_certtype.specs.Cert.{Stated, certificate_of}
-use Rattle.ags_certtype.specs.Edit.{IsNoRow, ReplacesLimit, with_row}
+use Rattle.ags_certtype.specs.Edit.{IsNoRow, ReplacesLimit, ReplacesRow, with_row}
 use Rattle.ags_certtype.specs.declared.edit_errors.EditError.{EditError}
-use Rattle.ags_certtype.specs.declared.edit_errors.EditError.TheVariants.{BelowUse}
+use Rattle.ags_certtype.specs.declared.edit_errors.EditError.TheVariants.{NoRow, OutsideGlobal, BelowUse, FullLocation}
 use Rattle.ags_recheck.specs.Bound.{HaveCasesAt, IsMostOfRow}
 use Rattle.ags_recheck.specs.Joined.{joined}
 use Rattle.ags_recheck.specs.Locations.{has_location}
@@ -166,3 +166,9 @@ module _ (machine : Machine) (image : List (Option ℕ)) (stated : Stated) (item
 pub limit_refused : (old new : Stated) (cell : At Value) (told : EditError) → ReplacesLimit old cell (Err told) new → new ≡ old
 limit_refused old new cell BelowUse refused = refused.1
 limit_refused old new cell _ refused = absurd refused
+
+pub row_refused : (old new : Stated) (number : ℕ) (row : Row Value) (told : EditError) → ReplacesRow old number row (Err told) new → new ≡ old
+row_refused old new number row NoRow refused = refused.1
+row_refused old new number row (OutsideGlobal address) refused = refused.2
+row_refused old new number row BelowUse refused = absurd refused
+row_refused old new number row FullLocation refused = refused.3

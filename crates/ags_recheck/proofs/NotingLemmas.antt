@@ -1,16 +1,20 @@
 -- Where the posts of cases go, as a loop goes over the cases.
-use Rattle.std.proofs.Common.{◌≡◌, ℕ, ◌+◌, ◌<◌, ◌≤◌, ◌⊎◌, sym, ap, subst, ◌∙◌, ⊎_elim, arith, List, length, get_or, inl, inr}
+use Rattle.std.proofs.Common.{◌≡◌, ℕ, ◌+◌, ◌<◌, ◌≤◌, ◌⊎◌, Bool, sym, ap, subst, ◌∙◌, ⊎_elim, arith, List, length, get_or, inl, inr}
 use Rattle.std.specs.Prelude.{Option, Ok, Err, Any, ◌↔◌}
 use Rattle.std.proofs.lemmas.Bool.{cases_lt}
 use Rattle.std.proofs.lemmas.List.{get_or_default}
 use Rattle.ags_domain.specs.Domain.{Meaning}
+use Rattle.ags_domain.specs.Value.{value_meaning}
+use Rattle.ags_domain.specs.declared.values.Value.{Value}
 use Rattle.ags_ports.specs.declared.machines.Machine.{Machine}
 use Rattle.ags_row.specs.Limit.{Limiting}
-use Rattle.ags_posts.specs.Case.{Case}
+use Rattle.ags_row.specs.declared.rows.Row.{Row}
+use Rattle.ags_posts.specs.Case.{Case, case_of}
 use Rattle.ags_posts.specs.Posts.{Outcome, IsPostsOfCase}
 use Rattle.ags_posts.specs.declared.answers.PostPair.{PostPair}
 use Rattle.ags_posts.specs.declared.answers.Stop.{Stop}
 use Rattle.ags_verdict.specs.Locality.{OneGoesTo, CaseGoesTo}
+use Rattle.ags_verdict.specs.RowCase.{RowCase, case_in}
 
 ok_pair : {D : Type 0} (pair other : PostPair D) → ◌≡◌ {A = Outcome D} (Ok pair) (Ok other) → pair ≡ other
 ok_pair pair other same = cc
@@ -71,3 +75,13 @@ module _ {X : Type 0} (P : X → Type 0) (xs : List X) where
 
 pub same_noted : {A : Type 0} → A ↔ A
 same_noted = (λ a. a, λ a. a)
+
+-- the posts of a case, by what they were asked with
+pub posts_moved : (machine : Machine) (image : List (Option ℕ)) (limits other : Limiting Value) (row : Row Value) (word x : ℕ) (v : Bool) (its : RowCase)
+    (outcome : Outcome Value) → limits ≡ other → word ≡ its.word → x ≡ its.index → v ≡ its.indicator
+    → IsPostsOfCase value_meaning (case_of machine image limits row word x v) outcome → IsPostsOfCase value_meaning (case_in machine image other row its) outcome
+posts_moved machine image limits other row word x v its outcome same_limits same_word same_x same_v is =
+    subst (λ (l : Limiting Value). IsPostsOfCase value_meaning (case_in machine image l row its) outcome) same_limits
+    (subst (λ (w : ℕ). IsPostsOfCase value_meaning (case_of machine image limits row w its.index its.indicator) outcome) same_word
+    (subst (λ (i : ℕ). IsPostsOfCase value_meaning (case_of machine image limits row word i its.indicator) outcome) same_x
+    (subst (λ (b : Bool). IsPostsOfCase value_meaning (case_of machine image limits row word x b) outcome) same_v is)))
