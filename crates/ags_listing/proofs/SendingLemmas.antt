@@ -1,8 +1,10 @@
 -- The listing, a card further, and by the lines of its source.
 use Rattle.std.proofs.Common.{◌≡◌, ℕ, zero, suc, ◌+◌, ◌-◌, ◌<◌, ◌≤◌, List, [], ◌∷◌, ◌++◌, length, take, drop, get_or, Option, Some, None, map, refl, sym, ap, ◌∙◌, append_assoc, append-nil, arith}
+use Rattle.std.proofs.lemmas.Bool.{true≢false}
 use Rattle.std.proofs.lemmas.List.{get_or_past, drop_more, drop_all}
 use Rattle.ags_text.specs.Line.{LineAt, LiesIn, Follow}
-use Rattle.std.specs.Prelude.{Result, Ok, Err, OnOk, OnErr}
+use Rattle.std.specs.Prelude.{false, Result, Ok, Err, OnOk, OnErr}
+use Rattle.ags_outside.specs.Count.{HasCause}
 use Rattle.ags_outside.specs.declared.sending.SendError.{SendError}
 use Rattle.ags_outside.specs.Sink.{appended, Wrote, WroteFront, wrote_nothing, wrote_piece, wrote_all, wrote_front, appended_twice, front_in_second}
 use Rattle.ags_places.specs.declared.placed.Placed.{Placed}
@@ -178,3 +180,9 @@ all_sent (Err error) old mid new first second text whole one two = tt
 pub part_sent : (result : Result (Unit {0}) SendError) (old mid new : Option (List ℕ)) (first second text : List ℕ) → text ≡ first ++ second → mid ≡ appended old first → OnErr result (WroteFront mid new second) → OnErr result (WroteFront old new text)
 part_sent (Ok done) old mid new first second text whole one two = tt
 part_sent (Err error) old mid new first second text whole one two = rw whole (front_in_second first second one two)
+
+-- ---- a count of faults
+
+-- where nothing failed it stays
+pub unfailed : (before now : ℕ) → now ≡ before → HasCause before now false
+unfailed before now same = record { stays = omega (arith, same); cause = λ is. absurd (true≢false (sym is)); clean = λ _. same }

@@ -1,6 +1,6 @@
 use Rattle.std.proofs.Common.{◌∙◌, get_or, refl, arith}
 use Rattle.std.proofs.lemmas.Result.{err_from_is_err_and}
-use Rattle.ags_listing.proofs.SendingLemmas.{nothing_placed, Sending-none, Sending-span, Sending-more, Sending-front, Sending-all}
+use Rattle.ags_listing.proofs.SendingLemmas.{nothing_placed, unfailed, Sending-none, Sending-span, Sending-more, Sending-front, Sending-all}
 use Rattle.ags_listing.proofs.writing.send_cards.Goals as goal
 
 pub loop-index-init : goal.loop-index-init
@@ -34,3 +34,17 @@ loop-index-preserved g c = record {
 pub returns-clause-sent : goal.returns-clause-sent
 returns-clause-sent g c =
     Sending-all (g.K.Sink.told c.args.out.now) (g.K.Sink.told c.loop-index.out) c.args.source.now c.args.image.now c.args.placed.now c.loop-index.index c.loop-index.invariant.sending c.loop-index-test.false
+
+pub returns-in_err-send_card-clause-sent : goal.returns-in_err-send_card-clause-sent
+returns-in_err-send_card-clause-sent g c = rw ((err_from_is_err_and c.from_residual.result c.from_residual.ensures.1).1) tt
+
+pub returns-in_err-send_card-clause-faults : goal.returns-in_err-send_card-clause-faults
+returns-in_err-send_card-clause-faults g c =
+    let p = err_from_is_err_and c.from_residual.result c.from_residual.ensures.1 in
+    rw (p.1, p.2, ← c.loop-index.invariant.faults) c.in_err-send_card.ensures.faults
+
+pub returns-clause-front : goal.returns-clause-front
+returns-clause-front g c = tt
+
+pub returns-clause-faults : goal.returns-clause-faults
+returns-clause-faults g c = unfailed (g.K.Sink.faults c.args.out.now) (g.K.Sink.faults c.loop-index.out) c.loop-index.invariant.faults
