@@ -1,11 +1,13 @@
 -- The lines of the rows, a row further, and as the text of the source.
 use Rattle.std.proofs.Common.{◌≡◌, ℕ, suc, ◌+◌, ◌<◌, ◌≤◌, List, [], ◌∷◌, ◌++◌, length, take, drop, get_or, map, Option, refl, sym, ap, ◌∙◌, arith, append_assoc}
-use Rattle.std.specs.Prelude.{Vec}
+use Rattle.std.specs.Prelude.{Vec, false}
 use Rattle.std.specs.List.{flat_map}
+use Rattle.std.proofs.lemmas.Bool.{true≢false}
 use Rattle.std.proofs.lemmas.List.{drop_more, drop_all, replicate_more}
 use Rattle.ags_text.specs.Line.{LineAt, LiesIn, Follow}
 use Rattle.ags_card.specs.Reading.{reading}
 use Rattle.ags_image.specs.Image.{PlacedWord}
+use Rattle.ags_outside.specs.Count.{HasCause}
 use Rattle.ags_outside.specs.Sink.{appended, Wrote, WroteFront, wrote_nothing, wrote_piece, wrote_all, wrote_front}
 use Rattle.ags_places.specs.Deck.{card_of, card_lines, cards, cards_in}
 use Rattle.ags_places.proofs.PlacingLemmas.{lines_of_cards_follow}
@@ -123,3 +125,9 @@ cards_of source made so =
     let defines : Defines so.order_codes source (definitions so.order_codes made.symbols (cards source)) = record { symbols = made.symbols; fits = so.assembled.fits; faultless = so.assembled.faultless; words = refl } in
     ap (map (card_at source)) so.assembled.cards_are
     ∙ cards_at source 0 (card_lines source) (definitions so.order_codes made.symbols (cards source)) (one_for_each so.order_codes source (definitions so.order_codes made.symbols (cards source)) defines) (lines_of_cards_follow source)
+
+-- ---- a count of faults
+
+-- where nothing failed it stays
+pub unfailed : (before now : ℕ) → now ≡ before → HasCause before now false
+unfailed before now same = record { stays = omega (arith, same); cause = λ is. absurd (true≢false (sym is)); clean = λ _. same }
