@@ -65,7 +65,7 @@ pub returns-in-Refused-clause-timed : goal.returns-in-Refused-clause-timed
 returns-in-Refused-clause-timed g c = c.in-Refused.ensures.verdict
 
 pub returns-in-Refused-clause-safe : goal.returns-in-Refused-clause-safe
-returns-in-Refused-clause-safe g c = λ rows cases greatest is. absurd (unsafe_is_not_within c.in-Refused.refusal rows cases greatest is)
+returns-in-Refused-clause-safe g c = λ rows cases greatest is. absurd (unsafe_is_not_within _ rows cases greatest is)
 
 pub returns-in-Refused-clause-kept : goal.returns-in-Refused-clause-kept
-returns-in-Refused-clause-kept g c = λ rows cases greatest is. absurd (unsafe_is_not_within c.in-Refused.refusal rows cases greatest is)
+returns-in-Refused-clause-kept g c = λ rows cases greatest is. absurd (unsafe_is_not_within _ rows cases greatest is)
