@@ -49,3 +49,19 @@ returns-clause-faults g c = counted_on _ _ _ _ c.in_ok-source.ensures.faults c.i
 
 pub returns-clause-absences : goal.returns-clause-absences
 returns-clause-absences g c = counted_on _ _ _ _ c.in_ok-source.ensures.absences c.in_ok-listed.ensures.absences
+
+pub returns-in_err-source-clause-ready : goal.returns-in_err-source-clause-ready
+returns-in_err-source-clause-ready g c = rw ((err_from_is_err_and c.from_residual.result c.from_residual.ensures.1).1) tt
+
+pub returns-in_err-source-clause-faults : goal.returns-in_err-source-clause-faults
+returns-in_err-source-clause-faults g c =
+    let p = err_from_is_err_and c.from_residual.result c.from_residual.ensures.1 in
+    rw (p.1, p.2) c.in_err-source.ensures.faults
+
+pub returns-in_err-source-clause-absences : goal.returns-in_err-source-clause-absences
+returns-in_err-source-clause-absences g c =
+    let p = err_from_is_err_and c.from_residual.result c.from_residual.ensures.1 in
+    rw (p.1, p.2) c.in_err-source.ensures.absences
+
+pub returns-in_err-listed-clause-ready : goal.returns-in_err-listed-clause-ready
+returns-in_err-listed-clause-ready g c = rw ((err_from_is_err_and c.from_residual-in_err-listed.result c.from_residual-in_err-listed.ensures.1).1) tt

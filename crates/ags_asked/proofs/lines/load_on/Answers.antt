@@ -30,3 +30,19 @@ returns-clause-faults g c = counted_on _ _ _ _ c.in_ok-machine.ensures.faults c.
 
 pub returns-clause-absences : goal.returns-clause-absences
 returns-clause-absences g c = counted_on _ _ _ _ c.in_ok-machine.ensures.absences c.load_command.ensures.absences
+
+pub returns-in_err-machine-clause-ready : goal.returns-in_err-machine-clause-ready
+returns-in_err-machine-clause-ready g c = rw ((err_from_is_err_and c.from_residual.result c.from_residual.ensures.1).1) tt
+
+pub returns-in_err-machine-clause-faults : goal.returns-in_err-machine-clause-faults
+returns-in_err-machine-clause-faults g c =
+    let p = err_from_is_err_and c.from_residual.result c.from_residual.ensures.1 in
+    rw (p.1, p.2) c.in_err-machine.ensures.faults
+
+pub returns-in_err-machine-clause-absences : goal.returns-in_err-machine-clause-absences
+returns-in_err-machine-clause-absences g c =
+    let p = err_from_is_err_and c.from_residual.result c.from_residual.ensures.1 in
+    rw (p.1, p.2) c.in_err-machine.ensures.absences
+
+pub returns-clause-ready : goal.returns-clause-ready
+returns-clause-ready g c = c.load_command.ensures.ready

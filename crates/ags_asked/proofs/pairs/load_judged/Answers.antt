@@ -47,3 +47,19 @@ returns-clause-faults g c = counted_on _ _ _ _ c.in_ok-pair.ensures.faults c.in_
 
 pub returns-clause-absences : goal.returns-clause-absences
 returns-clause-absences g c = counted_on _ _ _ _ c.in_ok-pair.ensures.absences c.in_ok-sequel.ensures.absences
+
+pub returns-in_err-pair-clause-ready : goal.returns-in_err-pair-clause-ready
+returns-in_err-pair-clause-ready g c = rw ((err_from_is_err_and c.from_residual.result c.from_residual.ensures.1).1) tt
+
+pub returns-in_err-pair-clause-faults : goal.returns-in_err-pair-clause-faults
+returns-in_err-pair-clause-faults g c =
+    let p = err_from_is_err_and c.from_residual.result c.from_residual.ensures.1 in
+    rw (p.1, p.2) c.in_err-pair.ensures.faults
+
+pub returns-in_err-pair-clause-absences : goal.returns-in_err-pair-clause-absences
+returns-in_err-pair-clause-absences g c =
+    let p = err_from_is_err_and c.from_residual.result c.from_residual.ensures.1 in
+    rw (p.1, p.2) c.in_err-pair.ensures.absences
+
+pub returns-in_err-sequel-clause-ready : goal.returns-in_err-sequel-clause-ready
+returns-in_err-sequel-clause-ready g c = rw ((err_from_is_err_and c.from_residual-in_err-sequel.result c.from_residual-in_err-sequel.ensures.1).1) tt
