@@ -21,7 +21,7 @@ use ags_symbol::Symbols;
 fn closing_sum(symbols: &Symbols, fix_up: &FixUp) -> Option<i32>
     ensures { result ≡ closed_sum symbols.now fix_up.now }
 {
-    let rest = symbols.sum_of_terms(fix_up.rest.as_slice(), fix_up.place)?;
+    let rest = symbols.sum_of_terms(fix_up.rest.items(), fix_up.place)?;
     Some(fix_up.sum + rest)
 }
 

@@ -1,10 +1,9 @@
 //! Orders that wait for a symbol that a later card may define.
 
-use ags_card::{MOST_TERMS, Term};
 use ags_isa::Order;
 use ags_places::WordFault;
+use ags_symbol::OpenTerms;
 use ags_word::Word;
-use arrayvec::ArrayVec;
 use std::marker::Model;
 
 /// An order whose operand isn't known yet.
@@ -21,7 +20,7 @@ pub(crate) struct FixUp {
     /// The sum of those terms of its operand that are known.
     pub(crate) sum: i32,
     /// The other terms.
-    pub(crate) rest: ArrayVec<Term, MOST_TERMS>,
+    pub(crate) rest: OpenTerms,
 }
 
 impl Model for FixUp {
@@ -29,9 +28,9 @@ impl Model for FixUp {
 
     ghost Value = { Waiting };
 
-    ghost view = { λ f. record { card = f.card; place = f.place; order = f.order; indexed = f.indexed; sum = f.sum; rest = f.rest.items } };
+    ghost view = { λ f. record { card = f.card; place = f.place; order = f.order; indexed = f.indexed; sum = f.sum; rest = f.rest } };
 
-    ghost invariant = { λ f. AreOpen f.place f.sum f.rest.items };
+    ghost invariant = { λ f. AreOpen f.place f.sum f.rest };
 }
 
 /// What the word of an order is made as, as far as the symbols are known.

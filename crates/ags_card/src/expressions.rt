@@ -1,6 +1,6 @@
 //! Expressions: the terms of a text, each with its sign.
 
-ghost use Rattle.std.specs.Prelude.{◌≡◌, [], ◌+◌, ◌*◌, ◌^◌, ◌<◌, ◌≤◌, ◌==◌, length, position, IfSome, Some, None, OnOk, IfErr};
+ghost use Rattle.std.specs.Prelude.{◌≡◌, [], ◌+◌, ◌*◌, ◌^◌, ◌<◌, ◌≤◌, ◌==◌, length, take, position, IfSome, Some, None, IfOk, IfErr};
 ghost use Rattle.std.specs.List.{position_or_len};
 ghost use Rattle.std.specs.Str.Parse.{starts_with_minus, without_leading_sign};
 ghost use Rattle.ags_text.specs.Numeral.{number_of};
@@ -11,7 +11,6 @@ use crate::cards::CardFault;
 use crate::names::Name;
 use crate::terms::{Atom, MOST_TERMS, Term};
 use ags_text::read_octal;
-use arrayvec::ArrayVec;
 
 /// The most decimal digits of a number.
 const MOST_DIGITS: usize = 6;
@@ -84,44 +83,40 @@ pub(crate) fn behind_sign(text: &[u8]) -> &[u8]
     }
 }
 
-/// Fills an empty list with the terms of a text, whose first term has that sign.
-fn read_terms(
-    minus: bool,
-    text: &[u8],
-    terms: &mut ArrayVec<Term, MOST_TERMS>,
-) -> Result<(), CardFault>
+/// Puts the terms of a text, whose first term has that sign, at the front of a list, and tells how many they are.
+fn read_terms(minus: bool, text: &[u8], terms: &mut [Term]) -> Result<usize, CardFault>
     requires short { length text.now ≤ 120 }
-    requires empty { terms.old.items ≡ [] }
-    ensures read { OnOk result (terms_reading minus [] text.now ≡ Some terms.new.items) }
-    ensures terms { OnOk result (AreTerms terms.new.items) }
+    requires room { length terms.old ≡ 64 }
+    ensures read { IfOk result (λ count. terms_reading minus [] text.now ≡ Some (take count terms.new)) }
+    ensures terms { IfOk result (λ count. AreTerms (take count terms.new) × (count ≤ 64)) }
     ensures fault { IfErr result (λ fault. (terms_reading minus [] text.now ≡ None) × (fault ≡ CardFault.BadExpression)) }
 {
     let mut minus = minus;
+    let mut count = 0;
     let mut rest = text;
     loop {
         let (front, behind) = rest.split_at(front_len(rest));
         let Some(atom) = read_atom(front) else {
             return Err(CardFault::BadExpression);
         };
-        terms.push(Term { minus, atom });
+        terms[count] = Term { minus, atom };
+        count += 1;
         if behind.is_empty() {
-            return Ok(());
+            return Ok(count);
         }
         minus = begins_with_minus(behind);
         rest = &behind[1..];
     }
 }
 
-/// Fills an empty list with the terms of an expression, which another text is none (docs/SOURCE.md, Expressions).
+/// Puts the terms of an expression at the front of a list, and tells how many they are; another text is none (docs/SOURCE.md,
+/// Expressions).
 #[tactic(auto, unfolding(crate::specs::Reading::expression_reading))]
-pub(crate) fn read_expression(
-    text: &[u8],
-    terms: &mut ArrayVec<Term, MOST_TERMS>,
-) -> Result<(), CardFault>
+pub(crate) fn read_expression(text: &[u8], terms: &mut [Term]) -> Result<usize, CardFault>
     requires short { length text.now ≤ 120 }
-    requires empty { terms.old.items ≡ [] }
-    ensures read { OnOk result (expression_reading text.now ≡ Some terms.new.items) }
-    ensures terms { OnOk result (AreTerms terms.new.items) }
+    requires room { length terms.old ≡ 64 }
+    ensures read { IfOk result (λ count. expression_reading text.now ≡ Some (take count terms.new)) }
+    ensures terms { IfOk result (λ count. AreTerms (take count terms.new) × (count ≤ 64)) }
     ensures fault { IfErr result (λ fault. (expression_reading text.now ≡ None) × (fault ≡ CardFault.BadExpression)) }
 {
     read_terms(begins_with_minus(text), behind_sign(text), terms)

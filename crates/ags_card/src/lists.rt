@@ -11,7 +11,6 @@ use crate::operands::read_signed_octal;
 use ags_decimal::Decimal;
 use ags_text::front_len;
 use ags_word::Word;
-use arrayvec::ArrayVec;
 use std::marker::Model;
 
 /// How many constants a card has at most.
@@ -40,19 +39,22 @@ impl Model for OctList {
 /// The decimals of a DEC, of which there are 1 to 64.
 #[derive(Drop)]
 pub struct DecList {
-    items: ArrayVec<Decimal, MOST_CONSTANTS>,
+    /// The decimals, and further ones after them.
+    numbers: [Decimal; MOST_CONSTANTS],
+    /// How many of them are the list's.
+    count: usize,
 }
 
 impl Model for DecList {
-    ghost use Rattle.std.specs.Prelude.{List};
+    ghost use Rattle.std.specs.Prelude.{◌≤◌, List, take};
     ghost use Rattle.ags_decimal.specs.Decimal.{Parts};
     ghost use Rattle.ags_card.specs.Constant.{AreConstants};
 
     ghost Value = { List Parts };
 
-    ghost view = { λ list. list.items.items };
+    ghost view = { λ list. take list.count list.numbers };
 
-    ghost invariant = { λ list. AreConstants list.items.items };
+    ghost invariant = { λ list. AreConstants (take list.count list.numbers) × (list.count ≤ 64) };
 }
 
 /// Puts the words of the octal numbers between a text's commas at the front of a list, and tells how many they are.
@@ -118,26 +120,25 @@ impl OctList {
     }
 }
 
-/// Fills an empty list with the decimals between a text's commas.
-fn read_decimals(
-    text: &[u8],
-    numbers: &mut ArrayVec<Decimal, MOST_CONSTANTS>,
-) -> Result<(), CardFault>
+/// Puts the decimals between a text's commas at the front of a list, and tells how many they are.
+fn read_decimals(text: &[u8], numbers: &mut [Decimal]) -> Result<usize, CardFault>
     requires short { length text.now ≤ 120 }
-    requires empty { numbers.old.items ≡ [] }
-    ensures read { OnOk result (list_reading decimal.reading [] text.now ≡ Some numbers.new.items) }
-    ensures constants { OnOk result (AreConstants numbers.new.items) }
+    requires room { length numbers.old ≡ 64 }
+    ensures read { IfOk result (λ count. list_reading decimal.reading [] text.now ≡ Some (take count numbers.new)) }
+    ensures constants { IfOk result (λ count. AreConstants (take count numbers.new) × (count ≤ 64)) }
     ensures fault { IfErr result (λ fault. (list_reading decimal.reading [] text.now ≡ None) × (fault ≡ CardFault.BadDecimal)) }
 {
+    let mut count = 0;
     let mut rest = text;
     loop {
         let (front, behind) = rest.split_at(front_len(rest, b','));
         let Some(number) = ags_decimal::read(front) else {
             return Err(CardFault::BadDecimal);
         };
-        numbers.push(number);
+        numbers[count] = number;
+        count += 1;
         if behind.is_empty() {
-            return Ok(());
+            return Ok(count);
         }
         rest = &behind[1..];
     }
@@ -149,16 +150,17 @@ impl DecList {
         ensures same { result.now ≡ self.now }
         ensures constants { AreConstants result.now }
     {
-        self.items.as_slice()
+        &self.numbers[..self.count]
     }
 
     /// The one number 0.
     pub(crate) fn zero() -> DecList
         ensures { result ≡ zero ∷ [] }
     {
-        let mut items: ArrayVec<Decimal, MOST_CONSTANTS> = ArrayVec::new();
-        items.push(Decimal::default());
-        DecList { items }
+        DecList {
+            numbers: [Decimal::default(); MOST_CONSTANTS],
+            count: 1,
+        }
     }
 
     /// Reads the decimals of an operand in place of these, which are the one number 0 where some number of it is none.
@@ -168,9 +170,11 @@ impl DecList {
         ensures fault { IfErr result (λ fault. (list_reading decimal.reading [] operand.now ≡ None) × (fault ≡ CardFault.BadDecimal)) }
         ensures zero { OnErr result (self.new ≡ zero ∷ []) }
     {
-        self.items.clear();
-        match read_decimals(operand, &mut self.items) {
-            Ok(()) => Ok(()),
+        match read_decimals(operand, &mut self.numbers) {
+            Ok(count) => {
+                self.count = count;
+                Ok(())
+            }
             Err(fault) => {
                 *self = DecList::zero();
                 Err(fault)

@@ -7,7 +7,6 @@ ghost use Rattle.ags_card.specs.Term.{AreTerms, zero_terms};
 use crate::cards::CardFault;
 use crate::expressions::read_expression;
 use crate::names::Name;
-use arrayvec::ArrayVec;
 use std::marker::Model;
 
 /// What a term stands for (docs/SOURCE.md, Expressions).
@@ -37,19 +36,22 @@ pub const MOST_TERMS: usize = 64;
 /// The terms of an expression, which stands for their sum: 1 to 64, each number among them at most 999,999.
 #[derive(Drop)]
 pub struct Terms {
-    items: ArrayVec<Term, MOST_TERMS>,
+    /// The terms, and further ones after them.
+    terms: [Term; MOST_TERMS],
+    /// How many of them are the expression's.
+    count: usize,
 }
 
 impl Model for Terms {
-    ghost use Rattle.std.specs.Prelude.{List};
+    ghost use Rattle.std.specs.Prelude.{◌≤◌, List, take};
     ghost use Rattle.ags_card.specs.declared.terms.Term.{Term};
     ghost use Rattle.ags_card.specs.Term.{AreTerms};
 
     ghost Value = { List Term };
 
-    ghost view = { λ terms. terms.items.items };
+    ghost view = { λ it. take it.count it.terms };
 
-    ghost invariant = { λ terms. AreTerms terms.items.items };
+    ghost invariant = { λ it. AreTerms (take it.count it.terms) × (it.count ≤ 64) };
 }
 
 impl Terms {
@@ -58,7 +60,7 @@ impl Terms {
         ensures same { result.now ≡ self.now }
         ensures terms { AreTerms result.now }
     {
-        self.items.as_slice()
+        &self.terms[..self.count]
     }
 
     /// Reads the terms of an expression in place of these, which are the one term 0 where the text is none.
@@ -68,9 +70,11 @@ impl Terms {
         ensures fault { IfErr result (λ fault. (expression_reading text.now ≡ None) × (fault ≡ CardFault.BadExpression)) }
         ensures zero { OnErr result (self.new ≡ zero_terms) }
     {
-        self.items.clear();
-        match read_expression(text, &mut self.items) {
-            Ok(()) => Ok(()),
+        match read_expression(text, &mut self.terms) {
+            Ok(count) => {
+                self.count = count;
+                Ok(())
+            }
             Err(fault) => {
                 *self = Terms::zero();
                 Err(fault)
@@ -82,11 +86,13 @@ impl Terms {
     pub(crate) fn zero() -> Terms
         ensures { result ≡ zero_terms }
     {
-        let mut items: ArrayVec<Term, MOST_TERMS> = ArrayVec::new();
-        items.push(Term {
+        let zero = Term {
             minus: false,
             atom: Atom::Number(0),
-        });
-        Terms { items }
+        };
+        Terms {
+            terms: [zero; MOST_TERMS],
+            count: 1,
+        }
     }
 }

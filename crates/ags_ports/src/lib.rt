@@ -1,6 +1,6 @@
 //! The machine: its tables of times and registers, and the definition of what it does. `specs/` says what a state is,
 //! what each order does, one step and a run; the types of events and of what a step tells stand here. The core runs
-//! that definition. It stands on `ags_word` for words, on `ags_isa` for orders and on `arrayvec` for short lists.
+//! that definition. It stands on `ags_word` for words and on `ags_isa` for orders.
 //! A table is valid by its type. `laws` says what the definition means, `run_laws` what runs of it do, and `time_laws`
 //! how long its steps take. No call takes memory.
 #![tactic(auto)]

@@ -1,11 +1,10 @@
 //! The input and output registers of a machine.
 
-ghost use Rattle.std.specs.Prelude.{◌≡◌, ◌≢◌, ◌<◌, ◌≤◌, ◌↔◌, ◌==◌, IsTrue, All, Any, AllPairs, length, slice_get, IfSome, Some, None, false};
+ghost use Rattle.std.specs.Prelude.{◌≡◌, ◌≢◌, ◌<◌, ◌≤◌, ◌↔◌, ◌==◌, IsTrue, All, Any, AllPairs, length, take, slice_get, IfSome, Some, None, false};
 ghost use Rattle.std.specs.List.{list_any};
 ghost use Rattle.ags_ports.specs.Port.{AreRegisters, position_of, is_once, standard_inputs, standard_outputs};
 
 use ags_word::LOCATIONS;
-use arrayvec::ArrayVec;
 use std::marker::Model;
 
 /// How many registers there are at most in one direction.
@@ -20,21 +19,56 @@ pub struct Port {
     pub once: bool,
 }
 
+/// The registers of one direction, in place.
+#[derive(Drop)]
+struct PortTable {
+    /// The registers, and further ones after them.
+    ports: [Port; MOST_REGISTERS],
+    /// How many of them are the direction's.
+    count: usize,
+}
+
 /// A machine's registers in each direction: at most 32, at distinct addresses below 4096.
 #[derive(Drop)]
 pub struct Ports {
-    inputs: ArrayVec<Port, MOST_REGISTERS>,
-    outputs: ArrayVec<Port, MOST_REGISTERS>,
+    inputs: PortTable,
+    outputs: PortTable,
 }
 
 impl Model for Ports {
+    ghost use Rattle.std.specs.Prelude.{◌≤◌, take};
     ghost use Rattle.ags_ports.specs.Port.{Registers, AreRegisters};
 
     ghost Value = { Registers };
 
-    ghost view = { λ ports. record { inputs = ports.inputs.items; outputs = ports.outputs.items } };
+    ghost view = { λ ports. record { inputs = take ports.inputs.count ports.inputs.ports; outputs = take ports.outputs.count ports.outputs.ports } };
 
-    ghost invariant = { λ ports. AreRegisters ports.inputs.items × AreRegisters ports.outputs.items };
+    ghost invariant = { λ ports. (AreRegisters (take ports.inputs.count ports.inputs.ports) × (ports.inputs.count ≤ 32))
+        × (AreRegisters (take ports.outputs.count ports.outputs.ports) × (ports.outputs.count ≤ 32)) };
+}
+
+impl PortTable {
+    /// A table of some registers.
+    fn of(ports: &[Port]) -> PortTable
+        requires { length ports.now ≤ 32 }
+        ensures held { take result.count result.ports ≡ ports.now }
+        ensures few { result.count ≤ 32 }
+    {
+        let mut table = [held_port(0); MOST_REGISTERS];
+        table[..ports.len()].copy_from_slice(ports);
+        PortTable {
+            ports: table,
+            count: ports.len(),
+        }
+    }
+
+    /// Its registers in order.
+    fn as_slice(&self) -> &[Port]
+        requires { self.now.count ≤ 32 }
+        ensures { result.now ≡ take self.now.count self.now.ports }
+    {
+        &self.ports[..self.count]
+    }
 }
 
 impl Ports {
@@ -50,8 +84,8 @@ impl Ports {
     {
         if are_registers(inputs) && are_registers(outputs) {
             Some(Ports {
-                inputs: table(inputs),
-                outputs: table(outputs),
+                inputs: PortTable::of(inputs),
+                outputs: PortTable::of(outputs),
             })
         } else {
             None
@@ -66,7 +100,7 @@ impl Ports {
         ensures output_table { AreRegisters result.outputs }
     {
         Ports {
-            inputs: table(&[
+            inputs: PortTable::of(&[
                 held_port(0o2001),
                 held_port(0o2002),
                 held_port(0o2004),
@@ -78,7 +112,7 @@ impl Ports {
                     once: true,
                 },
             ]),
-            outputs: table(&[
+            outputs: PortTable::of(&[
                 held_port(0o6001),
                 held_port(0o6002),
                 held_port(0o6004),
@@ -95,8 +129,8 @@ impl Ports {
         ensures { result ≡ self.now }
     {
         Ports {
-            inputs: table(self.inputs()),
-            outputs: table(self.outputs()),
+            inputs: PortTable::of(self.inputs()),
+            outputs: PortTable::of(self.outputs()),
         }
     }
 
@@ -156,16 +190,6 @@ fn held_port(address: u16) -> Port
         address,
         once: false,
     }
-}
-
-/// A list of registers in place.
-fn table(ports: &[Port]) -> ArrayVec<Port, MOST_REGISTERS>
-    requires { length ports.now ≤ 32 }
-    ensures { result.items ≡ ports.now }
-{
-    let mut table: ArrayVec<Port, MOST_REGISTERS> = ArrayVec::new();
-    let _ = table.try_extend_from_slice(ports);
-    table
 }
 
 /// Whether a list is a table of one direction.

@@ -4,9 +4,11 @@
 #![tactic(auto)]
 
 mod laws;
+mod open_terms;
 mod splitting;
 mod sums;
 mod symbols;
 
 pub use laws::{pairs_are_found_by_name, sums_are_of_the_terms_values, sums_are_split};
+pub use open_terms::OpenTerms;
 pub use symbols::{DefineError, Defined, Symbols};

@@ -4,4 +4,6 @@ pub mod Outcome
 pub mod Promises
 pub mod ThirdFile
 -- what serves inside
+pub mod Guarding
 pub mod ProgramLaws
+pub mod Telling

@@ -11,11 +11,11 @@ ghost use Rattle.ags_program.specs.Views as views;
 ghost use Rattle.ags_program.specs.Work as work;
 
 use crate::compare_command::compare_images;
+use crate::judging::judge_pair;
 use crate::run_command::play_script;
 use crate::write_command::write_text;
 use ags_asked::load_asked;
 use ags_command::read_asked;
-use ags_judging::judge_pair;
 use ags_outside::{SendError, Shelf, Sink, send};
 use ags_plan::{Loader, Program, Stop, Unloaded};
 use ags_program::{Refusal, Status, Work};

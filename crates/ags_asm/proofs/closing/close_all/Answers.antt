@@ -31,7 +31,7 @@ word_here codes S image now waiting i item mine word address within at same addr
 pub returns-in-Err-clause-fault : goal.returns-in-Err-clause-fault
 returns-in-Err-clause-fault c =
     let own = c.fix_up.inside in
-    let mine : Waiting = record { card = own.card; place = own.place; order = own.order; indexed = own.indexed; sum = own.sum; rest = own.rest.items } in
+    let mine : Waiting = record { card = own.card; place = own.place; order = own.order; indexed = own.indexed; sum = own.sum; rest = own.rest } in
     c.loop-fix_up.invariant.fault
     ∙ fault_here c.args.symbols.now c.args.waiting.now c.loop-fix_up.fix_up-index c.fix_up-item.result mine c.in-Err.fault c.loop-fix_up-test.true c.fix_up-item.is c.fix_up.view_is c.in-Err.ensures.fault
 
@@ -41,7 +41,7 @@ returns-in-Err-clause-image c = c.loop-fix_up.invariant.is_image
 pub loop-fix_up-preserved : goal.loop-fix_up-preserved
 loop-fix_up-preserved c =
     let own = c.fix_up.inside in
-    let mine : Waiting = record { card = own.card; place = own.place; order = own.order; indexed = own.indexed; sum = own.sum; rest = own.rest.items } in
+    let mine : Waiting = record { card = own.card; place = own.place; order = own.order; indexed = own.indexed; sum = own.sum; rest = own.rest } in
     record {
       fault = c.loop-fix_up.invariant.fault
           ∙ no_fault_here c.args.symbols.now c.args.waiting.now c.loop-fix_up.fix_up-index c.fix_up-item.result c.loop-fix_up-test.true c.fix_up-item.is c.in-Ok.ensures.faultless;

@@ -9,7 +9,7 @@ use Rattle.ags_asm.proofs.making.make_order.Goals as goal
 pub returns-clause-made : goal.returns-clause-made
 returns-clause-made c = λ later.
     rw (to_z-of_z w32 c.split-sum.result.0 (sum_fits c.split-sum.result.0 c.split-sum.ensures.small))
-    (made_waits c.args.codes.now c.args.symbols.now later c.args.number c.args.place c.args.order c.args.terms.now c.args.indexed c.split-sum.result.0 c.split-sum.result.1.items c.split-sum.ensures.sum c.split-sum.ensures.open)
+    (made_waits c.args.codes.now c.args.symbols.now later c.args.number c.args.place c.args.order c.args.terms.now c.args.indexed c.split-sum.result.0 c.split-sum.result.1 c.split-sum.ensures.sum c.split-sum.ensures.open)
 
 pub returns-in-Ok-clause-made : goal.returns-in-Ok-clause-made
 returns-in-Ok-clause-made c = λ later.

@@ -1,3 +1,0 @@
--- what serves inside
-pub mod Guarding
-pub mod Telling
