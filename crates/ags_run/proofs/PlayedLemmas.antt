@@ -1,8 +1,8 @@
 -- What a play comes to, by how it was begun and by what its acts came to. The proofs of `play` and of `play_from_start` cite:
---     not_begun, found_outside      it was not begun, or the start is outside
+--     not_begun, no_write_fault, found_outside      it was not begun, or the start is outside
 --     ended_whole, ended_unplayed, ended_with_fault     the acts of its commands met something, or nothing
 use Rattle.std.proofs.Common.{◌≡◌, ℕ, ◌+◌, ◌%◌, ◌^◌, ◌<◌, ◌≤◌, List, [], length, refl, sym, subst, arith}
-use Rattle.std.specs.Prelude.{Option, Some, None, Result, Ok, Err, IfOk, IfErr, OnErr, option_map, count_by, sum_by}
+use Rattle.std.specs.Prelude.{Option, Some, None, Result, Ok, Err, IfOk, IfErr, IsErrOf, OnErr, option_map, count_by, sum_by}
 use Rattle.ags_domain.specs.declared.values.Value.{Value}
 use Rattle.ags_outside.specs.declared.sending.SendError.{SendError}
 use Rattle.ags_outside.specs.declared.sending.SendError.TheVariants.{WriteFault, NoMemory}
@@ -24,6 +24,8 @@ use Rattle.ags_script.specs.Command.{step_count}
 use Rattle.ags_run.specs.Acted.{ActsPlayed, ActsInPart}
 use Rattle.ags_run.specs.declared.benches.Bench.{Bench}
 use Rattle.ags_run.specs.declared.outside.Outside.{Outside}
+use Rattle.ags_run.specs.declared.play_error.PlayError.TheVariants as unplayed
+use Rattle.ags_run.specs.declared.playing.Played.{Played}
 use Rattle.ags_run.specs.declared.players.Player.{Player}
 use Rattle.ags_run.specs.declared.players.StoppedWord.{StoppedWord}
 use Rattle.ags_run.specs.Play.{PlayedTo, PlayedWhole, PlayedInPart, IsUnplayed, is_play_fault, outside_of}
@@ -40,6 +42,10 @@ pub not_begun : (machine : Machine) (image : List (Option ℕ)) (guard : Option 
 not_begun machine image guard commands told is =
     let (events, text, met, plays) = some_play_of machine image guard commands is in
     record { events = events; text = text; met = met; plays = plays; front = front_of_wrote (wrote_nothing told text) }
+
+-- want of memory is no fault of the output
+pub no_write_fault : IsErrOf {T = Played} (Err unplayed.NoMemory) unplayed.WriteFault → ⊥
+no_write_fault is = cc
 
 module _ (machine : Machine) (image : List (Option ℕ)) (guard : Option (Certificate Value)) (commands : List Command) (player : Player) (begins : Begins machine image guard commands player) where
   -- what the player finds outside is what is outside of the script's start

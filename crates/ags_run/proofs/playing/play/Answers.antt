@@ -1,6 +1,7 @@
-use Rattle.std.proofs.Common.{option_map, refl, ap, arith}
+use Rattle.std.proofs.Common.{option_map, ap}
 use Rattle.ags_run.specs.Play.{guard_of, is_play_fault}
-use Rattle.ags_run.proofs.PlayedLemmas.{not_begun}
+use Rattle.ags_run.proofs.JoinLemmas.{unfailed}
+use Rattle.ags_run.proofs.PlayedLemmas.{not_begun, no_write_fault}
 use Rattle.ags_run.proofs.playing.play.Goals as goal
 
 pub play_from_start-requires : goal.play_from_start-requires
@@ -27,6 +28,6 @@ returns-in-Err g c =
       unplayed = not_begun c.args.machine.now c.args.image.now (guard_of (option_map (λ cert. cert.now) c.args.guard)) c.args.script.now (g.K.Sink.told c.args.out.now) c.plays_are_sound.ensures.machine;
       declared = c.plays_are_sound.ensures.declared;
       safe = c.plays_are_sound.ensures.safe;
-      write_fault = λ is. absurd cc;
-      faults = record { stays = omega arith; cause = λ fault. absurd cc; clean = λ none. refl };
+      write_fault = λ is. absurd (no_write_fault is);
+      faults = unfailed (g.K.Sink.faults c.args.out.now);
     }

@@ -1,6 +1,5 @@
-use Rattle.std.proofs.Common.{refl, arith}
 use Rattle.ags_run.proofs.CommandLemmas.{shown_by_none}
-use Rattle.ags_run.proofs.JoinLemmas.{none_played}
+use Rattle.ags_run.proofs.JoinLemmas.{none_played, unfailed}
 use Rattle.ags_run.proofs.players.Player.show.Goals as goal
 
 pub show_cell-requires : goal.show_cell-requires
@@ -41,5 +40,5 @@ pub returns-in_default : goal.returns-in_default
 returns-in_default g c = record {
   shown = rw (shown_by_none c.args.command.now c.in_default.not-ShowReg c.in_default.not-ShowCell c.in_default.not-ShowOut c.in_default.not-ShowDeda) (none_played (g.K.Sink.told c.args.out.now) c.args.self.now);
   part = tt;
-  faults = record { stays = omega arith; cause = λ fault. absurd cc; clean = λ none. refl };
+  faults = unfailed (g.K.Sink.faults c.args.out.now);
 }
