@@ -1,4 +1,5 @@
 -- Acts that were played one after another. The proofs of the player's methods cite:
+--     unfailed             nothing was printed
 --     none_played, made_played, plain_played, under_played     no act, and one
 --     played_on            acts were played after acts
 --     part_on              of acts after those that were played a part was printed
@@ -7,9 +8,10 @@
 --     act_in_part          of an act that puts no word a part was printed
 --     keeps_same, is_machine     the machine and the guard are the same
 use Rattle.std.proofs.Common.{◌≡◌, ℕ, ◌+◌, List, [], ◌∷◌, ◌++◌, refl, sym, ap, subst, ◌∙◌, append-nil, arith}
-use Rattle.std.specs.Prelude.{Bool, cond, ◌%◌, ◌^◌, count_by, Option, Some, None, option_map}
+use Rattle.std.specs.Prelude.{Bool, false, cond, ◌%◌, ◌^◌, count_by, Option, Some, None, option_map}
 use Rattle.std.proofs.lemmas.List.Sums.{sum_by-append}
 use Rattle.ags_domain.specs.declared.values.Value.{Value}
+use Rattle.ags_outside.specs.Count.{HasCause}
 use Rattle.ags_outside.specs.Sink.{appended, appended_nothing, appended_twice, WroteFront, front_in_first, front_in_second}
 use Rattle.ags_play.specs.Act.{Act}
 use Rattle.ags_play.specs.Bench as play
@@ -31,6 +33,10 @@ use Rattle.ags_run.specs.Playing.{guard_in, put_of, KeepsRules, Acted, ActedUnde
 use Rattle.ags_run.specs.Standing.{StandsAs}
 use Rattle.ags_run.proofs.ActLemmas.{counted_on}
 use Rattle.ags_play.proofs.CutLemmas.{plays_on, plays_stop}
+
+-- a call that prints nothing meets no fault
+pub unfailed : (faults : ℕ) → HasCause faults faults false
+unfailed faults = record { stays = omega arith; cause = λ told. absurd cc; clean = λ told. refl }
 
 -- ---- what is counted
 

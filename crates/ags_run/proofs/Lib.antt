@@ -1,5 +1,6 @@
 mod ActLemmas
 mod JoinLemmas
+mod CommandLemmas
 mod PutLemmas
 mod ShowLemmas
 mod CycleLemmas

@@ -1,16 +1,23 @@
 -- What the player's methods come to.
-use Rattle.std.specs.Prelude.{◌≡◌, ℕ, List, Option, option_map}
+use Rattle.std.specs.Prelude.{◌≡◌, ℕ, List, [], ◌∷◌, Option, Some, None, Result, Ok, Err, option_map}
 use Rattle.ags_domain.specs.declared.values.Value.{Value}
-use Rattle.ags_play.specs.Act.{Act}
+use Rattle.ags_outside.specs.declared.sending.SendError.{SendError}
+use Rattle.ags_outside.specs.declared.sending.SendError.TheVariants.{WriteFault, NoMemory}
+use Rattle.ags_play.specs.Act.{Act, MakesSteps, Pulses, Puts, Presses, Feeds, ShowsReg, ShowsCell, ShowsOut, ShowsDeda, cycles}
 use Rattle.ags_play.specs.Bench as play
 use Rattle.ags_play.specs.Bench.{start_bench}
 use Rattle.ags_play.specs.Doing.{PutWord}
 use Rattle.ags_ports.specs.declared.machines.Machine.{Machine}
 use Rattle.ags_safe.specs.Certificate.{Certificate}
 use Rattle.ags_script.specs.declared.commands.Command.{Command}
+use Rattle.ags_script.specs.declared.commands.Command.TheVariants.{Step, Pulse, Set, Press, Feed, Cycle, ShowReg, ShowCell, ShowOut, ShowDeda}
 use Rattle.ags_run.specs.Acted.{ActMade, ActsPlayed, ActsInPart}
+use Rattle.ags_run.specs.declared.benches.Bench.{Bench}
+use Rattle.ags_run.specs.declared.play_error.PlayError.{PlayError}
+use Rattle.ags_run.specs.declared.play_error.PlayError.TheVariants as unplayed
 use Rattle.ags_run.specs.declared.players.Player.{Player}
 use Rattle.ags_run.specs.declared.players.StoppedWord.{StoppedWord}
+use Rattle.ags_run.specs.declared.playing.Played.{Played}
 use Rattle.ags_run.specs.Making.{WordMet, ActMet}
 use Rattle.ags_run.specs.Play.{guard_of}
 use Rattle.ags_run.specs.Standing.{StandsAs}
@@ -61,3 +68,28 @@ pub record PlayedActs (acts : List Act) (old new : Option (List ℕ)) (before af
 -- of acts the sink took a prefix of their text
 abbrev pub InPart : List Act → (old new : Option (List ℕ)) → Player → Type 0
 InPart acts old new before = (b : play.Bench) → StandsAs before.bench b → ActsInPart before.machine.now (guard_in before) b acts old new
+
+-- the acts of a command that show something
+abbrev pub shown_acts : Command → List Act
+shown_acts ShowReg = ShowsReg ∷ []
+shown_acts (ShowCell address) = ShowsCell address ∷ []
+shown_acts (ShowOut address) = ShowsOut address ∷ []
+shown_acts ShowDeda = ShowsDeda ∷ []
+shown_acts _ = []
+
+-- the acts of a command that show nothing
+abbrev pub made_acts : Command → List Act
+made_acts (Step count) = MakesSteps count ∷ []
+made_acts Pulse = Pulses ∷ []
+made_acts (Set address word) = Puts address word ∷ []
+made_acts (Press key) = Presses key ∷ []
+made_acts Feed = Feeds ∷ []
+made_acts (Cycle count) = cycles count
+made_acts _ = []
+
+-- what a play comes to whose commands met this, and left that bench
+abbrev pub end_of : Bench → Result (Option StoppedWord) SendError → Result Played PlayError
+end_of bench (Ok None) = Ok (record { steps = bench.listener.steps; puts = bench.puts })
+end_of bench (Ok (Some stopped)) = Err (unplayed.InputRange stopped.address stopped.word)
+end_of bench (Err WriteFault) = Err unplayed.WriteFault
+end_of bench (Err NoMemory) = Err unplayed.NoMemory

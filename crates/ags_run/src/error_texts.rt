@@ -6,20 +6,21 @@ use ags_text::FourDigits;
 use ags_word::{SixDigits, Word};
 use std::fmt;
 
-/// An address with a word.
+/// A word that isn't declared for the address that has it, by what is at that address.
 #[derive(Clone, Copy)]
-struct At(u16, Word);
+struct Undeclared(&'static str, u16, Word);
 
-impl fmt::Display for At {
-    ghost use Rattle.std.specs.Prelude.{Some};
+impl fmt::Display for Undeclared {
+    ghost use Rattle.std.specs.Prelude.{Some, ◌++◌, codes};
     ghost use Rattle.ags_play.specs.OutsideText.{at_text};
 
-    ghost output = { λ at. Some (at_text at.0 at.1) };
+    ghost output = { λ line. Some (codes "OUTSIDE " ++ line.0.now ++ codes " " ++ at_text line.1 line.2) };
 
     fn fmt<W: fmt::Write>(&self, f: &mut fmt::Formatter<W>) -> fmt::Result {
-        let address = FourDigits(self.0);
-        let word = SixDigits(self.1);
-        write!(f, "{address} {word}")
+        let what = self.0;
+        let address = FourDigits(self.1);
+        let word = SixDigits(self.2);
+        write!(f, "OUTSIDE {what} {address} {word}")
     }
 }
 
@@ -38,8 +39,8 @@ impl fmt::Display for Outside {
                 let cert = FourDigits(cert);
                 write!(f, "OUTSIDE START {script} {cert}")
             }
-            Outside::Cell { address, word } => write!(f, "OUTSIDE CELL {}", At(address, word)),
-            Outside::Port { address, word } => write!(f, "OUTSIDE PORT {}", At(address, word)),
+            Outside::Cell { address, word } => Undeclared("CELL", address, word).fmt(f),
+            Outside::Port { address, word } => Undeclared("PORT", address, word).fmt(f),
         }
     }
 }
@@ -54,10 +55,8 @@ impl fmt::Display for PlayError {
 
     fn fmt<W: fmt::Write>(&self, f: &mut fmt::Formatter<W>) -> fmt::Result {
         match *self {
-            PlayError::StartOutside(outside) => write!(f, "{outside}"),
-            PlayError::InputRange { address, word } => {
-                write!(f, "OUTSIDE IN {}", At(address, word))
-            }
+            PlayError::StartOutside(outside) => outside.fmt(f),
+            PlayError::InputRange { address, word } => Undeclared("IN", address, word).fmt(f),
             PlayError::WriteFault | PlayError::NoMemory => Ok(()),
         }
     }

@@ -1,6 +1,6 @@
 //! The play of a script.
 
-ghost use Rattle.std.specs.Prelude.{◌≡◌, ◌<◌, ◌^◌, ℕ, List, Option, Some, length, option_map, IfOk, IfErr, IsErrOf};
+ghost use Rattle.std.specs.Prelude.{◌≡◌, ◌<◌, ◌^◌, ℕ, All, List, Option, Some, length, option_map, IfOk, IfErr, IsErrOf};
 ghost use Rattle.ags_domain.specs.Value.{value_meaning};
 ghost use Rattle.ags_domain.specs.declared.values.Value.{Value};
 ghost use Rattle.ags_outside.specs.Count.{HasCause, Rose};
@@ -10,13 +10,16 @@ ghost use Rattle.ags_play.specs.Cut.{IsSafeWhereCut};
 ghost use Rattle.ags_play.specs.Guard as outside_start;
 ghost use Rattle.ags_play.specs.Played.{IsPlayOf, Met, OutsideStart};
 ghost use Rattle.ags_ports.specs.declared.events.Event.{Event};
+ghost use Rattle.ags_ports.specs.declared.machines.Machine.{Machine};
 ghost use Rattle.ags_ports.specs.Machine.{IsMachine};
 ghost use Rattle.ags_safe.specs.Certificate.{Certificate};
 ghost use Rattle.ags_safe.specs.Safe.{Safe};
 ghost use Rattle.ags_script.specs.Script.{IsReadFor};
-ghost use Rattle.ags_script.specs.Suiting.{Suits};
+ghost use Rattle.ags_script.specs.Suiting.{NamesLocation, Suits};
 ghost use Rattle.ags_run.specs.Play.{guard_of, IsUnplayed, PlayedWhole, is_play_fault};
+ghost use Rattle.ags_run.specs.Playing.{Begins, end_of};
 
+use crate::benches::Bench;
 use crate::play_error::PlayError;
 use crate::players::{Player, StoppedWord};
 use crate::starting::usual_location;
@@ -27,7 +30,7 @@ use ags_ports::Machine;
 use ags_ports::laws::machine_is_made_of_tables;
 use ags_script::Script;
 use ags_script::laws::scripts_suit_their_machine;
-use std::alloc::Global;
+use std::alloc::{AllocError, Global};
 
 /// How many events a script made.
 #[derive(Clone, Copy)]
@@ -62,6 +65,49 @@ fn plays_are_sound(machine: &Machine, image: &Image, script: &Script, guard: Opt
     let _location = usual_location(guard);
 }
 
+/// What a play comes to whose commands met this: how many events the bench counted, or why it wasn't played to its end.
+fn end_of(bench: &Bench, met: Result<Option<StoppedWord>, SendError>) -> Result<Played, PlayError>
+    ensures { result ≡ end_of bench.now met }
+{
+    match met {
+        Ok(None) => Ok(Played {
+            steps: bench.listener.steps,
+            puts: bench.puts,
+        }),
+        Ok(Some(stopped)) => Err(PlayError::InputRange {
+            address: stopped.address,
+            word: stopped.word,
+        }),
+        Err(SendError::WriteFault) => Err(PlayError::WriteFault),
+        Err(SendError::NoMemory) => Err(PlayError::NoMemory),
+    }
+}
+
+impl<'a> Player<'a> {
+    /// Plays a script that it begins, where nothing is outside of its start.
+    fn play_from_start<K: Sink>(
+        &mut self,
+        image: &Image,
+        script: &Script,
+        out: &mut K,
+    ) -> Result<Played, PlayError>
+        requires { All NamesLocation script.now }
+        ensures played { (machine : Machine) (guard : Option (Certificate Value)) → Begins machine image.now guard script.now self.old → IsMachine machine
+            → Suits machine script.now → length script.now < 2 ^ 63 → IfOk result (PlayedWhole machine image.now guard script.now (K.told out.old) (K.told out.new)) }
+        ensures unplayed { (machine : Machine) (guard : Option (Certificate Value)) → Begins machine image.now guard script.now self.old
+            → IfErr result (IsUnplayed machine image.now guard script.now (K.told out.old) (K.told out.new)) }
+        ensures faults { HasCause (K.faults out.old) (K.faults out.new) (is_play_fault result) }
+    {
+        match self.find_outside(image) {
+            Some(outside) => Err(PlayError::StartOutside(outside)),
+            None => {
+                let met = self.play_commands(script, out);
+                end_of(&self.bench, met)
+            }
+        }
+    }
+}
+
 /// Plays a script that was read for the machine (docs/SCRIPT.md), on the machine that starts with an image. What it shows is
 /// printed as soon as it is shown, a line each. Under a certificate the start, and each word before it is put, must be ones that
 /// it declares.
@@ -92,19 +138,8 @@ pub fn play<K: Sink>(
     ensures faults { HasCause (K.faults out.old) (K.faults out.new) (is_play_fault result) }
 {
     plays_are_sound(machine, image, script, guard);
-    let Ok(mut player) = Player::begin(alloc, machine, image, script, guard) else {
-        return Err(PlayError::NoMemory);
-    };
-    if let Some(outside) = player.find_outside(image) {
-        return Err(PlayError::StartOutside(outside));
-    }
-    match player.play_commands(script, out) {
-        Ok(None) => Ok(Played {
-            steps: player.bench.listener.steps,
-            puts: player.bench.puts,
-        }),
-        Ok(Some(StoppedWord { address, word })) => Err(PlayError::InputRange { address, word }),
-        Err(SendError::WriteFault) => Err(PlayError::WriteFault),
-        Err(SendError::NoMemory) => Err(PlayError::NoMemory),
+    match Player::begin(alloc, machine, image, script, guard) {
+        Ok(mut player) => player.play_from_start(image, script, out),
+        Err(AllocError) => Err(PlayError::NoMemory),
     }
 }
