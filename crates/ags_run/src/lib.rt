@@ -21,6 +21,7 @@ mod script_play;
 mod showing;
 mod shown_lines;
 mod starting;
+mod whole_lines;
 
 pub use acts::carry_in;
 pub use guarding::find_outside;
@@ -28,5 +29,6 @@ pub use outside::Outside;
 pub use play_error::PlayError;
 pub use playing::{Played, play};
 pub use putting::cert_lets_through;
-pub use showing::{output_at, whole_line};
+pub use showing::output_at;
 pub use shown_lines::{cell_line, output_line, reg_line};
+pub use whole_lines::{WholeLine, whole_line};

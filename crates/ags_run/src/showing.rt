@@ -13,6 +13,7 @@ ghost use Rattle.ags_run.specs.Playing.{PlayedActs, InPart};
 
 use crate::players::Player;
 use crate::shown_lines::{cell_line, output_line, reg_line};
+use crate::whole_lines::whole_line;
 use ags_core::Core;
 use ags_deda::Panel;
 use ags_outside::{SendError, Sink, send};
@@ -44,17 +45,6 @@ pub fn output_at(machine: &Machine, core: &Core, address: u16) -> Word
     }
 }
 
-/// A line with its line feed.
-pub fn whole_line(line: &[u8]) -> ArrayVec<u8, 35>
-    requires { length line.now ≤ 34 }
-    ensures { result.items ≡ line.now ++ codes "\n" }
-{
-    // the longest line has room, with its line feed
-    let mut whole: ArrayVec<u8, 35> = ArrayVec::new();
-    let _ = whole.try_extend_from_slice(line);
-    let _ = whole.try_push(b'\n');
-    whole
-}
 
 /// Sends a line with its line feed, as one piece.
 fn send_line<K: Sink>(out: &mut K, line: &[u8]) -> Result<(), SendError>

@@ -9,10 +9,10 @@ pub returns-clause-made : goal.returns-clause-made
 returns-clause-made g c =
     on_ok_weaker c.send_line.result
     (λ sent machine cert devices. cell_made machine cert c.args.bench.now c.steps_fit.ensures c.args.address devices (g.K.Sink.told c.args.out.now) (g.K.Sink.told c.send_line.new.out) c.as_slice.result.now
-    (c.as_slice.ensures.value ∙ c.whole_line-line.ensures ∙ ap (λ text. text ++ codes "\n") (c.cell_line.ensures ∙ ap (cell_text c.args.address) c.cell.ensures.word)) sent) c.send_line.ensures.sent
+    (c.as_slice.ensures ∙ c.whole_line-line.ensures ∙ ap (λ text. text ++ codes "\n") (c.cell_line.ensures ∙ ap (cell_text c.args.address) c.cell.ensures.word)) sent) c.send_line.ensures.sent
 
 pub returns-clause-unmade : goal.returns-clause-unmade
 returns-clause-unmade g c =
     MatchResult-weaker c.send_line.result c.send_line.ensures.front (λ x h. h)
     (λ met front machine cert devices. cell_unmade machine cert c.args.bench.now c.steps_fit.ensures c.args.address devices (g.K.Sink.told c.args.out.now) (g.K.Sink.told c.send_line.new.out) c.as_slice.result.now met
-    (c.as_slice.ensures.value ∙ c.whole_line-line.ensures ∙ ap (λ text. text ++ codes "\n") (c.cell_line.ensures ∙ ap (cell_text c.args.address) c.cell.ensures.word)) front)
+    (c.as_slice.ensures ∙ c.whole_line-line.ensures ∙ ap (λ text. text ++ codes "\n") (c.cell_line.ensures ∙ ap (cell_text c.args.address) c.cell.ensures.word)) front)
