@@ -2,8 +2,10 @@
 --     driven_whole    all acts were made
 --     driven_less     they weren't
 --     not_begun       the run wasn't begun
-use Rattle.std.proofs.Common.{◌≡◌, ℕ, ◌+◌, ◌%◌, ◌^◌, ◌≤◌, List, [], ◌∷◌, length, refl, sym, subst, append-nil, arith}
-use Rattle.std.specs.Prelude.{Option, Some, None, count_by}
+--     error_fault     an error tells a fault of the sink or not, whatever else there might have been
+--     rose_at         with a fault the count of faults rose
+use Rattle.std.proofs.Common.{◌≡◌, ℕ, ◌+◌, ◌%◌, ◌^◌, ◌≤◌, List, [], ◌∷◌, length, refl, sym, ap, subst, append-nil, arith}
+use Rattle.std.specs.Prelude.{Option, Some, None, Result, Err, IsErrOf, count_by}
 use Rattle.ags_benchplay.specs.Act.{Act, acts_of_script}
 use Rattle.ags_benchplay.specs.Bench as play
 use Rattle.ags_benchplay.specs.Bench.{start_bench}
@@ -18,6 +20,7 @@ use Rattle.ags_benchscript.specs.Script.{steps_of}
 use Rattle.ags_benchscript.specs.declared.commands.BenchCommand.{BenchCommand}
 use Rattle.ags_device.specs.Record.{DeviceRecord}
 use Rattle.ags_domain.specs.declared.values.Value.{Value}
+use Rattle.ags_outside.specs.Count.{HasCause, Rose}
 use Rattle.ags_outside.specs.Sink.{appended_nothing, WroteFront, wrote_nothing, front_of_wrote}
 use Rattle.ags_play.specs.Counted.{is_step}
 use Rattle.ags_play.specs.Guard.{IsFirstOutside}
@@ -30,7 +33,8 @@ use Rattle.ags_benchplay.specs.Played.{Plays, IsPoint, next_text}
 use Rattle.ags_drive.specs.declared.benches.Bench.{Bench}
 use Rattle.ags_drive.specs.declared.drive_error.DriveError.{DriveError}
 use Rattle.ags_drive.specs.declared.drive_error.DriveError.TheVariants as error
-use Rattle.ags_drive.specs.Drive.{IsUndriven}
+use Rattle.ags_drive.specs.declared.driving.Driven.{Driven}
+use Rattle.ags_drive.specs.Drive.{IsUndriven, is_drive_fault}
 use Rattle.ags_drive.specs.Making.{Made, Unmade}
 use Rattle.ags_drive.specs.Standing.{bench_of}
 use Rattle.ags_drive.specs.Starting.{IsUnbegun}
@@ -130,3 +134,16 @@ module _ (machine : Machine) (image : List (Option ℕ)) (cert : Certificate Val
   not_begun told (error.InputRange address word) is none = absurd none
   not_begun told (error.NoDevice line device) is none = absurd none
   not_begun told (error.NoFeed line device) is none = absurd none
+
+-- ---- faults of the sink
+
+pub error_fault : (T U : Type 0) (met : DriveError) → is_drive_fault {T = T} (Err met) ≡ is_drive_fault {T = U} (Err met)
+error_fault T U error.WriteFault = refl
+error_fault T U (error.StartOutside outside) = refl
+error_fault T U (error.InputRange address word) = refl
+error_fault T U (error.NoDevice line device) = refl
+error_fault T U (error.NoFeed line device) = refl
+error_fault T U error.NoMemory = refl
+
+pub rose_at : (before now : ℕ) (r : Result Driven DriveError) → HasCause before now (is_drive_fault r) → IsErrOf r error.WriteFault → Rose before now
+rose_at before now r has is = has.cause (ap (λ (x : Result Driven DriveError). is_drive_fault x) is)

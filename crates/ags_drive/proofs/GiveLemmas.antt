@@ -1,10 +1,12 @@
 -- Words that devices give, as acts. The proofs of `feeding` cite:
---     word_given                     a word was put
+--     word_given, none_given         a word was put, or there was none
+--     next_read, word_ungiven        a device's next word as it was read, and one that wasn't put
+--     on_ok_both                     what follows from two things that are so where a call succeeded
 --     feed_made, feed_unmade         FEED of a device that feeds a register
 --     no_device, no_feed             FEED of none, and of one that feeds no register
---     cycle_feed_unmade, cycle_feed_idle    the feed of a cycle that ends there, and one that gives nothing
+--     cycle_feed_made, cycle_feed_unmade, cycle_feed_idle    the feed of a cycle that ends there, and one that gives nothing
 use Rattle.std.proofs.Common.{◌≡◌, ℕ, zero, suc, ◌+◌, ◌≤◌, ◌^◌, ◌<◌, Bool, true, false, List, [], ◌∷◌, length, map, refl, sym, ap, subst, ◌∙◌, inl, inr, IsSome, arith}
-use Rattle.std.specs.Prelude.{◌⊎◌, Option, Some, None, is_some, slice_get, count_by, if◌then◌else◌}
+use Rattle.std.specs.Prelude.{◌⊎◌, Option, Some, None, Result, Ok, Err, OnOk, is_some, slice_get, count_by, if◌then◌else◌}
 use Rattle.ags_benchplay.specs.Act.{Act, Feeds, FeedsInCycle}
 use Rattle.ags_benchplay.specs.Bench as play
 use Rattle.ags_benchplay.specs.Bench.{position_of_number, device_at, with_given}
@@ -26,7 +28,7 @@ use Rattle.ags_drive.specs.declared.benches.Bench.{Bench}
 use Rattle.ags_drive.specs.declared.drive_error.DriveError.{DriveError}
 use Rattle.ags_drive.specs.declared.drive_error.DriveError.TheVariants as error
 use Rattle.ags_drive.specs.declared.listeners.Listener.{Listener}
-use Rattle.ags_drive.specs.Making.{ActMade, Unmade, WordGiven, WordUngiven, put_from}
+use Rattle.ags_drive.specs.Making.{ActMade, Unmade, WordGiven, WordStopped, WordUngiven, put_from}
 use Rattle.ags_drive.specs.Standing.{bench_of}
 use Rattle.ags_drive.proofs.JoinLemmas.{act_refused, act_unmade}
 use Rattle.ags_drive.proofs.StepLemmas.{same_bench}
@@ -51,8 +53,37 @@ next_from (Some d) = from_plan d.feeds d.plan
     from_plan (Some address) [] = refl
     from_plan (Some address) (word ∷ words) = refl
 
+pub next_read : (o : Option DeviceRecord) (feeds next : Option ℕ) → feeds ≡ feeds_of o → next ≡ first_of (plan_of o) → put_from feeds next ≡ next_put o
+next_read o feeds next fed read = ap (λ (f : Option ℕ). put_from f next) fed ∙ ap (λ (n : Option ℕ). put_from (feeds_of o) n) read ∙ sym (next_from o)
+
+pub on_ok_both : {T E P Q R : Type 0} (r : Result T E) → (P → Q → R) → OnOk r P → OnOk r Q → OnOk r R
+on_ok_both (Ok value) both p q = both p q
+on_ok_both (Err error) both p q = tt
+
 module _ (machine : Machine) (cert : Certificate Value) where
   -- ---- a word that is put
+
+  pub none_given : (bench : Bench) → WordGiven machine cert bench bench None
+  none_given bench = record {
+    through = refl;
+    moments = [];
+    run = tt;
+    idle = inl refl;
+    core = refl;
+    words = tt;
+    listener = refl;
+    carry = refl;
+    puts = omega arith;
+  }
+
+  pub word_ungiven : (devices now : List DeviceRecord) (position : ℕ) (put : Option PutWord) (met : DriveError) → put ≡ next_put (slice_get devices position) → now ≡ changed_at given devices position
+      → WordStopped machine cert put met → WordUngiven machine cert devices now position met
+  word_ungiven devices now position put (error.InputRange address word) is taken stopped = (ap (λ (q : Option PutWord). stopped_by machine (Some cert) q) (sym is) ∙ stopped, taken)
+  word_ungiven devices now position put error.NoMemory is taken stopped = absurd stopped
+  word_ungiven devices now position put error.WriteFault is taken stopped = absurd stopped
+  word_ungiven devices now position put (error.StartOutside outside) is taken stopped = absurd stopped
+  word_ungiven devices now position put (error.NoDevice line device) is taken stopped = absurd stopped
+  word_ungiven devices now position put (error.NoFeed line device) is taken stopped = absurd stopped
 
   pub word_given : (before after : Bench) (address word : ℕ) (o : Option PutWord) (report : Done) → o ≡ Some (record { address = address; word = word }) → stopped_by machine (Some cert) (Some (record { address = address; word = word })) ≡ None → word < 2 ^ 18
       → Steps machine before.core (Put address word) report after.core → after.listener ≡ before.listener → after.carry ≡ before.carry → after.puts ≡ before.puts + 1 → WordGiven machine cert before after o
@@ -178,21 +209,31 @@ module _ (machine : Machine) (cert : Certificate Value) where
   fed_by_position s None = refl
   fed_by_position s (Some d) = refl
 
+  takes_read : (s : State) (o : Option DeviceRecord) (feeds : Option ℕ) (fed : Bool) → feeds ≡ feeds_of o → fed ≡ takes_word machine s (fed_position machine feeds) → takes_word machine s (fed_position machine (feeds_of o)) ≡ fed
+  takes_read s o feeds fed read is = ap (λ (f : Option ℕ). takes_word machine s (fed_position machine f)) (sym read) ∙ sym is
+
   gives_at : (b : play.Bench) (position : ℕ) (fed : Bool) → takes_word machine b.core (fed_position machine (feeds_of (slice_get b.devices position))) ≡ fed
       → giver machine b (FeedsInCycle position) ≡ (if fed then Some position else None)
   gives_at b position fed is = ap (λ t. if t then Some position else None) (fed_by_position b.core (slice_get b.devices position) ∙ is)
 
-  pub cycle_feed_unmade : (before : Bench) (devices now : List DeviceRecord) (position : ℕ) (met : DriveError) (told : Option (List ℕ))
-      → takes_word machine before.core (fed_position machine (feeds_of (slice_get devices position))) ≡ true → WordUngiven machine cert devices now position met
-      → Unmade machine cert (bench_of before devices) (FeedsInCycle position ∷ []) told told now met
-  cycle_feed_unmade before devices now position met told fed p =
-      let at = gives_at (bench_of before devices) position true fed in
+  pub cycle_feed_unmade : (before : Bench) (devices now : List DeviceRecord) (position : ℕ) (met : DriveError) (told : Option (List ℕ)) (feeds : Option ℕ) → feeds ≡ feeds_of (slice_get devices position) → true ≡ takes_word machine before.core (fed_position machine feeds)
+      → WordUngiven machine cert devices now position met → Unmade machine cert (bench_of before devices) (FeedsInCycle position ∷ []) told told now met
+  cycle_feed_unmade before devices now position met told feeds read fed p =
+      let at = gives_at (bench_of before devices) position true (takes_read before.core (slice_get devices position) feeds true read fed) in
       ungiven_unmade (bench_of before devices) (FeedsInCycle position) position now met told
       (ap (λ q. refused_put (stopped_by machine (Some cert) (next_put (device_at devices q)))) at) (ap (λ q. with_given devices q) at) p
 
-  pub cycle_feed_idle : (bench : Bench) (devices : List DeviceRecord) (position : ℕ) → bench.listener.steps < 2 ^ 64
+  pub cycle_feed_made : (before after : Bench) (devices now : List DeviceRecord) (position : ℕ) → before.listener.steps < 2 ^ 64 → (feeds : Option ℕ) → feeds ≡ feeds_of (slice_get devices position) → true ≡ takes_word machine before.core (fed_position machine feeds)
+      → WordGiven machine cert before after (next_put (slice_get devices position)) → now ≡ changed_at given devices position → ActMade machine cert (FeedsInCycle position) before after devices now
+  cycle_feed_made before after devices now position fits feeds read fed p taken =
+      let at = gives_at (bench_of before devices) position true (takes_read before.core (slice_get devices position) feeds true read fed) in
+      given_made (FeedsInCycle position) before after devices now position fits
+      (ap (λ q. refused_put (stopped_by machine (Some cert) (next_put (device_at devices q)))) at ∙ ap (λ q. refused_put q) p.through)
+      (ap (λ q. next_put (device_at devices q)) at) (ap (λ q. with_given devices q) at) (λ moments. refl) (λ moments. refl) p taken
+
+  idle_at : (bench : Bench) (devices : List DeviceRecord) (position : ℕ) → bench.listener.steps < 2 ^ 64
       → takes_word machine bench.core (fed_position machine (feeds_of (slice_get devices position))) ≡ false → ActMade machine cert (FeedsInCycle position) bench bench devices devices
-  cycle_feed_idle bench devices position fits fed =
+  idle_at bench devices position fits fed =
       let at = gives_at (bench_of bench devices) position false fed in
       idle_made (FeedsInCycle position) bench devices fits
       (ap (λ q. refused_put (stopped_by machine (Some cert) (next_put (device_at devices q)))) at)
@@ -201,4 +242,8 @@ module _ (machine : Machine) (cert : Certificate Value) where
 
   -- at a position past the end there is nothing to feed
   pub cycle_feed_past : (bench : Bench) (devices : List DeviceRecord) (position : ℕ) → bench.listener.steps < 2 ^ 64 → slice_get devices position ≡ None → ActMade machine cert (FeedsInCycle position) bench bench devices devices
-  cycle_feed_past bench devices position fits none = cycle_feed_idle bench devices position fits (ap (λ o. takes_word machine bench.core (fed_position machine (feeds_of o))) none)
+  cycle_feed_past bench devices position fits none = idle_at bench devices position fits (ap (λ o. takes_word machine bench.core (fed_position machine (feeds_of o))) none)
+
+  pub cycle_feed_idle : (bench : Bench) (devices : List DeviceRecord) (position : ℕ) → bench.listener.steps < 2 ^ 64 → (feeds : Option ℕ) → feeds ≡ feeds_of (slice_get devices position) → false ≡ takes_word machine bench.core (fed_position machine feeds)
+      → ActMade machine cert (FeedsInCycle position) bench bench devices devices
+  cycle_feed_idle bench devices position fits feeds read fed = idle_at bench devices position fits (takes_read bench.core (slice_get devices position) feeds false read fed)

@@ -1,4 +1,5 @@
 -- Acts that were made one after another. The proofs of the functions cite:
+--     unfaulted, unchanged      the sink met no fault
 --     none_made, act_made       no act, and one act
 --     silent_made               one act that prints nothing
 --     act_refused               one act that is refused
@@ -9,7 +10,7 @@
 --     unmade_after              acts weren't all made, after acts that were
 --     unmade_before             acts weren't all made, and others would have come after them
 use Rattle.std.proofs.Common.{◌≡◌, ℕ, ◌+◌, ◌%◌, ◌^◌, ◌<◌, cond, List, [], ◌∷◌, ◌++◌, refl, sym, ap, subst, ◌∙◌, append-nil, arith}
-use Rattle.std.specs.Prelude.{Option, Some, None, count_by}
+use Rattle.std.specs.Prelude.{Bool, true, false, Option, Some, None, count_by}
 use Rattle.std.proofs.Math.Nat.{mod-add-mod}
 use Rattle.std.proofs.lemmas.List.Sums.{sum_by-append}
 use Rattle.ags_benchplay.specs.Act.{Act}
@@ -21,6 +22,7 @@ use Rattle.ags_benchplay.proofs.GrownLemmas.{HaveGrown, grown_still, behind_self
 use Rattle.ags_benchplay.proofs.PointLemmas.{plays_on, point_here, point_before, point_after}
 use Rattle.ags_device.specs.Record.{DeviceRecord}
 use Rattle.ags_domain.specs.declared.values.Value.{Value}
+use Rattle.ags_outside.specs.Count.{HasCause}
 use Rattle.ags_outside.specs.Sink.{appended, appended_nothing, appended_twice, WroteFront, wrote_nothing, front_of_wrote}
 use Rattle.ags_play.specs.Counted.{is_step, is_put}
 use Rattle.ags_ports.specs.declared.events.Event.{Event}
@@ -32,6 +34,17 @@ use Rattle.ags_drive.specs.declared.drive_error.DriveError.{DriveError}
 use Rattle.ags_drive.specs.declared.drive_error.DriveError.TheVariants as error
 use Rattle.ags_drive.specs.Making.{AreCounted, Made, Unmade, ActMade, IsFrontSent}
 use Rattle.ags_drive.specs.Standing.{bench_of}
+
+-- ---- faults of the sink
+
+true_false : true ≡ false → ⊥
+true_false is = cc
+
+pub unchanged : (before now : ℕ) → now ≡ before → HasCause before now false
+unchanged before now same = record { stays = omega (arith, same); cause = λ told. absurd (true_false (sym told)); clean = λ told. same }
+
+pub unfaulted : (faults : ℕ) (fault : Bool) → fault ≡ false → HasCause faults faults fault
+unfaulted faults fault none = subst (λ (told : Bool). HasCause faults faults told) (sym none) (unchanged faults faults refl)
 
 -- ---- events
 

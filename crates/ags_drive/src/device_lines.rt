@@ -40,64 +40,35 @@ pub(crate) struct DeviceCounts {
     pub(crate) last: Option<Word>,
 }
 
-/// A device that leaves, by its number.
+/// A device by its number, and what is said of it before that.
 #[derive(Clone, Copy)]
-struct Detached(u32, DeviceCounts);
+struct Told(&'static str, usize, DeviceCounts);
 
-impl fmt::Display for Detached {
-    ghost use Rattle.std.specs.Prelude.{Some, codes};
+impl fmt::Display for Told {
+    ghost use Rattle.std.specs.Prelude.{Some};
     ghost use Rattle.ags_benchplay.specs.Shown.{device_text};
 
-    ghost output = { λ device. Some (device_text (codes "DETACHED ") device.0 device.1.left device.1.heard device.1.last) };
+    ghost output = { λ device. Some (device_text device.0.now device.1 device.2.left device.2.heard device.2.last) };
 
     fn fmt<W: fmt::Write>(&self, f: &mut fmt::Formatter<W>) -> fmt::Result {
-        let number = self.0;
-        let left = self.1.left;
-        let heard = self.1.heard;
-        let last = Last(self.1.last);
-        write!(f, "DETACHED {number} LEFT {left} HEARD {heard} LAST {last}")
+        let what = self.0;
+        let number = self.1;
+        let left = self.2.left;
+        let heard = self.2.heard;
+        let last = Last(self.2.last);
+        write!(f, "{what}{number} LEFT {left} HEARD {heard} LAST {last}")
     }
 }
 
-/// A device that is left at the end, by its number.
-#[derive(Clone, Copy)]
-struct Remaining(usize, DeviceCounts);
-
-impl fmt::Display for Remaining {
-    ghost use Rattle.std.specs.Prelude.{Some, codes};
-    ghost use Rattle.ags_benchplay.specs.Shown.{device_text};
-
-    ghost output = { λ device. Some (device_text (codes "DEVICE ") device.0 device.1.left device.1.heard device.1.last) };
-
-    fn fmt<W: fmt::Write>(&self, f: &mut fmt::Formatter<W>) -> fmt::Result {
-        let number = self.0;
-        let left = self.1.left;
-        let heard = self.1.heard;
-        let last = Last(self.1.last);
-        write!(f, "DEVICE {number} LEFT {left} HEARD {heard} LAST {last}")
-    }
-}
-
-/// The line of a device that leaves, with its line feed.
-pub(crate) fn detached_line(
+/// The line of a device, with its line feed.
+pub(crate) fn device_line(
     alloc: Global,
-    number: u32,
-    counts: DeviceCounts,
-) -> Result<String, AllocError>
-    ensures { IfOk result (λ line. string_bytes line ≡ device_text (codes "DETACHED ") number counts.left counts.heard counts.last ++ codes "\n") }
-{
-    let device = Detached(number, counts);
-    format!(in alloc; "{device}\n")
-}
-
-/// The line of a device that is left at the end, with its line feed.
-pub(crate) fn left_line(
-    alloc: Global,
+    what: &'static str,
     number: usize,
     counts: DeviceCounts,
 ) -> Result<String, AllocError>
-    ensures { IfOk result (λ line. string_bytes line ≡ device_text (codes "DEVICE ") number counts.left counts.heard counts.last ++ codes "\n") }
+    ensures { IfOk result (λ line. string_bytes line ≡ device_text what.now number counts.left counts.heard counts.last ++ codes "\n") }
 {
-    let device = Remaining(number, counts);
+    let device = Told(what, number, counts);
     format!(in alloc; "{device}\n")
 }

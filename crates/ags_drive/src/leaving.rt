@@ -13,7 +13,7 @@ ghost use Rattle.ags_drive.specs.Making.{Made, Unmade};
 ghost use Rattle.ags_drive.specs.Standing.{bench_of};
 
 use crate::benches::Bench;
-use crate::device_lines::{DeviceCounts, detached_line, left_line};
+use crate::device_lines::{DeviceCounts, device_line};
 use crate::drive_error::DriveError;
 use crate::feeding::{find, is_there};
 use crate::showing::send_line;
@@ -55,7 +55,12 @@ pub(crate) fn detach<K: Sink>(
             device: number,
         });
     };
-    let Ok(text) = detached_line(*devices.allocator(), number, counts_at(devices, position)) else {
+    let Ok(text) = device_line(
+        *devices.allocator(),
+        "DETACHED ",
+        number as usize,
+        counts_at(devices, position),
+    ) else {
         return Err(DriveError::NoMemory);
     };
     if let Err(error) = send_line(out, text.as_bytes()) {
@@ -83,8 +88,9 @@ fn show_left<K: Sink>(
         return Ok(());
     }
     is_there(devices, position);
-    let Ok(text) = left_line(
+    let Ok(text) = device_line(
         *devices.allocator(),
+        "DEVICE ",
         position + 1,
         counts_at(devices, position),
     ) else {

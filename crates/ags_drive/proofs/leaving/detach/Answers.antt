@@ -9,8 +9,8 @@ pub returns-in_default-clause-unmade : goal.returns-in_default-clause-unmade
 returns-in_default-clause-unmade g c = λ machine cert.
     detached_none machine cert c.args.bench.now c.steps_fit.ensures _ c.args.line c.args.number (g.K.Sink.told c.args.out.now) (c.in_default.ensures.none refl)
 
-pub returns-in_default-detached_line-clause-unmade : goal.returns-in_default-detached_line-clause-unmade
-returns-in_default-detached_line-clause-unmade g c = λ machine cert.
+pub returns-in_default-device_line-clause-unmade : goal.returns-in_default-device_line-clause-unmade
+returns-in_default-device_line-clause-unmade g c = λ machine cert.
     act_unmade machine cert (bench_of c.args.bench.now _) (Detaches c.args.line c.args.number) (g.K.Sink.told c.args.out.now) _ refl
 
 pub returns-in-Err-clause-unmade : goal.returns-in-Err-clause-unmade
