@@ -70,25 +70,15 @@ impl Drop for Gatherer {
     }
 }
 
-/// A table of so many addresses at which nothing is stated.
-fn nothing(alloc: Global, count: usize) -> Result<Vec<Option<Value>>, AllocError>
-    ensures { IfOk result (λ table. table.items ≡ replicate count None) }
+/// Two tables of so many addresses at which nothing is stated.
+fn nothing_twice(
+    alloc: Global,
+    count: u16,
+) -> Result<(Vec<Option<Value>>, Vec<Option<Value>>), AllocError>
+    ensures { IfOk result (λ tables. (tables.0.items ≡ replicate count None) × (tables.1.items ≡ replicate count None)) }
 {
-    Ok(vec![in alloc; None; count]?)
-}
-
-/// A table of all locations of which none is a named place.
-fn no_places(alloc: Global) -> Result<Vec<bool>, AllocError>
-    ensures { IfOk result (λ places. places.items ≡ replicate 4096 false) }
-{
-    Ok(vec![in alloc; false; LOCATIONS as usize]?)
-}
-
-/// A count of 0 for each location.
-fn zeros(alloc: Global) -> Result<Vec<u16>, AllocError>
-    ensures { IfOk result (λ counts. counts.items ≡ replicate 4096 0) }
-{
-    Ok(vec![in alloc; 0; LOCATIONS as usize]?)
+    let one = vec![in alloc; None; count as usize]?;
+    Ok((one, vec![in alloc; None; count as usize]?))
 }
 
 impl Gatherer {
@@ -96,17 +86,21 @@ impl Gatherer {
     pub(crate) fn new(alloc: Global) -> Result<Gatherer, AllocError>
         ensures { IfOk result (λ gatherer. gathering_of gatherer ≡ nothing_stated) }
     {
+        let places = vec![in alloc; false; LOCATIONS as usize]?;
+        let counts = vec![in alloc; 0; LOCATIONS as usize]?;
+        let (cells, init) = nothing_twice(alloc, ERASABLE)?;
+        let (inputs, outputs) = nothing_twice(alloc, LOCATIONS)?;
         Ok(Gatherer {
             version: 0,
             last: None,
             start: ERASABLE,
-            cells: nothing(alloc, ERASABLE as usize)?,
-            init: nothing(alloc, ERASABLE as usize)?,
-            inputs: nothing(alloc, LOCATIONS as usize)?,
-            outputs: nothing(alloc, LOCATIONS as usize)?,
-            places: no_places(alloc)?,
-            counts: zeros(alloc)?,
+            cells,
+            init,
+            inputs,
+            outputs,
+            places,
             rows: Vec::new(alloc),
+            counts,
             line: None,
             row_cells: Vec::new(alloc),
             row_link: None,

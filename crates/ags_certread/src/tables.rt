@@ -102,7 +102,7 @@ impl Gatherer {
             Table::Init => put(&mut self.init, entry),
             Table::In => put(&mut self.inputs, entry),
             Table::Out => put(&mut self.outputs, entry),
-            Table::At => add_cell(&mut self.row_cells, entry)?,
+            Table::At => return add_cell(&mut self.row_cells, entry),
         }
         Ok(())
     }

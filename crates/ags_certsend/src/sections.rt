@@ -1,7 +1,7 @@
 //! The kinds of lines that stand by address, and what a certificate states at each.
 
 ghost use Rattle.std.specs.Prelude.{◌≡◌, ◌<◌, ◌≤◌};
-ghost use Rattle.ags_certsend.specs.CertText.{is_full, limited, cell_statement, init_statement, input_statement, output_statement, place_statement};
+ghost use Rattle.ags_certsend.specs.CertText.{is_full, limited, stating, cell_statement, init_statement, input_statement, output_statement, place_statement};
 ghost use Rattle.ags_certsend.specs.Section.{address_count, stated_at};
 
 use ags_certtext::{Entry, Statement, Table};
@@ -69,17 +69,18 @@ fn is_full(value: &Value) -> bool
     }
 }
 
-/// The entry of a limit: a full one has none.
-fn limited(address: u16, limit: Value) -> Option<Entry>
-    ensures { result ≡ limited address limit }
+/// The entry of a limit in its table: a full one has none.
+fn limited(table: Table, address: u16, limit: Value) -> Option<Statement>
+    ensures { result ≡ stating table (limited address limit) }
 {
     if is_full(&limit) {
         return None;
     }
-    Some(Entry {
+    let entry = Entry {
         address,
         value: Some(limit),
-    })
+    };
+    Some(Statement::Entry(table, entry))
 }
 
 /// What a certificate states of a cell's limit.
@@ -88,8 +89,7 @@ fn cell_statement(cert: &Cert, address: u16) -> Option<Statement>
     requires { address < 2048 }
     ensures { result ≡ cell_statement cert.now address }
 {
-    let entry = limited(address, cert.limits().cell(address))?;
-    Some(Statement::Entry(Table::Cell, entry))
+    limited(Table::Cell, address, cert.limits().cell(address))
 }
 
 /// What a certificate states of a cell at the start.
@@ -112,8 +112,7 @@ fn input_statement(cert: &Cert, address: u16) -> Option<Statement>
     requires { address < 4096 }
     ensures { result ≡ input_statement cert.now address }
 {
-    let entry = limited(address, cert.limits().input(address))?;
-    Some(Statement::Entry(Table::In, entry))
+    limited(Table::In, address, cert.limits().input(address))
 }
 
 /// What a certificate states of an output register's limit.
@@ -122,8 +121,7 @@ fn output_statement(cert: &Cert, address: u16) -> Option<Statement>
     requires { address < 4096 }
     ensures { result ≡ output_statement cert.now address }
 {
-    let entry = limited(address, cert.limits().output(address))?;
-    Some(Statement::Entry(Table::Out, entry))
+    limited(Table::Out, address, cert.limits().output(address))
 }
 
 /// That a certificate names a location, where it does.

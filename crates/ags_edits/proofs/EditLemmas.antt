@@ -1,13 +1,15 @@
 -- The edits so far: what each line makes of them, and that they are in the end those of all lines.
-use Rattle.std.proofs.Common.{◌≡◌, ℕ, ◌+◌, ◌<◌, ◌≤◌, Bool, true, false, refl, sym, ap, ◌∙◌, subst, List, [], ◌∷◌, ◌++◌, length, reverse, Option, Some, None, append_assoc, arith}
+use Rattle.std.proofs.Common.{◌≡◌, ℕ, ◌+◌, ◌<◌, ◌≤◌, Bool, true, false, not, refl, sym, ap, ◌∙◌, subst, List, [], ◌∷◌, ◌++◌, length, reverse, Option, Some, None, append_assoc, arith}
 use Rattle.std.specs.List.{AllByRecursion}
-use Rattle.std.specs.Prelude.{nat_le, filter, is_some, Result, Ok, Err, IfOk, All}
-use Rattle.std.proofs.lemmas.Bool.Decides.{nat_tests}
+use Rattle.std.specs.Prelude.{nat_le, filter, is_some, Result, Ok, Err, IfOk, IfErr, All}
+use Rattle.std.proofs.Math.Bool.{or-true}
+use Rattle.std.proofs.lemmas.Bool.{leb-false}
 use Rattle.std.proofs.lemmas.List.Elements.{All-nil, All-cons}
 use Rattle.std.proofs.lemmas.List.{append-nil, length-reverse, reverse-append, reverse-reverse}
 use Rattle.ags_frame.specs.Fault.{has_ended}
 use Rattle.ags_statements.specs.Taking.{TakesStatement, TellsUntaken}
-use Rattle.ags_statements.specs.declared.gathers.Untaken.TheVariants.{Faulty}
+use Rattle.ags_statements.specs.declared.gathers.Untaken.{Untaken}
+use Rattle.ags_statements.specs.declared.gathers.Untaken.TheVariants.{Faulty, NoMemory}
 use Rattle.ags_statements.proofs.KeptLemmas.{no_fault}
 use Rattle.ags_domain.specs.declared.values.Value.{Value}
 use Rattle.ags_row.specs.Cell.{cells_ascend}
@@ -113,7 +115,7 @@ module _ (g h : Gatherer) (version : ℕ) (none : g.ended ≡ false) (same : h.e
       let un = unended before g.ended so.ended_is none in
       let are = open_are g.edits.items g.ended before so none in
       let free = sym (full_is g.edits.items before are) ∙ room in
-      let erasable : its.address < 2048 = grind (arith, nat_tests, below) in (
+      let erasable = leb-false 2048 its.address below in (
         rw (un, below, stated, free) refl,
         record {
           are = subst (λ (l : List Edit). AreMade [] [] (Cell its ∷ before) l)
@@ -284,9 +286,9 @@ may_grow row its none =
     record { once = once.0; range = range.0; room = room.0 }
 
 grown_few : (its : Entry) (value : Option Value) (cells : List (Cell_at Value)) → nat_le 64 (length cells) ≡ false → length (with_entry its value cells) ≤ 64
-grown_few its None cells room = grind (arith, nat_tests, room)
+grown_few its None cells room = omega (arith, leb-false 64 (length cells) room)
 grown_few its (Some value) cells room =
-    let longer = count_more (record { address = its.address; value = value }) cells in grind (arith, nat_tests, room, longer)
+    let longer = count_more (record { address = its.address; value = value }) cells in omega (arith, leb-false 64 (length cells) room, longer)
 
 grown_ascend : (its : Entry) (value : Option Value) (cells : List (Cell_at Value)) → its.address < 2048 → has_cell cells its.address ≡ false → cells_ascend 0 cells ≡ true
     → cells_ascend 0 (with_entry its value cells) ≡ true
@@ -341,6 +343,21 @@ with_link_grown line c l row new its none is grown = record {
 -- ---- AT and LINK lines are taken
 
 module _ (g : Gatherer) (version : ℕ) (none : g.ended ≡ false) where
+  -- the cell is a fixed one
+  pub cell_fixed : (its : Entry) → is_fixed its.address ≡ true → TellsUntaken gathered_of faults version g (Cell its) (Faulty BadLine)
+  cell_fixed its fixed = λ before so. let un = unended before g.ended so.ended_is none in rw (un, fixed) refl
+
+  pub at_fixed : (its : Entry) → is_fixed its.address ≡ true → TellsUntaken gathered_of faults version g (At its) (Faulty BadLine)
+  at_fixed its fixed = λ before so. let un = unended before g.ended so.ended_is none in rw (un, fixed, or-true (not (is_open before))) refl
+
+  pub link_fixed : (its : Link) → is_fixed its.address ≡ true → TellsUntaken gathered_of faults version g (Linked its) (Faulty BadLine)
+  link_fixed its fixed = λ before so. let un = unended before g.ended so.ended_is none in rw (un, fixed, or-true (not (is_open before))) refl
+
+  -- memory was wanting, and that alone
+  pub only_memory : {A : Type 0} (its : EditLine) (result : Result A (Untaken EditsKind)) → IfErr result (λ why. why ≡ NoMemory) → IfErr result (TellsUntaken gathered_of faults version g its)
+  only_memory its (Ok x) is = tt
+  only_memory its (Err why) is = rw is tt
+
   -- no row is open
   pub at_closed : (its : Entry) (others : List Edit) → IsLast g.edits.items None others → TellsUntaken gathered_of faults version g (At its) (Faulty BadLine)
   at_closed its others last = λ before so.

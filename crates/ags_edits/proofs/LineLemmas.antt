@@ -147,16 +147,18 @@ module _ (line : List ℕ) where
   state_parts (Linked link) is = shared_parts (cert.Linked link) (Linked link) is refl
   state_parts End is = shared_parts cert.End End is refl
 
--- ---- what a call finds, as the statement that is made of it
+-- ---- nothing is not something
 
-pub word_some : (found word : WordEdit) (its : EditLine) → Some found ≡ Some word → its ≡ Word word → Some (Word found) ≡ Some its
-word_some found word its same is = cc
+pub none_some : {A : Type 0} (x : A) → ◌≡◌ {A = Option A} None (Some x) → ⊥
+none_some x same = absurd cc
 
-pub row_some : (found row : RowEdit) (its : EditLine) → Some found ≡ Some row → its ≡ Row row → Some (Row found) ≡ Some its
-row_some found row its same is = cc
+-- ---- a row's edit, by its parts
+
+some_is : {A : Type 0} {one other : A} → Some one ≡ Some other → one ≡ other
+some_is same = cc
 
 pub row_edit_some : (row : ℕ) (new : RowLine) (its : RowEdit) → Some row ≡ Some its.row → Some new ≡ Some its.new → Some (record { row = row; new = new }) ≡ Some its
-row_edit_some row new its same_row same_new = let at : row ≡ its.row = cc in let by : new ≡ its.new = cc in rw (at, by) refl
+row_edit_some row new its same_row same_new = rw (some_is same_row, some_is same_new) refl
 
 -- ---- a line states one thing at most
 
@@ -188,13 +190,29 @@ one_of_keyword : (name : Keyword) (text : List ℕ) (one other : EditLine) → A
 one_of_keyword keyword.Word text one other is so = is.2 ∙ ap (λ (its : WordEdit). Word its) (one_word text is.0 so.0 is.1 so.1) ∙ sym so.2
 one_of_keyword keyword.Row text one other is so = is.2 ∙ ap (λ (its : RowEdit). Row its) (one_row_edit text is.0 so.0 is.1 so.1) ∙ sym so.2
 
-some_one : {A : Type 0} {one other : A} → Some one ≡ Some other → one ≡ other
-some_one same = cc
+-- what stands after a keyword, as it is found
+pub word_operands : (name : Keyword) (text : List ℕ) (its : WordEdit) → name ≡ keyword.Word → IsWordEdit text its → AreOperands name text (Word its)
+word_operands name text its is found = rw is (its, found, refl)
+
+pub row_operands : (name : Keyword) (text : List ℕ) (its : RowEdit) → name ≡ keyword.Row → IsRowEdit text its → AreOperands name text (Row its)
+row_operands name text its is found = rw is (its, found, refl)
+
+pub one_operands : (name : Keyword) (text : List ℕ) (found : EditLine) → AreOperands name text found → (its : EditLine) → AreOperands name text its → Some found ≡ Some its
+one_operands name text found is its also = ap (λ (line : EditLine). Some line) (one_of_keyword name text found its is also)
+
+-- and nothing, where nothing is found
+pub no_word : (name : Keyword) (text : List ℕ) → name ≡ keyword.Word → ((its : WordEdit) → IsWordEdit text its → ◌≡◌ {A = Option WordEdit} None (Some its))
+    → (its : EditLine) → AreOperands name text its → ⊥
+no_word name text is none its are = let has = rw is at are in none_some has.0 (none has.0 has.1)
+
+pub no_row : (name : Keyword) (text : List ℕ) → name ≡ keyword.Row → ((its : RowEdit) → IsRowEdit text its → ◌≡◌ {A = Option RowEdit} None (Some its))
+    → (its : EditLine) → AreOperands name text its → ⊥
+no_row name text is none its are = let has = rw is at are in none_some has.0 (none has.0 has.1)
 
 pub one_shared : (line : List ℕ) (one other : EditLine) → IsShared line one → IsShared line other → one ≡ other
 one_shared line one other is so =
     let same : is.0 ≡ so.0 = one_in_cert line is.0 so.0 is.1 so.1 in
-    some_one (sym is.2 ∙ ap line_of same ∙ so.2)
+    some_is (sym is.2 ∙ ap line_of same ∙ so.2)
 
 one_of_parts : (line : List ℕ) (one other : EditLine) → HasParts line one → HasParts line other → one ≡ other
 one_of_parts line one other (inl is) (inl so) =

@@ -1,6 +1,7 @@
 -- What a line states, by the fields that are cut from it; and that it states one thing at most.
-use Rattle.std.proofs.Common.{◌≡◌, ℕ, ℤ, ◌⊎◌, List, [], ◌∷◌, get_or, slice_index, Option, Some, None, IfSome, refl, sym, ap, ◌∙◌, inl, inr, arith}
+use Rattle.std.proofs.Common.{◌≡◌, ℕ, ℤ, ◌⊎◌, Bool, true, false, List, [], ◌∷◌, get_or, slice_index, Option, Some, None, IfSome, refl, sym, ap, ◌∙◌, inl, inr, arith}
 use Rattle.std.specs.Prelude.{codes}
+use Rattle.std.specs.Bool.{then_some}
 use Rattle.std.specs.List.{list_all}
 use Rattle.ags_text.specs.Field.{AreBlanks, IsField, is_blank, next_field, behind_field}
 use Rattle.ags_text.specs.Numeral.{IsDecimal, Writes}
@@ -107,8 +108,8 @@ module _ (line : List ℕ) where
 
 -- ---- what a call finds, as the statement that is made of it
 
-pub tagged_some : (found entry : RowEntry) (its : ScaleLine) → Some found ≡ Some entry → its ≡ Tagged entry → Some (Tagged found) ≡ Some its
-tagged_some found entry its same is = cc
+pub none_some : {A : Type 0} (x : A) → ◌≡◌ {A = Option A} None (Some x) → ⊥
+none_some x same = absurd cc
 
 -- ---- a line states one thing at most
 
@@ -161,11 +162,56 @@ one_row text one other is so =
     ∙ ap (λ (a : RowTag). row_of other.row a one.tags.q) (one_row_tag (next_field (behind_field text)) one.tags.a other.tags.a is.a_is so.a_is)
     ∙ ap (λ (q : RowTag). row_of other.row other.tags.a q) (one_row_tag (next_field (behind_field (behind_field text))) one.tags.q other.tags.q is.q_is so.q_is)
 
+-- what the fields of a text state, where nothing but blanks stands after them
+module _ (text rest : List ℕ) (found : RowEntry) (blank : Bool) (result : Option RowEntry) (is : result ≡ then_some blank found) (told : blank ≡ list_all is_blank rest)
+    (has : AreBlanks rest → IsRowEntry text found) where
+  pub row_found_there : IfSome result (IsRowEntry text)
+  row_found_there = rw is (by_test blank told)
+    where
+      by_test : (test : Bool) → test ≡ list_all is_blank rest → IfSome (then_some test found) (IsRowEntry text)
+      by_test true same = has (sym same)
+      by_test false other = tt
+
+  pub row_alone : (AreBlanks (behind_field (behind_field (behind_field text))) → AreBlanks rest) → (its : RowEntry) → IsRowEntry text its → result ≡ Some its
+  row_alone ends its also =
+      let blanks = ends also.ends in
+      rw (is, told ∙ blanks) (ap (λ (entry : RowEntry). Some entry) (one_row text found its (has blanks) also))
+
 one_of_keyword : (name : Keyword) (text : List ℕ) (one other : ScaleLine) → AreOperands name text one → AreOperands name text other → one ≡ other
 one_of_keyword (keyword.Entry table) text one other is so =
     is.2 ∙ ap (λ (its : Entry). Scaled table its) (one_entry text is.0 so.0 is.1 so.1) ∙ sym so.2
 one_of_keyword keyword.Row text one other is so = is.2 ∙ ap (λ (its : RowEntry). Tagged its) (one_row text is.0 so.0 is.1 so.1) ∙ sym so.2
 one_of_keyword keyword.End text one other is so = is.1 ∙ sym so.1
+
+-- what stands after a keyword, as it is found
+pub entry_operands : (name : Keyword) (table : Table) (text : List ℕ) (its : Entry) → name ≡ keyword.Entry table → IsEntry text its → AreOperands name text (Scaled table its)
+entry_operands name table text its is found = rw is (its, found, refl)
+
+pub row_operands : (name : Keyword) (text : List ℕ) (its : RowEntry) → name ≡ keyword.Row → IsRowEntry text its → AreOperands name text (Tagged its)
+row_operands name text its is found = rw is (its, found, refl)
+
+pub one_operands : (name : Keyword) (text : List ℕ) (found : ScaleLine) → AreOperands name text found → (its : ScaleLine) → AreOperands name text its → Some found ≡ Some its
+one_operands name text found is its also = ap (λ (line : ScaleLine). Some line) (one_of_keyword name text found its is also)
+
+-- and nothing, where nothing is found
+pub no_entry : (name : Keyword) (table : Table) (text : List ℕ) → name ≡ keyword.Entry table → ((entry : Entry) → IsEntry text entry → ◌≡◌ {A = Option Entry} None (Some entry))
+    → (its : ScaleLine) → AreOperands name text its → ⊥
+no_entry name table text is none its are = let has = rw is at are in none_some has.0 (none has.0 has.1)
+
+pub no_row : (name : Keyword) (text : List ℕ) → name ≡ keyword.Row → ((entry : RowEntry) → IsRowEntry text entry → ◌≡◌ {A = Option RowEntry} None (Some entry))
+    → (its : ScaleLine) → AreOperands name text its → ⊥
+no_row name text is none its are = let has = rw is at are in none_some has.0 (none has.0 has.1)
+
+-- what a line states stands after its keyword
+pub by_keyword : (line : List ℕ) (name : Keyword) → keyword_name name ≡ next_field line → (its : ScaleLine) → States line its → AreOperands name (behind_field line) its
+by_keyword line name named its is =
+    let has = state_fields line its is in
+    let same : has.0 ≡ name = one_keyword has.0 name (has.1 ∙ sym named) in
+    rw same at has.2
+
+pub by_no_keyword : (line field : List ℕ) → field ≡ next_field line → ((name : Keyword) → keyword_name name ≡ field → ◌≡◌ {A = Option Keyword} None (Some name))
+    → (its : ScaleLine) → States line its → ⊥
+by_no_keyword line field is none its states = let has = state_fields line its states in none_some has.0 (none has.0 (has.1 ∙ sym is))
 
 pub one_statement : (line : List ℕ) (one other : ScaleLine) → States line one → States line other → one ≡ other
 one_statement line one other is so =

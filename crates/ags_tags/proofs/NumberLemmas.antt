@@ -81,6 +81,12 @@ one_row_tag text (Known (Scale scale)) Any is also = absurd (any_no_number scale
 one_row_tag text (Known (Scale scale)) (Known Raw) is also = absurd (raw_no_number scale (rw also at is))
 one_row_tag text (Known (Scale scale)) (Known (Scale other)) is also = ap (λ (n : ℤ). Known (Scale n)) (one_scale text scale other is also)
 
+-- a text that is neither word and writes no scale writes no tag
+pub no_row_tag : (text : List ℕ) → (text ≡ codes "ANY" → ⊥) → (text ≡ codes "RAW" → ⊥) → ((scale : ℤ) → IsScale text scale → ⊥) → (tag : RowTag) → IsRowTag text tag → ⊥
+no_row_tag text any raw none Any is = any is
+no_row_tag text any raw none (Known Raw) is = raw is
+no_row_tag text any raw none (Known (Scale scale)) is = none scale is
+
 pub row_tag_found : (text : List ℕ) → Found RowTag (IsRowTag text)
 row_tag_found text =
     elim (decide_list text (codes "ANY")) [
@@ -89,12 +95,7 @@ row_tag_found text =
         | inl raw ↦ inl (Known Raw, raw)
         | inr others ↦ elim (scale_found text) [
           | inl found ↦ inl (Known (Scale found.0), found.1)
-          | inr none ↦ inr (λ tag is. neither marks others none tag is)
+          | inr none ↦ inr (no_row_tag text marks others none)
         ]
       ]
     ]
-  where
-    neither : (text ≡ codes "ANY" → ⊥) → (text ≡ codes "RAW" → ⊥) → ((scale : ℤ) → IsScale text scale → ⊥) → (tag : RowTag) → IsRowTag text tag → ⊥
-    neither any raw none Any is = any is
-    neither any raw none (Known Raw) is = raw is
-    neither any raw none (Known (Scale scale)) is = none scale is

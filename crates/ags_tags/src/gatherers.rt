@@ -34,7 +34,7 @@ pub(crate) struct Gatherer {
 fn no_tags(alloc: Global, rows: u32) -> Result<Vec<Option<RowTags>>, AllocError>
     ensures { IfOk result (λ table. table.items ≡ replicate rows None) }
 {
-    Ok(vec![in alloc; None; rows as usize]?)
+    vec![in alloc; None; rows as usize]
 }
 
 impl Gatherer {
@@ -51,11 +51,11 @@ impl Gatherer {
         ensures rows { IfOk result (λ g. length g.rows.items ≡ rows) }
     {
         Ok(Gatherer {
-            ports: ports.copy(),
             cells: TagTable::new(alloc)?,
             inputs: TagTable::new(alloc)?,
             outputs: TagTable::new(alloc)?,
             rows: no_tags(alloc, rows)?,
+            ports: ports.copy(),
             ended: false,
         })
     }

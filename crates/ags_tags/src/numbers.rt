@@ -1,6 +1,6 @@
 //! Scales, and the tags of rows, as fields of a line.
 
-ghost use Rattle.std.specs.Prelude.{◌≡◌, ℤ, IfSome, Some};
+ghost use Rattle.std.specs.Prelude.{◌≡◌, ℤ, true, false, IfSome, Some};
 ghost use Rattle.ags_tags.specs.declared.tags.RowTag.{RowTag};
 ghost use Rattle.ags_tags.specs.Spelling.{IsScale, IsRowTag, is_scale};
 
@@ -33,16 +33,27 @@ pub(crate) fn read_scale(text: &[u8]) -> Option<i8>
     }
 }
 
+/// Whether a text is a word, letter for letter.
+fn is_word(text: &[u8], word: &[u8]) -> bool
+    ensures same { result ≡ true → text.now ≡ word.now }
+    ensures other { result ≡ false → text.now ≡ word.now → ⊥ }
+{
+    text == word
+}
+
 /// The tag of a row that a text writes.
 pub(crate) fn read_row_tag(text: &[u8]) -> Option<RowTag>
     ensures found { IfSome result (IsRowTag text.now) }
     ensures only { (tag : RowTag) → IsRowTag text.now tag → result ≡ Some tag }
 {
-    if text == b"ANY".as_slice() {
+    if is_word(text, b"ANY") {
         return Some(RowTag::Any);
     }
-    if text == b"RAW".as_slice() {
+    if is_word(text, b"RAW") {
         return Some(RowTag::Known(Tag::Raw));
     }
-    Some(RowTag::Known(Tag::Scale(read_scale(text)?)))
+    match read_scale(text) {
+        Some(scale) => Some(RowTag::Known(Tag::Scale(scale))),
+        None => None,
+    }
 }

@@ -39,7 +39,7 @@ impl fmt::Display for Tag {
     fn fmt<W: fmt::Write>(&self, f: &mut fmt::Formatter<W>) -> fmt::Result {
         match self {
             Tag::Raw => f.write_str("RAW"),
-            Tag::Scale(scale) => write!(f, "{scale}"),
+            Tag::Scale(scale) => fmt::Display::fmt(scale, f),
         }
     }
 }
@@ -54,7 +54,7 @@ impl fmt::Display for RowTag {
     fn fmt<W: fmt::Write>(&self, f: &mut fmt::Formatter<W>) -> fmt::Result {
         match self {
             RowTag::Any => f.write_str("ANY"),
-            RowTag::Known(tag) => write!(f, "{tag}"),
+            RowTag::Known(tag) => fmt::Display::fmt(tag, f),
         }
     }
 }

@@ -1,5 +1,5 @@
-use Rattle.std.proofs.Common.{◌≡◌, sym, ◌∙◌}
-use Rattle.ags_edits.proofs.LineLemmas.{also, fields_state, shared_states, by_keyword, by_none}
+use Rattle.std.proofs.Common.{sym, ◌∙◌}
+use Rattle.ags_edits.proofs.LineLemmas.{also, fields_state, shared_states, by_keyword, by_none, none_some}
 use Rattle.ags_edits.proofs.lines.read_edit_line.Goals as goal
 
 pub returns-in-Some-clause-found : goal.returns-in-Some-clause-found
@@ -19,4 +19,4 @@ returns-in-None-clause-found c = also c.read_shared.result (λ its is. shared_st
 pub returns-in-None-clause-only : goal.returns-in-None-clause-only
 returns-in-None-clause-only c = λ its is.
     c.read_shared.ensures.only its
-    (by_none c.args.line.now its (λ name named. (let none = c.in-None.ensures.only name (named ∙ sym c.split_field.ensures.field) in absurd cc)) is)
+    (by_none c.args.line.now its (λ name named. none_some name (c.in-None.ensures.only name (named ∙ sym c.split_field.ensures.field))) is)

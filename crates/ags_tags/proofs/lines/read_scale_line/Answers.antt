@@ -1,5 +1,5 @@
-use Rattle.std.proofs.Common.{◌≡◌, sym, ◌∙◌}
-use Rattle.ags_tags.proofs.LineLemmas.{also, fields_state, state_fields}
+use Rattle.std.proofs.Common.{◌∙◌}
+use Rattle.ags_tags.proofs.LineLemmas.{also, fields_state, by_keyword, by_no_keyword}
 use Rattle.ags_tags.proofs.lines.read_scale_line.Goals as goal
 
 pub returns-clause-found : goal.returns-clause-found
@@ -10,13 +10,8 @@ returns-clause-found c =
 
 pub returns-clause-only : goal.returns-clause-only
 returns-clause-only c = λ its is.
-    let has = state_fields c.args.line.now its is in
-    let one = c.in_ok-keyword.ensures.only has.0 (has.1 ∙ sym c.split_field.ensures.field) in
-    let same : c.in_ok-keyword.keyword ≡ has.0 = cc in
-    c.read_operands.ensures.only its (rw (same, c.split_field.ensures.behind) has.2)
+    c.read_operands.ensures.only its (rw c.split_field.ensures.behind
+    (by_keyword c.args.line.now c.in_ok-keyword.keyword (c.in_ok-keyword.ensures.found ∙ c.split_field.ensures.field) its is))
 
 pub returns-in_err-keyword-clause-only : goal.returns-in_err-keyword-clause-only
-returns-in_err-keyword-clause-only c = λ its is.
-    let has = state_fields c.args.line.now its is in
-    let none = c.in_err-keyword.ensures.only has.0 (has.1 ∙ sym c.split_field.ensures.field) in
-    absurd (cc)
+returns-in_err-keyword-clause-only c = λ its is. absurd (by_no_keyword c.args.line.now _ c.split_field.ensures.field c.in_err-keyword.ensures.only its is)

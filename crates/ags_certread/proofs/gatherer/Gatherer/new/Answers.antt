@@ -2,23 +2,26 @@ use Rattle.std.proofs.Common.{refl}
 use Rattle.std.proofs.lemmas.Result.{IfOk-from_err}
 use Rattle.ags_certread.proofs.gatherer.Gatherer.new.Goals as goal
 
-pub returns-in_err-nothing : goal.returns-in_err-nothing
-returns-in_err-nothing c = IfOk-from_err _ _ c.from_residual.ensures.0
+pub returns-in_err-places : goal.returns-in_err-places
+returns-in_err-places c = IfOk-from_err _ _ c.from_residual.ensures.0
 
-pub returns-in_err-nothing-2 : goal.returns-in_err-nothing-2
-returns-in_err-nothing-2 c = IfOk-from_err _ _ c.from_residual-in_err-nothing-2.ensures.0
+pub returns-in_err-counts : goal.returns-in_err-counts
+returns-in_err-counts c = IfOk-from_err _ _ c.from_residual-in_err-counts.ensures.0
 
-pub returns-in_err-nothing-3 : goal.returns-in_err-nothing-3
-returns-in_err-nothing-3 c = IfOk-from_err _ _ c.from_residual-in_err-nothing-3.ensures.0
+pub returns-in_err-cells : goal.returns-in_err-cells
+returns-in_err-cells c = IfOk-from_err _ _ c.from_residual-in_err-cells.ensures.0
 
-pub returns-in_err-nothing-4 : goal.returns-in_err-nothing-4
-returns-in_err-nothing-4 c = IfOk-from_err _ _ c.from_residual-in_err-nothing-4.ensures.0
-
-pub returns-in_err-no_places : goal.returns-in_err-no_places
-returns-in_err-no_places c = IfOk-from_err _ _ c.from_residual-in_err-no_places.ensures.0
-
-pub returns-in_err-zeros : goal.returns-in_err-zeros
-returns-in_err-zeros c = IfOk-from_err _ _ c.from_residual-in_err-zeros.ensures.0
+pub returns-in_err-inputs : goal.returns-in_err-inputs
+returns-in_err-inputs c = IfOk-from_err _ _ c.from_residual-in_err-inputs.ensures.0
 
 pub returns : goal.returns
-returns c = rw (c.in_ok-nothing.ensures, c.in_ok-nothing-2.ensures, c.in_ok-nothing-3.ensures, c.in_ok-nothing-4.ensures, c.in_ok-no_places.ensures, c.new.ensures.items, c.in_ok-zeros.ensures, c.new-2.ensures.items) refl
+returns c = rw (
+  c.in_ok-cells.ensures.0,
+  c.in_ok-cells.ensures.1,
+  c.in_ok-inputs.ensures.0,
+  c.in_ok-inputs.ensures.1,
+  c.in_ok-places.ensures.items_if_clones_equal (λ _ same. same),
+  c.in_ok-counts.ensures.items_if_clones_equal (λ _ same. same),
+  c.new.ensures.items,
+  c.new-2.ensures.items,
+) refl
