@@ -49,7 +49,6 @@ fn judged_rows<L: Ledger>(
     ensures judged { InOrder (IsRowJudgedAt value_meaning (certificate_of cert.now) machine.now image.now) 1 cert.now.rows result }
     ensures steps { (cases : ℕ) → HaveCases value_meaning image.now cert.now.limits cert.now.rows cases → steps.new ≤ steps.old + cases }
 {
-    let _few = number_of_rows(cert);
     let accepting = Accepting::new(machine, image, cert);
     refusal_at(walk_rows(&accepting, image, cert.limits(), cert.rows(), steps))
 }
