@@ -104,24 +104,6 @@ fn tagged_by_order<L: Ledger>(
     }
 }
 
-/// What comes of an accepted case.
-fn tagged<L: Ledger>(
-    tagging: &Tagging<'_>,
-    number: u32,
-    row: &Row<Value>,
-    case: OneCase,
-    steps: &mut Steps<L>,
-) -> Result<u64, TagFault>
-    ensures judged { IsAsked tagging.now.machine.now tagging.now.image.now tagging.now.cert.now tagging.now.scales.now number row.now case result }
-    ensures once { IfOk result (λ count. count ≡ 1) }
-    ensures step { steps.new ≤ steps.old + 1 }
-{
-    match decode(&tagging.machine.codes, case.word()) {
-        Some(decoded) => tagged_by_order(tagging, number, row, case, decoded, steps),
-        None => Ok(1),
-    }
-}
-
 impl<'a, L: Ledger> Judge<Value, L> for Tagging<'a> {
     ghost use Rattle.std.specs.Prelude.{Ok};
     ghost use Rattle.ags_scale.specs.Asking.{IsAsked};
@@ -143,6 +125,9 @@ impl<'a, L: Ledger> Judge<Value, L> for Tagging<'a> {
         case: OneCase,
         steps: &mut Steps<L>,
     ) -> Result<u64, TagFault> {
-        tagged(self, number, row, case, steps)
+        match decode(&self.machine.codes, case.word()) {
+            Some(decoded) => tagged_by_order(self, number, row, case, decoded, steps),
+            None => Ok(1),
+        }
     }
 }

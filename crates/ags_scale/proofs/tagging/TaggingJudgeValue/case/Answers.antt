@@ -1,4 +1,4 @@
-use Rattle.ags_scale.proofs.tagging.tagged.Goals as goal
+use Rattle.ags_scale.proofs.tagging.TaggingJudgeValue.case.Goals as goal
 
 pub tagged_by_order-requires : goal.tagged_by_order-requires
 tagged_by_order-requires g c = record {
