@@ -12,11 +12,9 @@ ghost use Rattle.ags_budget.specs.Timed.{AreRowsTimed, IsTimed};
 ghost use Rattle.ags_budget.specs.declared.answers.Timed.TheVariants.{Within};
 
 use crate::answers::{LateCase, Timed, over};
-use crate::laws::accepted_budgets_bound_what_is_spent;
 use crate::timing::Timing;
 use ags_certtype::Cert;
 use ags_check::{Verdict, check};
-use ags_domain::Value;
 use ags_image::Image;
 use ags_ports::Machine;
 use ags_ports::laws::machine_is_made_of_tables;
@@ -66,7 +64,6 @@ pub fn judge<L: Ledger>(
     ensures steps { (cases : ℕ) → HaveCases value_meaning image.now cert.now.limits cert.now.rows cases → steps.new ≤ steps.old + 2 * cases }
 {
     machine_is_made_of_tables(machine);
-    accepted_budgets_bound_what_is_spent::<Value>();
     budget.bounds_are_times();
     match check(machine, image, cert, steps) {
         Verdict::Certified { rows, cases } => {

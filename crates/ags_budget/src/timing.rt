@@ -20,7 +20,6 @@ use ags_isa::{Order, decode};
 use ags_ports::Machine;
 use ags_ports::laws::machine_is_made_of_tables;
 use ags_posts::PostPair;
-use ags_posts::laws::case_has_one_answer;
 use ags_row::{Post, Row};
 use ags_steps::Steps;
 use ags_times::Budget;
@@ -138,13 +137,12 @@ fn timed_by_posts<L: Ledger>(
     ensures step { steps.new ≡ steps.old + 1 }
 {
     machine_is_made_of_tables(timing.machine);
-    case_has_one_answer::<Value>();
     let bound = timing.budget.bound(number);
     let mut pair = PostPair {
         first: None,
         second: None,
     };
-    let posts = put_posts(
+    match put_posts(
         timing.machine,
         timing.image,
         timing.cert.limits(),
@@ -154,8 +152,7 @@ fn timed_by_posts<L: Ledger>(
         case.indicator(),
         steps,
         &mut pair,
-    );
-    match posts {
+    ) {
         Ok(()) => match first_late(timing.cert, timing.budget, bound, time, row, &pair) {
             Some(need) => Err(late_case(case, Some(need.next), need.needs, bound)),
             None => Ok(1),

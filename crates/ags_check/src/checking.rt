@@ -23,15 +23,11 @@ use crate::firsts::{first_outside, first_word};
 use crate::refusals::refusal_at;
 use crate::serving::EachServes;
 use crate::starts::start_row;
-use ags_answered::laws::refusal_tells_the_first_fault;
 use ags_certtype::Cert;
-use ags_domain::Value;
 use ags_image::Image;
 use ags_ports::Machine;
 use ags_ports::laws::machine_is_made_of_tables;
-use ags_safe::laws::accepted_certificates_are_safe;
 use ags_steps::Steps;
-use ags_verdict::laws::{accepted_certificates_are_certified, certificate_has_one_verdict};
 use ags_walk::walk_rows;
 use std::sync::ledger::Ledger;
 
@@ -53,7 +49,6 @@ fn judged_rows<L: Ledger>(
     ensures judged { InOrder (IsRowJudgedAt value_meaning (certificate_of cert.now) machine.now image.now) 1 cert.now.rows result }
     ensures steps { (cases : ℕ) → HaveCases value_meaning image.now cert.now.limits cert.now.rows cases → steps.new ≤ steps.old + cases }
 {
-    let _few = number_of_rows(cert);
     let accepting = Accepting::new(machine, image, cert);
     refusal_at(walk_rows(&accepting, image, cert.limits(), cert.rows(), steps))
 }
@@ -111,10 +106,6 @@ pub fn check<L: Ledger>(
 {
     machine_is_made_of_tables(machine);
     let _first = image.get(0);
-    refusal_tells_the_first_fault();
-    certificate_has_one_verdict::<Value>();
-    accepted_certificates_are_certified::<Value>();
-    accepted_certificates_are_safe::<Value>();
     let _start = cert.start();
     verdict(machine, image, cert, steps)
 }

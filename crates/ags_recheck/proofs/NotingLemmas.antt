@@ -43,6 +43,19 @@ module _ {D : Type 0} (meaning : Meaning D) (machine : Machine) (image : List (O
     λ either. ⊎_elim (λ before. same.1 before) (λ goes. absurd (not_both goes.0 stop (one (Ok goes.0) (Err stop) goes.1 stops))) either,
   )
 
+-- where one post goes is noted, and then where another goes
+pub both_noted : (Old Between New One Other : Type 0) → (Between ↔ (Old ⊎ One)) → (New ↔ (Between ⊎ Other)) → New ↔ (Old ⊎ (One ⊎ Other))
+both_noted Old Between New One Other first second = (
+  λ new. ⊎_elim
+      (λ between. ⊎_elim (λ old. inl old) (λ one. inr (inl one)) (first.0 between))
+      (λ other. inr (inr other))
+      (second.0 new),
+  λ either. ⊎_elim
+      (λ old. second.1 (inl (first.1 (inl old))))
+      (λ goes. ⊎_elim (λ one. second.1 (inl (first.1 (inr one)))) (λ other. second.1 (inr other)) goes)
+      either,
+)
+
 -- one of the first of some things has it
 abbrev pub AnyOfFirst : {X : Type 0} → (X → Type 0) → List X → ℕ → Type 0
 AnyOfFirst {X} P xs count = (k : ℕ) × (x : X) × (k < count) × (k < length xs) × (get_or xs k x ≡ x) × P x

@@ -20,7 +20,6 @@ ghost use Rattle.ags_recheck.specs.Kept.{IsBook};
 
 use crate::items::{Item, room_for, told};
 use crate::rejudging::{judge_all, rejudge};
-use ags_answered::laws::each_row_has_a_code;
 use ags_certtype::{Cert, EditError};
 use ags_check::laws::rows_have_one_number_of_cases;
 use ags_check::{EachServes, Refusal, Verdict, first_outside, start_row};
@@ -31,7 +30,6 @@ use ags_ports::Machine;
 use ags_ports::laws::machine_is_made_of_tables;
 use ags_row::{At, Row};
 use ags_steps::Steps;
-use ags_verdict::laws::certificate_has_one_verdict;
 use ags_word::Word;
 use std::alloc::{AllocError, Global};
 use std::marker::Model;
@@ -170,7 +168,6 @@ impl Book {
             → other ≡ result }
     {
         machine_is_made_of_tables(&self.machine);
-        certificate_has_one_verdict::<Value>();
         verdict_kept(
             &self.machine,
             &self.image,
@@ -190,7 +187,6 @@ impl Book {
         ensures steps { (most : ℕ) → IsMost self.old (edit.Row number row) result self.new most → steps.new ≤ steps.old + most }
         ensures bounded { (most : ℕ) × IsMost self.old (edit.Row number row) result self.new most }
     {
-        each_row_has_a_code();
         let _word = self.image.get(0);
         let one = location_of(&self.cert, number);
         let other = row.location();

@@ -16,9 +16,6 @@ ghost use Rattle.ags_recheck.specs.Edited.{IsEdited, AreEdited};
 ghost use Rattle.ags_recheck.specs.Told.{AreTold};
 ghost use Rattle.ags_recheck.specs.declared.telling.Told.{Told};
 
-use ags_domain::Value;
-use ags_verdict::laws::certificate_has_one_verdict;
-
 /// After any list of edits the machine is the one of the start, and there is one verdict on it of the edited image and certificate: a
 /// book that tells a verdict of what stands after the edits tells that of a fresh check. An edit that is refused changes nothing.
 pub fn edits_equal_a_fresh_check()
@@ -29,9 +26,7 @@ pub fn edits_equal_a_fresh_check()
         → IsVerdict value_meaning after.machine after.image (certificate_of after.cert) told
         → IsVerdict value_meaning start.machine after.image (certificate_of after.cert) fresh → told ≡ fresh }
     ensures refused { (old new : Judging) (edit : Edit) (error : EditError) → IsEdited old edit (Err error) new → new ≡ old }
-{
-    certificate_has_one_verdict::<Value>();
-}
+{}
 
 /// Of each list of edits of the memory something is told, and one thing alone, which leaves one program and certificate.
 pub fn edits_are_told_one_thing()

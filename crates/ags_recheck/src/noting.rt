@@ -20,7 +20,6 @@ use ags_domain::Value;
 use ags_image::Image;
 use ags_ports::Machine;
 use ags_ports::laws::machine_is_made_of_tables;
-use ags_posts::laws::{case_has_one_answer, code_has_the_word_of_each_state};
 use ags_row::{Post, Row};
 use ags_steps::Steps;
 use ags_transfer::{PostPair, code, put_posts};
@@ -63,7 +62,6 @@ fn case_noted<L: Ledger>(
     ensures step { steps.new ≡ steps.old + 1 }
 {
     machine_is_made_of_tables(machine);
-    case_has_one_answer::<Value>();
     let mut pair = PostPair {
         first: None,
         second: None,
@@ -132,7 +130,6 @@ pub(crate) fn row_noted<L: Ledger>(
     ensures kept { IsRowKept machine.now image.now cert.now row.now result locations.new }
     ensures steps { (cases : ℕ) → HasCases value_meaning image.now cert.now.limits row.now cases → steps.new ≤ steps.old + cases }
 {
-    code_has_the_word_of_each_state::<Value>();
     locations.clear();
     match code(image, cert.limits(), row) {
         Some(set) => cases_noted(

@@ -13,12 +13,10 @@ ghost use Rattle.ags_scale.specs.Scaled.{AreRowsTagged, IsScaled};
 ghost use Rattle.ags_scale.specs.declared.answers.Scaled.TheVariants.{Agree};
 
 use crate::answers::{Scaled, TagFault, answer_of};
-use crate::laws::{accepted_scales_agree, accepted_scales_are_kept};
 use crate::tagging::Tagging;
 use crate::taking::is_start_tagged;
 use ags_certtype::Cert;
 use ags_check::{Verdict, check};
-use ags_domain::Value;
 use ags_image::Image;
 use ags_ports::Machine;
 use ags_ports::laws::machine_is_made_of_tables;
@@ -101,7 +99,5 @@ pub fn judge<L: Ledger>(
     ensures steps { (cases : ℕ) → HaveCases value_meaning image.now cert.now.limits cert.now.rows cases → steps.new ≤ steps.old + 2 * cases }
 {
     machine_is_made_of_tables(machine);
-    accepted_scales_are_kept::<Value>();
-    accepted_scales_agree();
     answer(machine, image, cert, scales, steps)
 }

@@ -17,7 +17,6 @@ use ags_isa::{Decoded, decode};
 use ags_ports::laws::machine_is_made_of_tables;
 use ags_ports::{Machine, effective_address};
 use ags_posts::PostPair;
-use ags_posts::laws::case_has_one_answer;
 use ags_row::Row;
 use ags_steps::Steps;
 use ags_tags::{RowTags, Scales};
@@ -50,30 +49,26 @@ fn tagged_by_posts<L: Ledger>(
     ensures step { steps.new ≡ steps.old + 1 }
 {
     machine_is_made_of_tables(tagging.machine);
-    case_has_one_answer::<Value>();
     let mut pair = PostPair {
         first: None,
         second: None,
     };
-    let posts = put_posts(
+    let word = case.word();
+    let x = case.index();
+    let v = case.indicator();
+    match put_posts(
         tagging.machine,
         tagging.image,
         tagging.cert.limits(),
         row,
-        case.word(),
-        case.index(),
-        case.indicator(),
+        word,
+        x,
+        v,
         steps,
         &mut pair,
-    );
-    match posts {
+    ) {
         Ok(()) => match first_lost(tagging.cert, tagging.scales, tags, row, &pair) {
-            Some(next) => Err(TagFault::Loses {
-                word: case.word(),
-                x: case.index(),
-                v: case.indicator(),
-                next,
-            }),
+            Some(next) => Err(TagFault::Loses { word, x, v, next }),
             None => Ok(1),
         },
         Err(_) => Ok(1),
@@ -95,34 +90,17 @@ fn tagged_by_order<L: Ledger>(
     ensures once { IfOk result (λ count. count ≡ 1) }
     ensures step { steps.new ≤ steps.old + 1 }
 {
-    let e = effective_address(decoded, case.index());
+    let x = case.index();
+    let e = effective_address(decoded, x);
     let before = tagging.scales.row(number);
     match changed(tagging.scales, decoded.order, e, decoded.address, before) {
         Ok(tags) => tagged_by_posts(tagging, number, row, case, tags, steps),
         Err(two) => Err(TagFault::Mixes {
             word: case.word(),
-            x: case.index(),
+            x,
             v: case.indicator(),
             two,
         }),
-    }
-}
-
-/// What comes of an accepted case.
-fn tagged<L: Ledger>(
-    tagging: &Tagging<'_>,
-    number: u32,
-    row: &Row<Value>,
-    case: OneCase,
-    steps: &mut Steps<L>,
-) -> Result<u64, TagFault>
-    ensures judged { IsAsked tagging.now.machine.now tagging.now.image.now tagging.now.cert.now tagging.now.scales.now number row.now case result }
-    ensures once { IfOk result (λ count. count ≡ 1) }
-    ensures step { steps.new ≤ steps.old + 1 }
-{
-    match decode(&tagging.machine.codes, case.word()) {
-        Some(decoded) => tagged_by_order(tagging, number, row, case, decoded, steps),
-        None => Ok(1),
     }
 }
 
@@ -147,6 +125,9 @@ impl<'a, L: Ledger> Judge<Value, L> for Tagging<'a> {
         case: OneCase,
         steps: &mut Steps<L>,
     ) -> Result<u64, TagFault> {
-        tagged(self, number, row, case, steps)
+        match decode(&self.machine.codes, case.word()) {
+            Some(decoded) => tagged_by_order(self, number, row, case, decoded, steps),
+            None => Ok(1),
+        }
     }
 }

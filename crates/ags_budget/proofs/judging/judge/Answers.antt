@@ -1,10 +1,13 @@
 use Rattle.std.proofs.Common.{◌≡◌, ℕ, ◌+◌, ◌*◌, ◌<◌, ◌≤◌, refl, sym, ◌∙◌, arith}
+use Rattle.ags_domain.specs.Value.{value_meaning}
+use Rattle.ags_domain.specs.MeaningLaws.{value_lawful}
 use Rattle.ags_domain.specs.declared.values.Value.{Value}
 use Rattle.ags_verdict.specs.declared.verdicts.Refusal.{Refusal}
 use Rattle.ags_budget.specs.Over.{over}
 use Rattle.ags_budget.specs.declared.answers.LateCase.{LateCase}
 use Rattle.ags_budget.specs.declared.answers.Timed.TheVariants.{Within, Unsafe}
 use Rattle.ags_certtype.specs.Cert.{certificate_of}
+use Rattle.ags_budget.proofs.SpentLemmas.{bounds_kept, rows_in_time}
 use Rattle.ags_budget.proofs.judging.judge.Goals as goal
 
 over_is_not_within : (row : ℕ) (late : LateCase) (rows cases greatest : ℕ) → over row late ≡ Within rows cases greatest → ⊥
@@ -36,12 +39,12 @@ returns-in-Ok-clause-safe g c = λ rows cases greatest is. c.check.ensures.safe 
 
 pub returns-in-Ok-clause-kept : goal.returns-in-Ok-clause-kept
 returns-in-Ok-clause-kept g c = λ rows cases greatest is suits.
-    c.accepted_budgets_bound_what_is_spent.ensures c.args.machine.now c.args.image.now (certificate_of c.args.cert.now) c.args.budget.now _
-    c.machine_is_made_of_tables.ensures
-    (c.check.ensures.accepted c.in-Certified.rows c.in-Certified.cases c.in-Certified.is).0
-    c.in-Ok.ensures.timed
+    bounds_kept value_meaning value_lawful c.args.machine.now c.args.image.now (certificate_of c.args.cert.now) c.args.budget.now
+    c.machine_is_made_of_tables.ensures c.bounds_are_times.ensures
+    (rows_in_time value_meaning value_lawful c.args.machine.now c.args.image.now (certificate_of c.args.cert.now) c.args.budget.now
+    c.machine_is_made_of_tables.ensures c.bounds_are_times.ensures _
+    (c.check.ensures.accepted c.in-Certified.rows c.in-Certified.cases c.in-Certified.is).0 c.in-Ok.ensures.timed)
     (c.check.ensures.safe c.in-Certified.rows c.in-Certified.cases c.in-Certified.is suits)
-    c.bounds_are_times.ensures
 
 pub returns-in-Err-clause-timed : goal.returns-in-Err-clause-timed
 returns-in-Err-clause-timed g c = rw c.over.ensures (c.in-Certified.cases, (c.in-Certified.ensures.verdict.0, refl), c.in-Err.ensures.timed)

@@ -63,3 +63,6 @@ returns-in-None-clause-step g c = c.put_posts.ensures.step
 
 pub returns-in-Err-clause-step : goal.returns-in-Err-clause-step
 returns-in-Err-clause-step g c = c.put_posts.ensures.step
+
+pub first_uncovered_after-requires : goal.first_uncovered_after-requires
+first_uncovered_after-requires g c = c.in-Ok.ensures.below

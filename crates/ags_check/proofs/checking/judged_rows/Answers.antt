@@ -1,4 +1,4 @@
-use Rattle.std.proofs.Common.{List, sym, subst}
+use Rattle.std.proofs.Common.{◌≤◌, List, sym, subst, length}
 use Rattle.std.specs.Prelude.{Err}
 use Rattle.ags_domain.specs.Value.{value_meaning}
 use Rattle.ags_domain.specs.declared.values.Value.{Value}
@@ -13,6 +13,9 @@ use Rattle.ags_certtype.specs.Cert.{certificate_of}
 use Rattle.ags_check.specs.Judging.{Judging}
 use Rattle.ags_check.proofs.RowsLemmas.{walked_judged}
 use Rattle.ags_check.proofs.checking.judged_rows.Goals as goal
+
+pub walk_rows-requires : goal.walk_rows-requires
+walk_rows-requires g c = subst (λ (rs : List (Row Value)). length rs ≤ 20000) (sym c.rows.ensures.rows) c.rows.ensures.cert.few_rows
 
 pub returns-clause-judged : goal.returns-clause-judged
 returns-clause-judged g c = walked_judged c.args.machine.now c.args.image.now (certificate_of c.args.cert.now) c.limits.result.now c.rows.result.now

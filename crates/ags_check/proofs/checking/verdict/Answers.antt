@@ -1,4 +1,4 @@
-use Rattle.std.proofs.Common.{refl, ap, ◌∙◌, inl, inr}
+use Rattle.std.proofs.Common.{ℕ, ◌+◌, ◌≤◌, refl, ap, ◌∙◌, inl, inr, arith}
 use Rattle.std.specs.Prelude.{not}
 use Rattle.ags_domain.specs.Value.{value_meaning}
 use Rattle.ags_safe.specs.Accepted.{HoldsStart}
@@ -42,3 +42,21 @@ returns-in-Err-clause-verdict g c = inr (inr (record {
       c.start_row.ensures (c.is_none.ensures ∙ ap not c.if-is_none.false);
   rows = c.in-Err.ensures.judged;
 }))
+
+no_fewer : (steps cases : ℕ) → steps ≤ steps + cases
+no_fewer steps cases = omega arith
+
+pub first_word-word-requires : goal.first_word-word-requires
+first_word-word-requires g c = c.in-Some.ensures.some.erasable
+
+pub returns-in-Some-clause-steps : goal.returns-in-Some-clause-steps
+returns-in-Some-clause-steps g c = λ cases have. no_fewer c.args.steps.now cases
+
+pub returns-then-is_none-clause-steps : goal.returns-then-is_none-clause-steps
+returns-then-is_none-clause-steps g c = λ cases have. no_fewer c.args.steps.now cases
+
+pub returns-in-Ok-clause-steps : goal.returns-in-Ok-clause-steps
+returns-in-Ok-clause-steps g c = c.judged_rows.ensures.steps
+
+pub returns-in-Err-clause-steps : goal.returns-in-Err-clause-steps
+returns-in-Err-clause-steps g c = c.judged_rows.ensures.steps

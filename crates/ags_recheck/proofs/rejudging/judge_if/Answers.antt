@@ -19,3 +19,7 @@ returns-else-has_one-clause-steps g c = λ cases has. no_fewer c.args.steps.now 
 
 pub returns-else-has_one-clause-idle : goal.returns-else-has_one-clause-idle
 returns-else-has_one-clause-idle g c = λ others not_one not_other. refl
+
+pub returns-else-has_one-clause-kept : goal.returns-else-has_one-clause-kept
+returns-else-has_one-clause-kept g c =
+    c.requires.kept c.if-edited.false (c.has_one.ensures.none c.if-has_one.false) (c.has_one.ensures.neither c.if-has_one.false)

@@ -1,4 +1,4 @@
-use Rattle.std.proofs.Common.{ℕ, refl, sym, subst, ◌∙◌, arith}
+use Rattle.std.proofs.Common.{ℕ, refl, sym, subst, ◌∙◌}
 use Rattle.std.proofs.lemmas.Bool.{false≢true}
 use Rattle.ags_domain.specs.Value.{value_meaning}
 use Rattle.ags_certtype.specs.Cert.{certificate_of}
@@ -6,7 +6,7 @@ use Rattle.ags_verdict.specs.Verdict.{IsVerdict}
 use Rattle.ags_verdict.specs.declared.verdicts.Verdict.TheVariants.{Certified}
 use Rattle.ags_scale.specs.Scaled.{IsScaled}
 use Rattle.ags_scale.specs.declared.answers.Scaled.{Scaled}
-use Rattle.ags_scale.proofs.JudgingLemmas.{told_scaled, told_is_no_agreement}
+use Rattle.ags_scale.proofs.JudgingLemmas.{told_scaled, told_is_no_agreement, mixed_is_no_agreement, unsafe_is_no_agreement, steps_once, steps_twice}
 use Rattle.ags_scale.proofs.judging.answer.Goals as goal
 
 pub tagged_rows-requires : goal.tagged_rows-requires
@@ -38,24 +38,24 @@ pub returns-in-Refused-clause-scaled : goal.returns-in-Refused-clause-scaled
 returns-in-Refused-clause-scaled g c = c.in-Refused.ensures.verdict
 
 pub returns-then-not-is_start_tagged-clause-safe : goal.returns-then-not-is_start_tagged-clause-safe
-returns-then-not-is_start_tagged-clause-safe g c = λ rows cases is. absurd cc
+returns-then-not-is_start_tagged-clause-safe g c = λ rows cases is. absurd (mixed_is_no_agreement rows cases is)
 
 -- the verdict takes a step for each case at most, and so do the tags
 pub returns-then-not-is_start_tagged-clause-steps : goal.returns-then-not-is_start_tagged-clause-steps
-returns-then-not-is_start_tagged-clause-steps g c = λ cases have. omega (arith, c.check.ensures.steps cases have)
+returns-then-not-is_start_tagged-clause-steps g c = λ cases have. steps_once _ _ cases (c.check.ensures.steps cases have)
 
 pub returns-in-Ok-clause-steps : goal.returns-in-Ok-clause-steps
-returns-in-Ok-clause-steps g c = λ cases have. omega (arith, c.check.ensures.steps cases have, c.tagged_rows.ensures.steps cases have)
+returns-in-Ok-clause-steps g c = λ cases have. steps_twice _ _ _ cases (c.check.ensures.steps cases have) (c.tagged_rows.ensures.steps cases have)
 
 pub returns-in-Err-clause-safe : goal.returns-in-Err-clause-safe
 returns-in-Err-clause-safe g c =
     λ rows cases is. absurd (told_is_no_agreement c.in-Err.told.row c.in-Err.told.fault rows cases (sym c.answer_of.ensures ∙ is))
 
 pub returns-in-Err-clause-steps : goal.returns-in-Err-clause-steps
-returns-in-Err-clause-steps g c = λ cases have. omega (arith, c.check.ensures.steps cases have, c.tagged_rows.ensures.steps cases have)
+returns-in-Err-clause-steps g c = λ cases have. steps_twice _ _ _ cases (c.check.ensures.steps cases have) (c.tagged_rows.ensures.steps cases have)
 
 pub returns-in-Refused-clause-safe : goal.returns-in-Refused-clause-safe
-returns-in-Refused-clause-safe g c = λ rows cases is. absurd cc
+returns-in-Refused-clause-safe g c = λ rows cases is. absurd (unsafe_is_no_agreement c.in-Refused.refusal rows cases is)
 
 pub returns-in-Refused-clause-steps : goal.returns-in-Refused-clause-steps
-returns-in-Refused-clause-steps g c = λ cases have. omega (arith, c.check.ensures.steps cases have)
+returns-in-Refused-clause-steps g c = λ cases have. steps_once _ _ cases (c.check.ensures.steps cases have)

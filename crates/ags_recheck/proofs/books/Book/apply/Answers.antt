@@ -1,4 +1,4 @@
-use Rattle.std.proofs.Common.{rules, ◌≡◌, ℕ, ap, ◌∙◌}
+use Rattle.std.proofs.Common.{◌≡◌, ℕ, ap, ◌∙◌}
 use Rattle.std.specs.Prelude.{Result, Ok, Err}
 use Rattle.ags_domain.specs.declared.values.Value.{Value}
 use Rattle.ags_row.specs.declared.ats.At.{At}
@@ -37,16 +37,17 @@ pub returns-in-Word-clause-bounded : goal.returns-in-Word-clause-bounded
 returns-in-Word-clause-bounded g c = rw c.in-Word.is c.replace_word.ensures.bounded
 
 pub returns-in-Limit-clause-edited : goal.returns-in-Limit-clause-edited
-returns-in-Limit-clause-edited g c = rw c.in-Limit.is (search rules)
+returns-in-Limit-clause-edited g c = rw c.in-Limit.is c.replace_limit.ensures.edited
 
 pub returns-in-Limit-clause-unchanged : goal.returns-in-Limit-clause-unchanged
-returns-in-Limit-clause-unchanged g c = λ error is. search (rules, limit_unchanged)
+returns-in-Limit-clause-unchanged g c = λ error is.
+    limit_unchanged c.args.self.now c.replace_limit.new.self c.in-Limit.cell c.replace_limit.result error c.replace_limit.ensures.edited is
 
 pub returns-in-Limit-clause-steps : goal.returns-in-Limit-clause-steps
-returns-in-Limit-clause-steps g c = rw c.in-Limit.is (search rules)
+returns-in-Limit-clause-steps g c = rw c.in-Limit.is c.replace_limit.ensures.steps
 
 pub returns-in-Limit-clause-bounded : goal.returns-in-Limit-clause-bounded
-returns-in-Limit-clause-bounded g c = rw c.in-Limit.is (search rules)
+returns-in-Limit-clause-bounded g c = rw c.in-Limit.is c.replace_limit.ensures.bounded
 
 pub returns-in-Row-clause-edited : goal.returns-in-Row-clause-edited
 returns-in-Row-clause-edited g c = rw c.in-Row.is c.replace_row.ensures.edited

@@ -1,4 +1,4 @@
-use Rattle.std.proofs.Common.{rules, ◌≡◌, sym, ◌∙◌, length}
+use Rattle.std.proofs.Common.{rules, ◌≡◌, refl, sym, ◌∙◌, length}
 use Rattle.ags_recheck.proofs.BookLemmas.{book_made}
 use Rattle.ags_recheck.proofs.books.Book.new.Goals as goal
 
@@ -8,3 +8,6 @@ invariant_of-result g c =
     let made : length c.in_ok-items.items.items ≡ length c.args.cert.rows = search rules in
     book_made c.args.machine c.args.image c.args.cert c.judge_all.new.items _ c.in_ok-items.items.len c.judge_all.ensures.whole
     (c.judge_all.ensures.whole ∙ sym made ∙ len) c.judge_all.ensures.kept
+
+pub returns : goal.returns
+returns g c = record { book = refl; steps = c.judge_all.ensures.steps }

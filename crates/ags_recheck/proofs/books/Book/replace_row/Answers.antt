@@ -1,6 +1,7 @@
 use Rattle.std.proofs.Common.{◌≡◌, ◌+◌, ◌-◌, ◌≤◌, ℕ, List, refl, sym, ap, subst, ◌∙◌, length, arith}
 use Rattle.std.proofs.lemmas.List.{length-set}
 use Rattle.std.proofs.lemmas.Result.{err_from_is_err_and}
+use Rattle.ags_answered.proofs.CodeLemmas.{some_code}
 use Rattle.ags_certtype.specs.Cert.{Stated}
 use Rattle.ags_check.specs.Judging.{Judging}
 use Rattle.ags_recheck.specs.Bound.{IsMostOfRow}
@@ -48,7 +49,7 @@ returns-clause-bounded g c =
     × IsMostOfRow j (record { machine = c.self.inside.machine; image = c.self.inside.image; cert = c.replace_row.new.self }) c.args.number c.args.row most)
     c.self.view_is
     (some_most c.self.inside.machine c.self.inside.image c.self.inside.cert c.self.inside.items.items c.self.invariant
-    (λ row. c.each_row_has_a_code.ensures c.self.inside.image c.self.inside.cert.limits row c.get-word.ensures.image)
+    (λ row. some_code c.self.inside.image c.self.inside.cert.limits row c.get-word.ensures.image)
     c.args.number c.args.row c.replace_row.new.self c.in_ok-replace_row.ensures.3)
 
 pub invariant_of-self : goal.invariant_of-self
