@@ -13,7 +13,7 @@ use Rattle.ags_drive.proofs.driving.drive.Goals as goal
 pub returns-in-Ok-run_script : goal.returns-in-Ok-run_script
 returns-in-Ok-run_script g c = record {
   driven = driven_whole c.args.machine.now c.args.image.now (certificate_of c.args.cert.now) _ c.args.script.now c.in-Ok.bench c.run_script.new.bench _ (g.K.Sink.told c.args.out.now) (g.K.Sink.told c.run_script.new.out)
-    c.types_are_kept.ensures.machine c.in-Ok.ensures.inside c.types_are_kept.ensures.suits.steps (c.in-Ok.ensures.stands _) c.in-Ok.ensures.none.0 c.in-Ok.ensures.none.1 c.in-Ok-run_script.ensures.made;
+      c.types_are_kept.ensures.machine c.in-Ok.ensures.inside c.types_are_kept.ensures.suits.steps (c.in-Ok.ensures.stands _) c.in-Ok.ensures.none.0 c.in-Ok.ensures.none.1 c.in-Ok-run_script.ensures.made;
   declared = c.runs_are_sound.ensures.declared _ _;
   safe = c.runs_are_sound.ensures.safe _ _;
   write_fault = rose_at (g.K.Sink.faults c.args.out.now) (g.K.Sink.faults c.run_script.new.out) _ (c.in-Ok-run_script.ensures.faults);
@@ -25,7 +25,7 @@ returns-in-Ok-run_script g c = record {
 pub returns-in-Ok : goal.returns-in-Ok
 returns-in-Ok g c = record {
   driven = driven_less c.args.machine.now c.args.image.now (certificate_of c.args.cert.now) _ c.args.script.now (bench_of c.in-Ok.bench _) (g.K.Sink.told c.args.out.now) (g.K.Sink.told c.run_script.new.out) _ c.in-Err-run_script.error
-    c.in-Ok.ensures.inside (c.in-Ok.ensures.stands _) c.in-Err-run_script.ensures.unmade;
+      c.in-Ok.ensures.inside (c.in-Ok.ensures.stands _) c.in-Err-run_script.ensures.unmade;
   declared = c.runs_are_sound.ensures.declared _ _;
   safe = c.runs_are_sound.ensures.safe _ _;
   write_fault = rose_at (g.K.Sink.faults c.args.out.now) (g.K.Sink.faults c.run_script.new.out) _ (subst (λ (fault : Bool). HasCause (g.K.Sink.faults c.args.out.now) (g.K.Sink.faults c.run_script.new.out) fault) (error_fault (Unit {0}) Driven c.in-Err-run_script.error) c.in-Err-run_script.ensures.faults);

@@ -28,7 +28,7 @@ returns-in-Err g c = record {
   fitted = c.run_command.ensures.fitted;
   made = tt;
   unmade = lines_unmade c.args.machine.now (certificate_of c.args.cert.now) c.args.positions c.args.script.now c.loop-position.position c.nth-asked.result (g.K.Sink.told c.args.out.now) (g.K.Sink.told c.loop-position.out)
-    (g.K.Sink.told c.run_command.new.out) c.args.bench.now c.loop-position.bench _ _ _ c.in-Err.error c.nth-asked.ensures c.loop-position.invariant.made c.in-Err.ensures.unmade;
+      (g.K.Sink.told c.run_command.new.out) c.args.bench.now c.loop-position.bench _ _ _ c.in-Err.error c.nth-asked.ensures c.loop-position.invariant.made c.in-Err.ensures.unmade;
   faults = subst (λ (faults : ℕ). HasCause faults (g.K.Sink.faults c.run_command.new.out) (is_drive_fault {T = Unit {0}} (Err c.in-Err.error))) c.loop-position.invariant.faults c.in-Err.ensures.faults;
 }
 
@@ -44,7 +44,7 @@ pub returns : goal.returns
 returns g c = record {
   fitted = c.loop-position.invariant.fitted;
   made = lines_all c.args.machine.now (certificate_of c.args.cert.now) c.args.positions c.args.script.now c.loop-position.position (g.K.Sink.told c.args.out.now) (g.K.Sink.told c.loop-position.out) c.args.bench.now c.loop-position.bench _ _
-    (omega (arith, c.loop-position-test.false, c.len-position-end.ensures)) c.loop-position.invariant.made;
+      (omega (arith, c.loop-position-test.false, c.len-position-end.ensures)) c.loop-position.invariant.made;
   unmade = tt;
   faults = unchanged (g.K.Sink.faults c.args.out.now) (g.K.Sink.faults c.loop-position.out) c.loop-position.invariant.faults;
 }
