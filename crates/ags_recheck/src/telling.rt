@@ -1,6 +1,7 @@
 //! What is told of edits.
 
-ghost use Rattle.std.specs.Prelude.{Some};
+ghost use Rattle.std.specs.Prelude.{◌≡◌, Some};
+ghost use Rattle.ags_recheck.specs.ToldText.{refused_text};
 
 use ags_certtype::EditError;
 use ags_check::Verdict;
@@ -15,22 +16,15 @@ pub enum Told {
     NotMade(EditError),
 }
 
-/// What an edit is refused for.
-#[derive(Clone, Copy)]
-struct Refused(EditError);
-
-impl fmt::Display for Refused {
-    ghost use Rattle.ags_recheck.specs.ToldText.{refused_text};
-
-    ghost output = { λ refused. Some (refused_text refused.0) };
-
-    fn fmt<W: fmt::Write>(&self, f: &mut fmt::Formatter<W>) -> fmt::Result {
-        f.write_str(match self.0 {
-            EditError::NoRow => "1 NoRow",
-            EditError::OutsideGlobal { .. } => "2 OutsideGlobal",
-            EditError::BelowUse => "3 BelowUse",
-            EditError::FullLocation => "4 FullLocation",
-        })
+/// The number and the name of what an edit is refused for.
+fn refusal(error: EditError) -> &'static str
+    ensures { result.now ≡ refused_text error }
+{
+    match error {
+        EditError::NoRow => "1 NoRow",
+        EditError::OutsideGlobal { .. } => "2 OutsideGlobal",
+        EditError::BelowUse => "3 BelowUse",
+        EditError::FullLocation => "4 FullLocation",
     }
 }
 
@@ -44,7 +38,7 @@ impl fmt::Display for Told {
         match self {
             Told::Made(verdict) => write!(f, "{verdict}"),
             Told::NotMade(error) => {
-                let why = Refused(*error);
+                let why = refusal(*error);
                 write!(f, "NOTMADE {why}")
             }
         }
