@@ -1,7 +1,7 @@
 -- The acts of a command, apart: those that show something, and the others. The proofs of `commands` cite:
 --     acts_apart                 they are the acts of the command
 --     shown_by_none, made_by_none     a command that isn't of these has none of them
-use Rattle.std.proofs.Common.{◌≡◌, ℕ, List, [], ◌++◌, refl}
+use Rattle.std.proofs.Common.{◌≡◌, ℕ, [], ◌++◌, refl}
 use Rattle.ags_deda.specs.declared.keys.Key.{Key}
 use Rattle.ags_play.specs.Act.{acts_of_command}
 use Rattle.ags_script.specs.declared.commands.Command.{Command}

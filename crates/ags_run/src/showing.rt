@@ -45,7 +45,6 @@ pub fn output_at(machine: &Machine, core: &Core, address: u16) -> Word
     }
 }
 
-
 /// Sends a line with its line feed, as one piece.
 fn send_line<K: Sink>(out: &mut K, line: &[u8]) -> Result<(), SendError>
     requires { length line.now ≤ 34 }
