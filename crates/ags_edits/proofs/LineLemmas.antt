@@ -1,6 +1,7 @@
 -- What a line states, by the fields that are cut from it; and that it states one thing at most.
-use Rattle.std.proofs.Common.{◌≡◌, ℕ, ◌<◌, ◌^◌, ◌⊎◌, List, [], ◌∷◌, length, get_or, slice_index, Option, Some, None, IfSome, refl, sym, ap, ◌∙◌, subst, inl, inr, arith}
+use Rattle.std.proofs.Common.{◌≡◌, ℕ, ◌<◌, ◌^◌, ◌⊎◌, Bool, true, false, List, [], ◌∷◌, length, get_or, slice_index, Option, Some, None, IfSome, refl, sym, ap, ◌∙◌, subst, inl, inr, arith}
 use Rattle.std.specs.Prelude.{codes}
+use Rattle.std.specs.Bool.{then_some}
 use Rattle.std.specs.List.{list_all}
 use Rattle.std.proofs.lemmas.Int.Digits.{digits_value-lt}
 use Rattle.ags_text.specs.Field.{AreBlanks, HasFields, IsField, is_blank, next_field, behind_field}
@@ -176,6 +177,21 @@ unfolding word_of
 one_word text one other is so =
     ap (λ (location : ℕ). word_of location one.word) (sym is.location_is.value ∙ so.location_is.value)
     ∙ ap (λ (word : ℕ). word_of other.location word) (sym is.word_is.value ∙ so.word_is.value)
+
+-- what the fields of a text state, where nothing but blanks stands after them
+module _ (text rest : List ℕ) (found : WordEdit) (blank : Bool) (result : Option WordEdit) (is : result ≡ then_some blank found) (told : blank ≡ list_all is_blank rest)
+    (has : AreBlanks rest → IsWordEdit text found) where
+  pub word_found_there : IfSome result (IsWordEdit text)
+  word_found_there = rw is (by_test blank told)
+    where
+      by_test : (test : Bool) → test ≡ list_all is_blank rest → IfSome (then_some test found) (IsWordEdit text)
+      by_test true same = has (sym same)
+      by_test false other = tt
+
+  pub word_alone : (AreBlanks (behind_field (behind_field text)) → AreBlanks rest) → (its : WordEdit) → IsWordEdit text its → result ≡ Some its
+  word_alone ends its also =
+      let blanks = ends also.ends in
+      rw (is, told ∙ blanks) (ap (λ (edit : WordEdit). Some edit) (one_word text found its (has blanks) also))
 
 row_of : ℕ → RowLine → RowEdit
 row_of row new = record { row = row; new = new }
