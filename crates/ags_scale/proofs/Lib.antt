@@ -4,6 +4,7 @@ pub mod JudgingLemmas
 pub mod TaggingLemmas
 -- What orders do to the tags of a run and of a row that holds them.
 pub mod ChangeLemmas
+mod ScalingLemmas
 -- What the tags tell of words.
 pub mod ValueLemmas
 -- What the tags tell of a step.
