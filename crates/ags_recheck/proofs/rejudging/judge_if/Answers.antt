@@ -5,13 +5,6 @@ use Rattle.ags_recheck.proofs.rejudging.judge_if.Goals as goal
 no_fewer : (steps cases : ℕ) → steps ≤ steps + cases
 no_fewer steps cases = omega arith
 
-pub returns-then-edited : goal.returns-then-edited
-returns-then-edited g c = record {
-  kept = c.judge.ensures.kept;
-  steps = c.judge.ensures.steps;
-  idle = λ not_edited not_one not_other. absurd (false≢true (sym not_edited ∙ c.if-edited.true));
-}
-
 pub returns-then-has_one-clause-kept : goal.returns-then-has_one-clause-kept
 returns-then-has_one-clause-kept g c = c.judge-then-has_one.ensures.kept
 
@@ -30,3 +23,10 @@ returns-else-has_one-clause-idle g c = λ others not_one not_other. refl
 pub returns-else-has_one-clause-kept : goal.returns-else-has_one-clause-kept
 returns-else-has_one-clause-kept g c =
     c.requires.kept c.if-edited.false (c.has_one.ensures.none c.if-has_one.false) (c.has_one.ensures.neither c.if-has_one.false)
+
+pub returns-then-edited : goal.returns-then-edited
+returns-then-edited g c = record {
+  kept = c.judge.ensures.kept;
+  steps = c.judge.ensures.steps;
+  idle = λ not_edited not_one not_other. absurd (false≢true (sym not_edited ∙ c.if-edited.true));
+}
