@@ -8,6 +8,7 @@ use Rattle.std.proofs.lemmas.Slice.Eq.{bytes_eq-Decides}
 use Rattle.std.specs.HashMap.{HashMap}
 use Rattle.std.proofs.lemmas.List.Elements.{All-push}
 use Rattle.indexmap.specs.IndexMap.{IsUnique, get, insert_entry}
+use Rattle.indexmap.proofs.CallerLemmas.{insert_entry-new}
 use Rattle.ags_symbol.specs.declared.symbols.Defined.{Defined}
 use Rattle.ags_symbol.specs.Symbol.{Entry, IsValue, EachNameOnce, names, found}
 use Rattle.ags_symbol.specs.View.{entry_of, AreSymbols}
@@ -33,22 +34,10 @@ none_looked name (Some d) is = absurd cc
 
 -- ---- one more
 
--- where the map has nothing at a symbol, its pair is put behind this one if it is put behind the others
-put_step : (name : List ℕ) (d : Defined) (e : (List ℕ) × Defined) (es put : List ((List ℕ) × Defined)) (looked : Option Defined) (b : Bool)
-    → (looked ≡ None → put ≡ es ++ (name, d) ∷ []) → cond b (Some e.1) looked ≡ None → cond b ((e.0, d) ∷ es) (e ∷ put) ≡ e ∷ es ++ (name, d) ∷ []
-put_step name d e es put looked true later none = absurd cc
-put_step name d e es put looked false later none = ap (λ (rest : List ((List ℕ) × Defined)). e ∷ rest) (later none)
-
--- a symbol that the map has nothing at is put behind the others
-put_new : (name : List ℕ) (d : Defined) (es : List ((List ℕ) × Defined)) → lookup (pointwise nat_eq name) es ≡ None → insert_entry (pointwise nat_eq) es name d ≡ es ++ (name, d) ∷ []
-put_new name d [] none = refl
-put_new name d (e ∷ es) none =
-    put_step name d e es (insert_entry (pointwise nat_eq) es name d) (lookup (pointwise nat_eq name) es) (pointwise nat_eq name e.0) (put_new name d es) none
-
 module _ {S : Type 0} (old new : HashMap (List ℕ) Defined S) where
   -- a new symbol stands after the others
   pub entries-more : (name : List ℕ) (d : Defined) → get (pointwise nat_eq) old name ≡ None → new.entries ≡ insert_entry (pointwise nat_eq) old.entries name d → new.entries ≡ old.entries ++ (name, d) ∷ []
-  entries-more name d none is = is ∙ put_new name d old.entries none
+  entries-more name d none is = is ∙ insert_entry-new (pointwise nat_eq) old name d none
 
   pub AreSymbols-more : (name : List ℕ) (d : Defined) → AreSymbols old → IsUnique (pointwise nat_eq) new → IsValue d.value → new.entries ≡ old.entries ++ (name, d) ∷ [] → AreSymbols new
   AreSymbols-more name d so unique value is = record { distinct = unique; values = rw is (All-push (λ pair. IsValue pair.1.value) old.entries (name, d) so.values value) }
