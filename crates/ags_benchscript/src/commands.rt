@@ -6,7 +6,7 @@ ghost use Rattle.ags_benchscript.specs.Command.{script_command, bench_command};
 use ags_script::Command;
 
 /// What a line of a bench script asks for.
-#[derive(Clone, Copy, PartialEq, Eq)]
+#[derive(Clone, Copy)]
 pub enum BenchCommand {
     /// So many steps; none at 0.
     Step(u32),

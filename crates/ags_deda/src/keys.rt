@@ -4,7 +4,7 @@ ghost use Rattle.std.specs.Prelude.{◌≡◌};
 ghost use Rattle.ags_deda.specs.Key.{is_octal_digit, is_decimal_digit, is_sign, is_entr, is_readout, is_hold, is_clr, key_character, key_digit};
 
 /// A key of the panel.
-#[derive(Clone, Copy, PartialEq, Eq)]
+#[derive(Clone, Copy)]
 pub enum Key {
     /// A digit, 0 to 9. The panel has no key for a greater number: one that is pressed is a wrong key wherever it stands.
     Digit(u8),

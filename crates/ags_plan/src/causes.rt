@@ -16,7 +16,7 @@ pub enum Cause {
 }
 
 /// What any program stops at, whatever it is for.
-#[derive(Clone, Copy, PartialEq, Eq)]
+#[derive(Clone, Copy)]
 pub enum Stop {
     /// A file is absent.
     Absent,

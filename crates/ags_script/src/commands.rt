@@ -4,7 +4,7 @@ use ags_deda::Key;
 use ags_word::Word;
 
 /// What a script asks for. A line of keys asks for one press after the other.
-#[derive(Clone, Copy, PartialEq, Eq)]
+#[derive(Clone, Copy)]
 pub enum Command {
     /// The machine begins at this location.
     Start(u16),

@@ -21,7 +21,7 @@ pub struct Defined {
 }
 
 /// Why a symbol isn't defined.
-#[derive(Clone, Copy, Debug, PartialEq, Eq, Error)]
+#[derive(Clone, Copy, Debug, Error)]
 pub enum DefineError {
     /// An earlier card, `first`, defines it.
     #[error("the symbol is defined already")]

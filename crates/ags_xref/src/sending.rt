@@ -17,7 +17,7 @@ use std::alloc::Global;
 use thiserror::Error;
 
 /// Why a cross reference was not sent to its end.
-#[derive(Clone, Copy, Debug, PartialEq, Eq, Error)]
+#[derive(Clone, Copy, Debug, Error)]
 pub enum XrefError {
     /// Number 1: the sink failed in this call.
     #[error("the output could not be written")]

@@ -59,17 +59,22 @@ pub(crate) fn book_of<L: Ledger>(
     Book::new(alloc, Machine::standard(), image, cert, steps).expect(rt, "memory for a book")
 }
 
-/// Asserts the verdict of a book, and that a check from nothing tells the same.
-pub(crate) fn expect_verdict<L: Ledger>(
+/// A verdict as it is printed.
+pub(crate) fn printed(rt: &impl Abort, alloc: Global, verdict: &Verdict) -> String {
+    format!(in alloc; "{verdict}").expect(rt, "memory for a verdict")
+}
+
+/// The verdict of a book as it is printed, where a check from nothing tells the same.
+pub(crate) fn told_afresh<L: Ledger>(
     rt: &impl Abort,
+    alloc: Global,
     book: &Book,
-    wanted: &Verdict,
     steps: &mut Steps<L>,
-) {
-    let told = book.verdict();
-    assert!(rt; told == *wanted, "{told}");
+) -> String {
+    let told = printed(rt, alloc, &book.verdict());
     let fresh = check(&Machine::standard(), book.image(), book.cert(), steps);
-    assert!(rt; fresh == *wanted, "{fresh}");
+    assert!(rt; printed(rt, alloc, &fresh) == told, "{told}");
+    told
 }
 
 /// The certificate of a text on the standard machine.

@@ -4,7 +4,7 @@ ghost use Rattle.std.specs.Prelude.{◌≡◌, ◌<◌};
 ghost use Rattle.ags_recheck.specs.Edited.{IsOfMemory};
 
 use crate::common::{image_of, word};
-use crate::edits::common::{book_of, cert_read, expect_verdict, one_word, range, row_with};
+use crate::edits::common::{book_of, cert_read, one_word, printed, range, row_with, told_afresh};
 use ags_domain::{Domain, Value, WordSet};
 use ags_edits::Edit;
 use ags_recheck::Book;
@@ -127,13 +127,18 @@ END
 ";
 
 /// Makes an edit, and asserts that a check from nothing tells the verdict that the book tells; where it is refused, that of before.
-fn expect_fresh<L: Ledger>(rt: &impl Abort, book: &mut Book, edit: Edit, steps: &mut Steps<L>)
+fn expect_fresh<L: Ledger>(
+    rt: &impl Abort,
+    alloc: Global,
+    book: &mut Book,
+    edit: Edit,
+    steps: &mut Steps<L>,
+)
     requires { IsOfMemory edit }
 {
-    let before = book.verdict();
+    let before = printed(rt, alloc, &book.verdict());
     let made = book.apply(edit, steps).is_ok();
-    let told = book.verdict();
-    expect_verdict(rt, book, &told, steps);
+    let told = told_afresh(rt, alloc, book, steps);
     assert!(rt; made || told == before);
 }
 
@@ -151,7 +156,7 @@ fn lists_of_edits<L: Ledger>(rt: &impl Abort, alloc: Global, blank: Blank)
         let mut book = book_of(rt, alloc, image, cert, &mut steps);
         for _ in 0..12 {
             let edit = drawn_edit(rt, alloc, &mut numbers);
-            expect_fresh(rt, &mut book, edit, &mut steps);
+            expect_fresh(rt, alloc, &mut book, edit, &mut steps);
         }
     }
 }

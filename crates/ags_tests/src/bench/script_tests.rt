@@ -14,13 +14,30 @@ fn read_text(rt: &impl Abort, alloc: Global, text: &str) -> Result<BenchScript, 
     read(alloc, bytes, &Machine::standard())
 }
 
+/// The parts of a command with its line's number: the line, which form of line it is, and its number, 0 where it has none.
+fn parts((line, command): (u32, BenchCommand)) -> (u32, u8, u32) {
+    match command {
+        BenchCommand::Step(count) => (line, 0, count),
+        BenchCommand::Pulse => (line, 1, 0),
+        BenchCommand::Cycle(count) => (line, 2, count),
+        BenchCommand::ShowReg => (line, 3, 0),
+        BenchCommand::ShowCell(address) => (line, 4, u32::from(address)),
+        BenchCommand::ShowOut(address) => (line, 5, u32::from(address)),
+        BenchCommand::Feed(device) => (line, 6, device),
+        BenchCommand::Detach(device) => (line, 7, device),
+    }
+}
+
 /// Expects the commands of a text, each with its line's number.
 fn expect_commands(rt: &(impl AllocGlobal + Abort), text: &str, wanted: &[(u32, BenchCommand)]) {
     let script = read_text(rt, rt.alloc(), text).ok().expect(rt, text);
     expect_same(rt, &script.len(), &wanted.len());
     for position in 0..script.len() {
         assert!(rt; position < wanted.len());
-        assert!(rt; script.nth(position) == wanted[position], "{text}");
+        assert!(rt;
+            parts(script.nth(position)) == parts(wanted[position]),
+            "{text}"
+        );
     }
 }
 
