@@ -1,8 +1,8 @@
 -- What is said of a script that was driven, and of a verdict.
 use Rattle.std.proofs.Common.{◌≡◌, ℕ, List, Option, refl, sym, ap, subst, ◌∙◌, inl, inr, append-nil}
 use Rattle.std.specs.Prelude.{Result, Ok, Err, IfOk, OnOk, OnErr}
-use Rattle.ags_benchplay.specs.BenchRun.{Met, Nothing}
-use Rattle.ags_benchplay.specs.Driven.{DrivenTo, DrivenWhole}
+use Rattle.ags_drive.specs.BenchRun.{Met, Nothing}
+use Rattle.ags_drive.specs.Driven.{DrivenTo, DrivenWhole}
 use Rattle.ags_benchscript.specs.declared.commands.BenchCommand.{BenchCommand}
 use Rattle.ags_cert.specs.Cert.{Stated, certificate_of}
 use Rattle.ags_device.specs.Record.{DeviceRecord}

@@ -2,14 +2,14 @@
 use Rattle.std.proofs.Common.{◌≡◌, ℕ, List, [], ◌∷◌, ◌++◌, length, Option, Some, None, refl, sym, ap, subst, ◌∙◌, inl, inr, append_assoc}
 use Rattle.std.specs.Prelude.{Result, Ok, Err}
 use Rattle.ags_asm.specs.Source.{placed_words}
-use Rattle.ags_benchplay.specs.Act.{Act, acts_of_script}
-use Rattle.ags_benchplay.specs.Bench.{Bench, start_bench}
-use Rattle.ags_benchplay.specs.BenchRun.{Met, Nothing, OutsideStart, RefusedAct, IsBenchRun, acts_unless}
-use Rattle.ags_benchplay.specs.Cut.{IsRunAtPoint}
-use Rattle.ags_benchplay.specs.Driven.{AreBehind, DrivenInPart}
-use Rattle.ags_benchplay.specs.Played.{IsPoint, Plays, next_text}
-use Rattle.ags_benchplay.proofs.PointLemmas.{wrote_on_run}
-use Rattle.ags_benchplay.proofs.RunOfLemmas.{run_of_bench, run_where_cut, nothing_is_run}
+use Rattle.ags_drive.specs.Act.{Act, acts_of_script}
+use Rattle.ags_drive.specs.Bench.{Bench, start_bench}
+use Rattle.ags_drive.specs.BenchRun.{Met, Nothing, OutsideStart, RefusedAct, IsBenchRun, acts_unless}
+use Rattle.ags_drive.specs.Cut.{IsRunAtPoint}
+use Rattle.ags_drive.specs.Driven.{AreBehind, DrivenInPart}
+use Rattle.ags_drive.specs.Played.{IsPoint, Plays, next_text}
+use Rattle.ags_drive.proofs.PointLemmas.{wrote_on_run}
+use Rattle.ags_drive.proofs.RunOfLemmas.{run_of_bench, run_where_cut, nothing_is_run}
 use Rattle.ags_benchscript.specs.declared.commands.BenchCommand.{BenchCommand}
 use Rattle.ags_cert.specs.Cert.{certificate_of}
 use Rattle.ags_device.specs.Record.{DeviceRecord}

@@ -1,6 +1,6 @@
 -- Status by status, from what a call comes to.
 use Rattle.std.proofs.Common.{◌≡◌, ℕ, ◌≤◌, List, [], ◌∷◌, length, Option, Some, None, refl, ap, subst, ◌∙◌, inl, inr}
-use Rattle.ags_benchplay.specs.BenchRun.{Met, Nothing}
+use Rattle.ags_drive.specs.BenchRun.{Met, Nothing}
 use Rattle.ags_certtext.specs.declared.cert_error.CertError.TheVariants as certificate
 use Rattle.ags_domain.specs.declared.values.Value.{Value}
 use Rattle.ags_outside.specs.Sink.{appended}

@@ -1,8 +1,8 @@
 -- What is written after the files are loaded, and what the devices are then.
 use Rattle.std.specs.Prelude.{◌≡◌, ◌⊎◌, ℕ, List, ◌++◌, Option, Result, Ok, Err}
-use Rattle.ags_benchplay.specs.BenchRun.{Met, Nothing, OutsideStart, RefusedAct, IsBenchRun}
-use Rattle.ags_benchplay.specs.Doing.{NoDevice, NoFeed, OutsidePut}
-use Rattle.ags_benchplay.specs.Driven.{AreBehind, DrivenInPart}
+use Rattle.ags_drive.specs.BenchRun.{Met, Nothing, OutsideStart, RefusedAct, IsBenchRun}
+use Rattle.ags_drive.specs.Doing.{NoDevice, NoFeed, OutsidePut}
+use Rattle.ags_drive.specs.Driven.{AreBehind, DrivenInPart}
 use Rattle.ags_benchscript.specs.declared.commands.BenchCommand.{BenchCommand}
 use Rattle.ags_cert.specs.Cert.{Stated, certificate_of}
 use Rattle.ags_device.specs.Record.{DeviceRecord}

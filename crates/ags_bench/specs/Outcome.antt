@@ -2,12 +2,12 @@
 -- status, where it comes of what the files hold.
 use Rattle.std.specs.Prelude.{◌≡◌, ◌≢◌, ◌⊎◌, ℕ, ◌≤◌, List, [], ◌++◌, length, Option, Some, None, Err}
 use Rattle.ags_asm.specs.Source.{IsFaulty, placed_words}
-use Rattle.ags_benchplay.specs.Act.{Act}
-use Rattle.ags_benchplay.specs.Bench.{Bench, start_bench}
-use Rattle.ags_benchplay.specs.BenchRun.{Met, Nothing, OutsideStart, IsBenchRun, IsPointOfRun}
-use Rattle.ags_benchplay.specs.Cut.{IsRunAtPoint}
-use Rattle.ags_benchplay.specs.Driven.{AreBehind}
-use Rattle.ags_benchplay.specs.Played.{next_text, still_there}
+use Rattle.ags_drive.specs.Act.{Act}
+use Rattle.ags_drive.specs.Bench.{Bench, start_bench}
+use Rattle.ags_drive.specs.BenchRun.{Met, Nothing, OutsideStart, IsBenchRun, IsPointOfRun}
+use Rattle.ags_drive.specs.Cut.{IsRunAtPoint}
+use Rattle.ags_drive.specs.Driven.{AreBehind}
+use Rattle.ags_drive.specs.Played.{next_text, still_there}
 use Rattle.ags_benchscript.specs.declared.commands.BenchCommand.{BenchCommand}
 use Rattle.ags_benchscript.specs.Script.{IsFaultyScript}
 use Rattle.ags_cert.specs.Cert.{certificate_of}

@@ -6,9 +6,9 @@ use Rattle.ags_asm.specs.Source.{CardWords, Defines, placed_words}
 use Rattle.ags_asm.proofs.ApartLemmas.{each_place_once}
 use Rattle.ags_asm.proofs.MeaningLemmas as source
 use Rattle.ags_asm.proofs.MemoryLemmas.{words_of_memory}
-use Rattle.ags_answered.proofs.VerdictLemmas.{some_verdict}
-use Rattle.ags_benchplay.specs.BenchRun.{Met, Nothing}
-use Rattle.ags_benchplay.proofs.OneBenchRunLemmas.{some_bench_run, one_bench_run}
+use Rattle.ags_check.proofs.AnswerLemmas.{some_verdict}
+use Rattle.ags_drive.specs.BenchRun.{Met, Nothing}
+use Rattle.ags_drive.proofs.OneBenchRunLemmas.{some_bench_run, one_bench_run}
 use Rattle.ags_benchscript.specs.declared.commands.BenchCommand.{BenchCommand}
 use Rattle.ags_benchscript.proofs.ScriptLemmas as script
 use Rattle.ags_cert.specs.Cert.{Stated, certificate_of}

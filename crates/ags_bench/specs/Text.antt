@@ -1,8 +1,8 @@
 -- The line of what a run of the bench met.
 use Rattle.std.specs.Prelude.{ℕ, List, [], ◌++◌, codes}
 use Rattle.std.specs.Fmt.{decimal}
-use Rattle.ags_benchplay.specs.BenchRun.{Met, Nothing, OutsideStart, RefusedAct}
-use Rattle.ags_benchplay.specs.Doing.{Refusal, NoDevice, NoFeed, OutsidePut}
+use Rattle.ags_drive.specs.BenchRun.{Met, Nothing, OutsideStart, RefusedAct}
+use Rattle.ags_drive.specs.Doing.{Refusal, NoDevice, NoFeed, OutsidePut}
 use Rattle.ags_play.specs.OutsideText.{outside_text, put_text}
 
 -- of an act that was refused: no device has that number, or the device with that number feeds no register, on that line of the

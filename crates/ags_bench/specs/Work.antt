@@ -1,7 +1,7 @@
 -- What is done once the files are loaded, and what it makes with the devices that were handed in.
 use Rattle.std.specs.Prelude.{◌≡◌, ℕ, List, ◌++◌, Option}
 use Rattle.ags_asm.specs.Source.{placed_words}
-use Rattle.ags_benchplay.specs.BenchRun.{Met, Nothing, IsBenchRun}
+use Rattle.ags_drive.specs.BenchRun.{Met, Nothing, IsBenchRun}
 use Rattle.ags_benchscript.specs.declared.commands.BenchCommand.{BenchCommand}
 use Rattle.ags_cert.specs.Cert.{Stated, certificate_of}
 use Rattle.ags_device.specs.Record.{DeviceRecord}

@@ -17,10 +17,10 @@ use Rattle.ags_ports.specs.Time.{time_of}
 use Rattle.ags_ports.proofs.NamingLemmas.{decoding_same}
 use Rattle.ags_row.specs.declared.posts.Post.{Post}
 use Rattle.ags_row.specs.declared.rows.Row.{Row}
-use Rattle.ags_posts.specs.Case.{Case}
-use Rattle.ags_posts.specs.Posts.{Outcome, IsPostsOfCase}
-use Rattle.ags_posts.specs.declared.answers.PostPair.{PostPair}
-use Rattle.ags_posts.proofs.OneAnswerLemmas.{one_answer}
+use Rattle.ags_safe.specs.Case.{Case}
+use Rattle.ags_safe.specs.Posts.{Outcome, IsPostsOfCase}
+use Rattle.ags_safe.specs.declared.answers.PostPair.{PostPair}
+use Rattle.ags_safe.proofs.OneAnswerLemmas.{one_answer}
 use Rattle.ags_safe.specs.Certificate.{Certificate}
 use Rattle.ags_safe.specs.Accepted.{IsCovered, IsCaseAccepted, IsRowAccepted, Accepted}
 use Rattle.ags_verdict.specs.RowCase.{RowCase, cases_in, case_in}
@@ -30,9 +30,9 @@ use Rattle.ags_verdict.specs.declared.verdicts.Verdict.TheVariants.{Certified, R
 use Rattle.ags_verdict.specs.declared.verdicts.Refusal.{Refusal}
 use Rattle.ags_verdict.proofs.CaseLemmas.{cases_each}
 use Rattle.ags_verdict.proofs.VerdictLemmas.{verdict_one, accepted_of}
-use Rattle.ags_answered.proofs.VerdictLemmas.{some_verdict}
-use Rattle.ags_walk.specs.Walk.{IsWalked, IsWalkedAt}
-use Rattle.ags_walk.specs.declared.walks.AtRow.{AtRow}
+use Rattle.ags_check.proofs.AnswerLemmas.{some_verdict}
+use Rattle.ags_verdict.specs.Walk.{IsWalked, IsWalkedAt}
+use Rattle.ags_verdict.specs.declared.walks.AtRow.{AtRow}
 use Rattle.ags_times.specs.Budget.{bound_of}
 use Rattle.ags_budget.specs.Over.{over}
 use Rattle.ags_budget.specs.Timed.{AreRowsTimed, IsTimed}
@@ -41,7 +41,7 @@ use Rattle.ags_budget.specs.declared.answers.LateCase.{LateCase}
 use Rattle.ags_budget.specs.declared.answers.Timed.{Timed}
 use Rattle.ags_budget.specs.declared.answers.Timed.TheVariants.{Within, Unsafe, Over}
 use Rattle.ags_budget.proofs.LeastLemmas.{is_at_most, is_covered_by, some_least, one_least, some_greatest, one_greatest}
-use Rattle.ags_walk.proofs.OrderedLemmas.{some_in_order, with_number, one_walk}
+use Rattle.ags_verdict.proofs.OrderedLemmas.{some_in_order, with_number, one_walk}
 use Rattle.ags_budget.proofs.TimingLemmas.{of_true, of_false}
 
 some_one : {A : Type 0} (left right : A) → ◌≡◌ {A = Option A} (Some left) (Some right) → left ≡ right

@@ -26,13 +26,13 @@ use Rattle.ags_ports.proofs.NamingLemmas.{decoding_same}
 use Rattle.ags_ports.proofs.OrderTimeLemmas.{time-read, time-other, time-idle}
 use Rattle.ags_row.specs.declared.posts.Post.{Post}
 use Rattle.ags_row.specs.declared.rows.Row.{Row}
-use Rattle.ags_posts.specs.Case.{Case, case_of}
-use Rattle.ags_posts.specs.InRow.{IsInRow, AreCellsInLimits}
-use Rattle.ags_posts.specs.OneStep.{AgreesWith, Follows}
-use Rattle.ags_posts.specs.Posts.{IsPostsOfCase}
-use Rattle.ags_posts.specs.declared.answers.PostPair.{PostPair}
-use Rattle.ags_posts.proofs.OneStepLemmas.{one_step}
-use Rattle.ags_posts.proofs.CoverLemmas.{covered, kept_in_limits}
+use Rattle.ags_safe.specs.Case.{Case, case_of}
+use Rattle.ags_safe.specs.InRow.{IsInRow, AreCellsInLimits}
+use Rattle.ags_safe.specs.OneStep.{AgreesWith, Follows}
+use Rattle.ags_safe.specs.Posts.{IsPostsOfCase}
+use Rattle.ags_safe.specs.declared.answers.PostPair.{PostPair}
+use Rattle.ags_safe.proofs.OneStepLemmas.{one_step}
+use Rattle.ags_safe.proofs.CoverLemmas.{covered, kept_in_limits}
 use Rattle.ags_safe.specs.Certificate.{Certificate}
 use Rattle.ags_safe.specs.Failing.{StandsAt}
 use Rattle.ags_safe.specs.Safe.{IsSafeState, IsSafeStep, Safe}
@@ -40,12 +40,12 @@ use Rattle.ags_times.specs.Budget.{bound_of}
 use Rattle.ags_domain.specs.WordSet.{lists}
 use Rattle.ags_domain.specs.declared.word_sets.WordSet.{WordSet}
 use Rattle.ags_row.specs.Flag.{has_flag, indicator_number}
-use Rattle.ags_posts.proofs.CodeLemmas.{code_one, code_has_word}
+use Rattle.ags_safe.proofs.CodeLemmas.{code_one, code_has_word}
 use Rattle.ags_safe.specs.Accepted.{IsRowAccepted, Accepted}
 use Rattle.ags_verdict.specs.InOrder.{InOrder}
 use Rattle.ags_verdict.specs.RowCase.{RowCase, cases_in, case_in}
 use Rattle.ags_verdict.proofs.CaseLemmas.{each_cases}
-use Rattle.ags_walk.specs.Walk.{IsWalkedWith, IsWalkedAt}
+use Rattle.ags_verdict.specs.Walk.{IsWalkedWith, IsWalkedAt}
 use Rattle.ags_budget.specs.Timed.{AreRowsTimed}
 use Rattle.ags_budget.specs.Timing.{IsCaseTimed, is_dly, IsPostInTime, IsCaseInTime}
 use Rattle.ags_budget.specs.Spent.{resumes, resumed_after, spent_after, AtEachSpent, IsInBounds, IsInTime, KeepsBounds}

@@ -3,14 +3,14 @@ use Rattle.std.proofs.Common.{◌≡◌, ℕ, ◌<◌, ◌≤◌, Bool, true, fa
 use Rattle.std.specs.Prelude.{Option, Some, None, Result, Ok, Err, IfSome, IfOk, IfErr, MatchBool}
 use Rattle.ags_domain.specs.Domain.{Meaning}
 use Rattle.ags_row.specs.declared.rows.Row.{Row}
-use Rattle.ags_posts.specs.Case.{Case, case_of}
+use Rattle.ags_safe.specs.Case.{Case, case_of}
 use Rattle.ags_domain.specs.Value.{value_meaning}
 use Rattle.ags_domain.specs.declared.values.Value.{Value}
 use Rattle.ags_ports.specs.declared.machines.Machine.{Machine}
 use Rattle.ags_row.specs.Limit.{Limiting}
 use Rattle.ags_verdict.specs.RowCase.{RowCase, case_in}
-use Rattle.ags_posts.specs.Posts.{Outcome, IsPostsOfCase}
-use Rattle.ags_posts.specs.declared.answers.PostPair.{PostPair}
+use Rattle.ags_safe.specs.Posts.{Outcome, IsPostsOfCase}
+use Rattle.ags_safe.specs.declared.answers.PostPair.{PostPair}
 use Rattle.ags_isa.specs.declared.orders.Order.{Order}
 use Rattle.ags_ports.specs.Time.{time_of}
 use Rattle.ags_safe.specs.Certificate.{Certificate}

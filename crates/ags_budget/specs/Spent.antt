@@ -10,7 +10,7 @@ use Rattle.ags_ports.specs.OrderTime.{order_time}
 use Rattle.ags_ports.specs.State.{State}
 use Rattle.ags_ports.specs.Run.{Moment, Run, AreEvents}
 use Rattle.ags_row.specs.declared.rows.Row.{Row}
-use Rattle.ags_posts.specs.InRow.{IsInRow}
+use Rattle.ags_safe.specs.InRow.{IsInRow}
 use Rattle.ags_safe.specs.Certificate.{Certificate}
 use Rattle.ags_safe.specs.Failing.{StandsAt}
 use Rattle.ags_safe.specs.Start.{IsStart, AreDeclared}

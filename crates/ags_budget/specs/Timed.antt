@@ -8,8 +8,8 @@ use Rattle.ags_safe.specs.Certificate.{Certificate}
 use Rattle.ags_verdict.specs.RowCase.{case_in}
 use Rattle.ags_verdict.specs.Verdict.{IsVerdict}
 use Rattle.ags_verdict.specs.declared.verdicts.Verdict.TheVariants.{Certified, Refused}
-use Rattle.ags_walk.specs.Walk.{AreWalked}
-use Rattle.ags_walk.specs.declared.walks.AtRow.{AtRow}
+use Rattle.ags_verdict.specs.Walk.{AreWalked}
+use Rattle.ags_verdict.specs.declared.walks.AtRow.{AtRow}
 use Rattle.ags_times.specs.Budget.{IsGreatest}
 use Rattle.ags_budget.specs.Timing.{IsCaseTimed}
 use Rattle.ags_budget.specs.declared.answers.LateCase.{LateCase}

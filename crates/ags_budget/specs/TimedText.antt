@@ -1,7 +1,7 @@
 -- The line that what comes of a budget is printed as. A location is four octal digits, other numbers are plain decimals.
 use Rattle.std.specs.Prelude.{ℕ, List, [], ◌++◌, codes, Option, Some, None}
 use Rattle.std.specs.Fmt.{decimal}
-use Rattle.ags_casetext.specs.CaseText.{case_text}
+use Rattle.ags_verdict.specs.CaseText.{case_text}
 use Rattle.ags_text.specs.Numeral.{octal4_text}
 use Rattle.ags_budget.specs.declared.answers.Timed.{Timed}
 use Rattle.ags_budget.specs.declared.answers.Timed.TheVariants.{Within, Unsafe, Over}

@@ -8,9 +8,9 @@ use Rattle.ags_domain.specs.Domain.{Meaning}
 use Rattle.ags_ports.specs.Time.{time_of}
 use Rattle.ags_row.specs.declared.posts.Post.{Post}
 use Rattle.ags_row.specs.declared.rows.Row.{Row}
-use Rattle.ags_posts.specs.Case.{Case}
-use Rattle.ags_posts.specs.Posts.{IsPostsOfCase}
-use Rattle.ags_posts.specs.declared.answers.PostPair.{PostPair}
+use Rattle.ags_safe.specs.Case.{Case}
+use Rattle.ags_safe.specs.Posts.{IsPostsOfCase}
+use Rattle.ags_safe.specs.declared.answers.PostPair.{PostPair}
 use Rattle.ags_safe.specs.Certificate.{Certificate}
 use Rattle.ags_check.specs.Finding.{IsCoveredBy}
 use Rattle.ags_times.specs.Budget.{bound_of}

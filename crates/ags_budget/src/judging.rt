@@ -5,7 +5,7 @@ ghost use Rattle.ags_domain.specs.Value.{value_meaning};
 ghost use Rattle.ags_safe.specs.Accepted.{Accepted};
 ghost use Rattle.ags_safe.specs.Certificate.{Suits};
 ghost use Rattle.ags_safe.specs.Safe.{Safe};
-ghost use Rattle.ags_walk.specs.Counting.{HaveCases};
+ghost use Rattle.ags_verdict.specs.Counting.{HaveCases};
 ghost use Rattle.ags_certtype.specs.Cert.{certificate_of};
 ghost use Rattle.ags_budget.specs.Spent.{KeepsBounds};
 ghost use Rattle.ags_budget.specs.Timed.{AreRowsTimed, IsTimed};
@@ -20,7 +20,7 @@ use ags_ports::Machine;
 use ags_ports::laws::machine_is_made_of_tables;
 use ags_steps::Steps;
 use ags_times::Budget;
-use ags_walk::{AtRow, walk_rows};
+use ags_verdict::{AtRow, walk_rows};
 use std::sync::ledger::Ledger;
 
 /// What comes of the rows of an accepted certificate for their times.

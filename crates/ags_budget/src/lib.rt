@@ -1,7 +1,7 @@
 //! A bound on the order time of each cycle (docs/TIMES.md). `judge` says whether the budget of a certificate's rows is accepted: whether
 //! after each order the bound of some row that covers what it leaves is still within the bound of its own row. Where it is, the order
 //! time since the last resume stays in every run within the bound of each row that held the state then. It stands on `ags_times` for
-//! budgets, on `ags_walk` for the walk over the cases, on `ags_transfer` for their posts and on `ags_check` for the verdict and the rows
+//! budgets, on `ags_verdict` for the walk over the cases, on `ags_transfer` for their posts and on `ags_check` for the verdict and the rows
 //! that cover a post. Only the reading of a text takes memory.
 #![tactic(auto)]
 

@@ -3,8 +3,8 @@
 ghost use Rattle.std.specs.Prelude.{Some};
 
 use crate::answers::Timed;
-use ags_casetext::CaseAt;
 use ags_text::FourDigits;
+use ags_verdict::CaseAt;
 use std::fmt;
 
 /// The location of a post, where there is one.

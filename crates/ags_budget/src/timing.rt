@@ -4,7 +4,7 @@ ghost use Rattle.std.specs.Prelude.{◌≡◌, ◌<◌, ◌≤◌, ◌+◌, ℕ,
 ghost use Rattle.ags_isa.specs.declared.orders.Order.{Order};
 ghost use Rattle.ags_domain.specs.Value.{value_meaning};
 ghost use Rattle.ags_ports.specs.Time.{time_of};
-ghost use Rattle.ags_posts.specs.Going.{GoWithin};
+ghost use Rattle.ags_safe.specs.Going.{GoWithin};
 ghost use Rattle.ags_safe.specs.Accepted.{IsCovered};
 ghost use Rattle.ags_verdict.specs.RowCase.{case_in};
 ghost use Rattle.ags_certtype.specs.Cert.{certificate_of};
@@ -19,12 +19,12 @@ use ags_image::Image;
 use ags_isa::{Order, decode};
 use ags_ports::Machine;
 use ags_ports::laws::machine_is_made_of_tables;
-use ags_posts::PostPair;
 use ags_row::{Post, Row};
+use ags_safe::PostPair;
 use ags_steps::Steps;
 use ags_times::Budget;
 use ags_transfer::put_posts;
-use ags_walk::{Judge, OneCase};
+use ags_verdict::{Judge, OneCase};
 use std::sync::ledger::Ledger;
 
 /// A machine, an image and a certificate with the bounds of its rows, as the judge that asks of each accepted case whether it is in

@@ -9,15 +9,15 @@ use Rattle.ags_domain.specs.declared.word_sets.WordSet.{WordSet}
 use Rattle.ags_ports.specs.declared.machines.Machine.{Machine}
 use Rattle.ags_row.specs.Limit.{Limiting}
 use Rattle.ags_row.specs.declared.rows.Row.{Row}
-use Rattle.ags_posts.specs.Case.{IsCode}
-use Rattle.ags_posts.proofs.CodeLemmas.{code_one}
+use Rattle.ags_safe.specs.Case.{IsCode}
+use Rattle.ags_safe.proofs.CodeLemmas.{code_one}
 use Rattle.ags_safe.specs.Certificate.{Certificate}
 use Rattle.ags_safe.specs.Accepted.{IsCaseAccepted, IsRowAccepted, Accepted}
 use Rattle.ags_verdict.specs.InOrder.{InOrder}
 use Rattle.ags_verdict.specs.RowCase.{RowCase, cases_in, case_in}
 use Rattle.ags_verdict.proofs.CaseLemmas.{cases_each}
-use Rattle.ags_walk.specs.Walk.{IsWalkedWith, IsWalkedAt, AreWalked}
-use Rattle.ags_walk.specs.declared.walks.AtRow.{AtRow}
+use Rattle.ags_verdict.specs.Walk.{IsWalkedWith, IsWalkedAt, AreWalked}
+use Rattle.ags_verdict.specs.declared.walks.AtRow.{AtRow}
 use Rattle.ags_certtype.specs.Cert.{Stated, certificate_of}
 
 -- where a fact holds of each thing, what comes of each by one judgement comes of it by another

@@ -7,10 +7,10 @@ use Rattle.ags_domain.specs.declared.values.Value.{Value}
 use Rattle.ags_domain.specs.declared.word_sets.WordSet.{WordSet}
 use Rattle.ags_row.specs.Limit.{Limiting}
 use Rattle.ags_row.specs.declared.rows.Row.{Row}
-use Rattle.ags_posts.specs.Case.{IsCode}
-use Rattle.ags_posts.proofs.CodeLemmas.{code_one}
+use Rattle.ags_safe.specs.Case.{IsCode}
+use Rattle.ags_safe.proofs.CodeLemmas.{code_one}
 use Rattle.ags_verdict.specs.Flat.{IsNumberOfCases}
-use Rattle.ags_walk.specs.Counting.{number_with, HasCases, HaveCases}
+use Rattle.ags_verdict.specs.Counting.{number_with, HasCases, HaveCases}
 
 module _ (image : List (Option ℕ)) (limits : Limiting Value) where
   pub some_cases : ((row : Row Value) → (code : Option WordSet) × IsCode value_meaning image limits row code) → (rows : List (Row Value))

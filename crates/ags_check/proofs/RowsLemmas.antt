@@ -14,8 +14,8 @@ use Rattle.ags_verdict.specs.Fault.{IsCaseJudged, IsJudgedWith, IsRowJudged, IsR
 use Rattle.ags_verdict.specs.declared.verdicts.RowFault.{RowFault}
 use Rattle.ags_verdict.specs.declared.verdicts.RowFault.TheVariants.{CodeUnknown}
 use Rattle.ags_verdict.specs.declared.verdicts.Refusal.{Refusal}
-use Rattle.ags_walk.specs.Walk.{IsWalkedWith, IsWalked, IsWalkedAt, AreWalked}
-use Rattle.ags_walk.specs.declared.walks.AtRow.{AtRow}
+use Rattle.ags_verdict.specs.Walk.{IsWalkedWith, IsWalked, IsWalkedAt, AreWalked}
+use Rattle.ags_verdict.specs.declared.walks.AtRow.{AtRow}
 
 -- what is counted by one judgement is counted by another
 each_counted : {X F G : Type 0} (one : ℕ → X → Result ℕ F → Type 0) (other : ℕ → X → Result ℕ G → Type 0)

@@ -2,5 +2,6 @@
 pub mod Judging
 pub mod Finding
 pub mod Checking
+pub mod Told
 -- what serves inside
 pub mod Asking

@@ -2,7 +2,7 @@
 
 ghost use Rattle.std.specs.Prelude.{◌≡◌, ◌<◌, ◌+◌, IfOk};
 ghost use Rattle.ags_domain.specs.Value.{value_meaning};
-ghost use Rattle.ags_posts.specs.Case.{case_of};
+ghost use Rattle.ags_safe.specs.Case.{case_of};
 ghost use Rattle.ags_verdict.specs.Fault.{IsCaseJudged};
 ghost use Rattle.ags_certtype.specs.Cert.{certificate_of};
 
@@ -15,7 +15,7 @@ use ags_ports::Machine;
 use ags_row::Row;
 use ags_steps::Steps;
 use ags_transfer::{PostPair, put_posts};
-use ags_walk::{Judge, OneCase};
+use ags_verdict::{Judge, OneCase};
 use ags_word::Word;
 use std::marker::Model;
 use std::sync::ledger::Ledger;

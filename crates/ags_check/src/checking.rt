@@ -13,8 +13,8 @@ ghost use Rattle.ags_verdict.specs.Verdict.{IsVerdict};
 ghost use Rattle.ags_verdict.specs.Flat.{IsNumberOfCases};
 ghost use Rattle.ags_verdict.specs.declared.verdicts.Refusal.{Refusal};
 ghost use Rattle.ags_verdict.specs.declared.verdicts.Verdict.TheVariants.{Certified, Refused};
-ghost use Rattle.ags_walk.specs.Counting.{HaveCases};
-ghost use Rattle.ags_answered.specs.Told.{refusal_of_fault};
+ghost use Rattle.ags_verdict.specs.Counting.{HaveCases};
+ghost use Rattle.ags_check.specs.Told.{refusal_of_fault};
 ghost use Rattle.ags_certtype.specs.Cert.{certificate_of};
 
 use crate::accepting::Accepting;
@@ -28,7 +28,7 @@ use ags_image::Image;
 use ags_ports::Machine;
 use ags_ports::laws::machine_is_made_of_tables;
 use ags_steps::Steps;
-use ags_walk::walk_rows;
+use ags_verdict::walk_rows;
 use std::sync::ledger::Ledger;
 
 /// How many rows a certificate has.

@@ -2,7 +2,7 @@
 
 ghost use Rattle.std.specs.Prelude.{◌≡◌, ◌<◌, None, IfSome};
 ghost use Rattle.ags_domain.specs.Value.{value_meaning};
-ghost use Rattle.ags_posts.specs.Going.{GoWithin};
+ghost use Rattle.ags_safe.specs.Going.{GoWithin};
 ghost use Rattle.ags_safe.specs.Accepted.{IsCovered};
 ghost use Rattle.ags_verdict.specs.Fault.{IsUncovered, IsFirstUncovered};
 ghost use Rattle.ags_certtype.specs.Cert.{certificate_of};
@@ -11,8 +11,8 @@ use crate::covering::covering_row_after;
 use crate::serving::EachServes;
 use ags_certtype::Cert;
 use ags_domain::Value;
-use ags_posts::PostPair;
 use ags_row::{Post, Row};
+use ags_safe::PostPair;
 use std::cell::Cell;
 
 /// The numbers of the rows that covered the last first post and the last second one, or 0. They tell where to look first, and no more.

@@ -10,10 +10,10 @@ ghost use Rattle.ags_row.specs.declared.rows.Row.{Row};
 ghost use Rattle.ags_safe.specs.Certificate.{Certificate};
 ghost use Rattle.ags_safe.specs.Accepted.{IsCovered};
 ghost use Rattle.ags_verdict.specs.Flat.{IsNumberOfCases};
-ghost use Rattle.ags_walk.specs.Counting.{HaveCases};
+ghost use Rattle.ags_verdict.specs.Counting.{HaveCases};
 ghost use Rattle.ags_check.specs.Finding.{IsCoveredBy};
 
-use ags_answered::laws::each_row_has_a_code;
+use crate::answer_laws::each_row_has_a_code;
 
 /// The rows of each certificate have one number of cases; where each row has a code, it is the number that the verdict tells.
 pub fn rows_have_one_number_of_cases()

@@ -1,11 +1,13 @@
 //! The check of a certificate (docs/CHECKER.md): the first words of the erasable cells, the start, and the cases of the
-//! rows one at a time, each of which makes its posts once. It stands on `ags_verdict`, where the answers are defined, on
-//! `ags_walk` for the walk over the cases, on `ags_transfer` for the posts of a case, and on `ags_certtype` for
-//! certificates. What each part of the check finds is public too, for what asks more of the same rows. No call takes
-//! memory.
+//! rows one at a time, each of which makes its posts once. It stands on `ags_verdict`, where the answers are defined, and
+//! for the walk over the cases, on `ags_transfer` for the posts of a case, and on `ags_certtype` for certificates. What each
+//! part of the check finds is public too, for what asks more of the same rows. `answer_laws` says that each work has an
+//! answer: each case of a certificate over values has posts or a stop, each row a code or too many words, and each
+//! certificate a verdict; and that a refusal tells the first fault. No call takes memory.
 #![tactic(auto)]
 
 mod accepting;
+pub mod answer_laws;
 mod answers;
 mod checking;
 mod coverage;

@@ -4,12 +4,12 @@ ghost use Rattle.std.specs.Prelude.{◌≡◌, ℕ, Ok, Err};
 ghost use Rattle.ags_domain.specs.declared.values.Value.{Value};
 ghost use Rattle.ags_verdict.specs.Fault.{refusal_of, refusal_of_stop};
 ghost use Rattle.ags_verdict.specs.declared.verdicts.RowFault.{RowFault};
-ghost use Rattle.ags_walk.specs.declared.walks.AtRow.{AtRow};
+ghost use Rattle.ags_verdict.specs.declared.walks.AtRow.{AtRow};
 
 use crate::answers::{Refusal, RowFault};
 use ags_domain::Value;
 use ags_transfer::Stop;
-use ags_walk::AtRow;
+use ags_verdict::AtRow;
 use ags_word::Word;
 
 /// The refusal that tells a stop, by the row's number and the case's word.

@@ -13,7 +13,7 @@ use ags_ports::{Machine, Ports};
 use ags_row::{Limits, Row};
 use ags_steps::Steps;
 use ags_transfer::{PostPair, Stop, posts};
-use ags_walk::{Judge, OneCase, walk_rows};
+use ags_verdict::{Judge, OneCase, walk_rows};
 use ags_word::Word;
 use std::alloc::Global;
 use std::cell::Cell;
@@ -148,9 +148,19 @@ fn judged_from<L: Ledger>(
     }
 }
 
+/// What comes of the rows as a text: how many cases they have, or the refusal as it is printed.
+fn text_of(rt: &impl Abort, alloc: Global, outcome: &Result<u64, Refusal>) -> String {
+    let text = match outcome {
+        Ok(cases) => format!(in alloc; "{cases}"),
+        Err(refusal) => format!(in alloc; "{refusal}"),
+    };
+    text.expect(rt, "memory for an outcome")
+}
+
 /// Asserts what comes of the rows of a certificate for an image on the standard machine.
 fn expect_judged(
     rt: &impl Abort,
+    alloc: Global,
     image: &Image,
     cert: &Cert,
     outcome: &Result<u64, Refusal>,
@@ -158,7 +168,7 @@ fn expect_judged(
 ) {
     let machine = Machine::standard();
     let judged = judged_from::<Brand>(rt, &machine, image, cert, Blank::new(1));
-    assert!(rt; judged.outcome == *outcome);
+    assert!(rt; text_of(rt, alloc, &judged.outcome) == text_of(rt, alloc, outcome));
     expect_same(rt, &judged.cases, &cases);
 }
 
@@ -199,7 +209,7 @@ fn expect_refused(
     let cert = Cert::of(alloc, parts)
         .expect(rt, "memory for a certificate")
         .expect(rt, "the parts of a certificate");
-    expect_judged(rt, &image, &cert, &Err(refusal), cases);
+    expect_judged(rt, alloc, &image, &cert, &Err(refusal), cases);
 }
 
 #[test]
@@ -352,5 +362,5 @@ fn deck_cert(rt: &impl Abort, alloc: Global) -> Cert {
 fn each_case_of_the_deck_is_judged_once(rt: HostRuntime) {
     let alloc = rt.alloc();
     let image = image_of(&rt, alloc, 0o4000, &DECK);
-    expect_judged(&rt, &image, &deck_cert(&rt, alloc), &Ok(32), 32);
+    expect_judged(&rt, alloc, &image, &deck_cert(&rt, alloc), &Ok(32), 32);
 }

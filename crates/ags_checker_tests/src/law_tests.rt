@@ -1,17 +1,17 @@
 //! The laws at once. Those of a domain stand at both domains: a law of a type parameter is proved from its bound alone.
 
-use ags_answered::laws::{
+use ags_check::answer_laws::{
     each_case_has_an_answer, each_certificate_has_a_verdict, each_certificate_is_answered,
     each_row_has_a_code, refusal_tells_the_first_fault,
 };
 use ags_domain::{Domain, Range, Value};
-use ags_posts::laws::{
-    case_has_one_answer, code_has_the_word_of_each_state, covering_row_holds_what_agrees,
-    one_step_follows_the_posts, posts_go_to_locations, step_that_follows_keeps_cells_in_limits,
-};
 use ags_safe::laws::{
     accepted_certificates_are_safe, accepted_is_that_no_item_fails, each_certificate_has_a_start,
     first_fault_is_one,
+};
+use ags_safe::post_laws::{
+    case_has_one_answer, code_has_the_word_of_each_state, covering_row_holds_what_agrees,
+    one_step_follows_the_posts, posts_go_to_locations, step_that_follows_keeps_cells_in_limits,
 };
 use ags_verdict::laws::{
     accepted_certificates_are_certified, cases_are_each_word_with_each_index_and_indicator,

@@ -3,8 +3,8 @@
 use crate::common::{expect_same, row_of, value};
 use crate::transfer_tests::{Limited, alone, judged_in_row, limits};
 use ags_domain::Value;
-use ags_posts::{PostPair, Stop};
 use ags_row::{At, Link, Post, RowParts};
+use ags_safe::{PostPair, Stop};
 use std::alloc::Global;
 use std::process::Abort;
 

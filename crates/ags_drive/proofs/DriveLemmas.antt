@@ -6,16 +6,16 @@
 --     rose_at         with a fault the count of faults rose
 use Rattle.std.proofs.Common.{◌≡◌, ℕ, ◌+◌, ◌%◌, ◌^◌, ◌≤◌, List, [], ◌∷◌, length, refl, sym, ap, subst, append-nil, arith}
 use Rattle.std.specs.Prelude.{Option, Some, None, Result, Err, IsErrOf, count_by}
-use Rattle.ags_benchplay.specs.Act.{Act, acts_of_script}
-use Rattle.ags_benchplay.specs.Bench as play
-use Rattle.ags_benchplay.specs.Bench.{start_bench}
-use Rattle.ags_benchplay.specs.BenchRun.{RefusedAct}
-use Rattle.ags_benchplay.specs.Doing.{Refusal, NoDevice, NoFeed, OutsidePut}
-use Rattle.ags_benchplay.specs.Driven.{AreBehind, Refused, Stopped, DrivenTo, DrivenWhole, DrivenInPart}
-use Rattle.ags_benchplay.proofs.CountLemmas.{few_steps}
-use Rattle.ags_benchplay.proofs.GrownLemmas.{behind_self}
-use Rattle.ags_benchplay.proofs.OneBenchRunLemmas.{some_outside}
-use Rattle.ags_benchplay.proofs.PointLemmas.{point_here}
+use Rattle.ags_drive.specs.Act.{Act, acts_of_script}
+use Rattle.ags_drive.specs.Bench as play
+use Rattle.ags_drive.specs.Bench.{start_bench}
+use Rattle.ags_drive.specs.BenchRun.{RefusedAct}
+use Rattle.ags_drive.specs.Doing.{Refusal, NoDevice, NoFeed, OutsidePut}
+use Rattle.ags_drive.specs.Driven.{AreBehind, Refused, Stopped, DrivenTo, DrivenWhole, DrivenInPart}
+use Rattle.ags_drive.proofs.CountLemmas.{few_steps}
+use Rattle.ags_drive.proofs.GrownLemmas.{behind_self}
+use Rattle.ags_drive.proofs.OneBenchRunLemmas.{some_outside}
+use Rattle.ags_drive.proofs.PointLemmas.{point_here}
 use Rattle.ags_benchscript.specs.Script.{steps_of}
 use Rattle.ags_benchscript.specs.declared.commands.BenchCommand.{BenchCommand}
 use Rattle.ags_device.specs.Record.{DeviceRecord}
@@ -28,8 +28,8 @@ use Rattle.ags_ports.specs.declared.machines.Machine.{Machine}
 use Rattle.ags_ports.specs.Machine.{IsMachine}
 use Rattle.ags_run.specs.Play.{outside_of}
 use Rattle.ags_safe.specs.Certificate.{Certificate}
-use Rattle.ags_benchplay.specs.BenchRun.{acts_unless}
-use Rattle.ags_benchplay.specs.Played.{Plays, IsPoint, next_text}
+use Rattle.ags_drive.specs.BenchRun.{acts_unless}
+use Rattle.ags_drive.specs.Played.{Plays, IsPoint, next_text}
 use Rattle.ags_drive.specs.declared.benches.Bench.{Bench}
 use Rattle.ags_drive.specs.declared.drive_error.DriveError.{DriveError}
 use Rattle.ags_drive.specs.declared.drive_error.DriveError.TheVariants as error

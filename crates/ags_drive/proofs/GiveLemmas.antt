@@ -7,10 +7,10 @@
 --     cycle_feed_made, cycle_feed_unmade, cycle_feed_idle    the feed of a cycle that ends there, and one that gives nothing
 use Rattle.std.proofs.Common.{◌≡◌, ℕ, zero, suc, ◌+◌, ◌≤◌, ◌^◌, ◌<◌, Bool, true, false, List, [], ◌∷◌, length, map, refl, sym, ap, subst, ◌∙◌, inl, inr, IsSome, arith}
 use Rattle.std.specs.Prelude.{◌⊎◌, Option, Some, None, Result, Ok, Err, OnOk, is_some, slice_get, count_by, if◌then◌else◌}
-use Rattle.ags_benchplay.specs.Act.{Act, Feeds, FeedsInCycle}
-use Rattle.ags_benchplay.specs.Bench as play
-use Rattle.ags_benchplay.specs.Bench.{position_of_number, device_at, with_given}
-use Rattle.ags_benchplay.specs.Doing.{Makes, NoDevice, NoFeed, OutsidePut, fed_position, takes_word, is_fed, giver, put_at, next_put, put_by, refused_put, refused_feed, refusal, handled, carry_after, devices_along, bench_after}
+use Rattle.ags_drive.specs.Act.{Act, Feeds, FeedsInCycle}
+use Rattle.ags_drive.specs.Bench as play
+use Rattle.ags_drive.specs.Bench.{position_of_number, device_at, with_given}
+use Rattle.ags_drive.specs.Doing.{Makes, NoDevice, NoFeed, OutsidePut, fed_position, takes_word, is_fed, giver, put_at, next_put, put_by, refused_put, refused_feed, refusal, handled, carry_after, devices_along, bench_after}
 use Rattle.ags_device.specs.Devices.{changed_at, feeds_of, plan_of}
 use Rattle.ags_device.specs.Record.{DeviceRecord, first_of, given}
 use Rattle.ags_domain.specs.declared.values.Value.{Value}

@@ -7,9 +7,9 @@ use Rattle.std.proofs.Common.{◌≡◌, ℕ, zero, suc, ◌+◌, ◌<◌, ◌%�
 use Rattle.std.specs.Prelude.{Option, Some, None, is_some, if◌then◌else◌}
 use Rattle.std.proofs.lemmas.List.{take-append-drop}
 use Rattle.std.proofs.Math.Seq.{take-suc}
-use Rattle.ags_benchplay.specs.Doing.{devices_given, devices_along}
-use Rattle.ags_benchplay.specs.Driven.{IsBehind, AreBehind}
-use Rattle.ags_benchplay.proofs.GrownLemmas.{HaveGrown, behind_self, behind_on, behind_from, grown_of_behind}
+use Rattle.ags_drive.specs.Doing.{devices_given, devices_along}
+use Rattle.ags_drive.specs.Driven.{IsBehind, AreBehind}
+use Rattle.ags_drive.proofs.GrownLemmas.{HaveGrown, behind_self, behind_on, behind_from, grown_of_behind}
 use Rattle.ags_device.specs.Devices.{is_heard, heard_below, all_heard, IsHeardInPart}
 use Rattle.ags_device.specs.Record.{DeviceRecord}
 use Rattle.ags_ports.specs.declared.events.Stored.{Stored}

@@ -13,13 +13,13 @@ use Rattle.std.proofs.Common.{◌≡◌, ℕ, ◌+◌, ◌%◌, ◌^◌, ◌<◌
 use Rattle.std.specs.Prelude.{Bool, true, false, Option, Some, None, count_by}
 use Rattle.std.proofs.Math.Nat.{mod-add-mod}
 use Rattle.std.proofs.lemmas.List.Sums.{sum_by-append}
-use Rattle.ags_benchplay.specs.Act.{Act}
-use Rattle.ags_benchplay.specs.Bench as play
-use Rattle.ags_benchplay.specs.Doing.{Does, Refusal, NoDevice, NoFeed, OutsidePut, refusal, bench_after, devices_where_refused, shown_text}
-use Rattle.ags_benchplay.specs.Driven.{AreBehind, Refused, Stopped}
-use Rattle.ags_benchplay.specs.Played.{Plays, still_there, next_text}
-use Rattle.ags_benchplay.proofs.GrownLemmas.{HaveGrown, grown_still, behind_self, behind_from}
-use Rattle.ags_benchplay.proofs.PointLemmas.{plays_on, point_here, point_before, point_after}
+use Rattle.ags_drive.specs.Act.{Act}
+use Rattle.ags_drive.specs.Bench as play
+use Rattle.ags_drive.specs.Doing.{Does, Refusal, NoDevice, NoFeed, OutsidePut, refusal, bench_after, devices_where_refused, shown_text}
+use Rattle.ags_drive.specs.Driven.{AreBehind, Refused, Stopped}
+use Rattle.ags_drive.specs.Played.{Plays, still_there, next_text}
+use Rattle.ags_drive.proofs.GrownLemmas.{HaveGrown, grown_still, behind_self, behind_from}
+use Rattle.ags_drive.proofs.PointLemmas.{plays_on, point_here, point_before, point_after}
 use Rattle.ags_device.specs.Record.{DeviceRecord}
 use Rattle.ags_domain.specs.declared.values.Value.{Value}
 use Rattle.ags_outside.specs.Count.{HasCause}

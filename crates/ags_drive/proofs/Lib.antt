@@ -1,3 +1,12 @@
+-- what a run of a bench script is
+pub mod RunLemmas
+pub mod OneRunLemmas
+pub mod PointLemmas
+pub mod RunOfLemmas
+pub mod CountLemmas
+pub mod OneBenchRunLemmas
+pub mod GrownLemmas
+-- the run that is made
 pub mod JoinLemmas
 pub mod HearLemmas
 pub mod StepLemmas

@@ -10,8 +10,8 @@ use Rattle.std.specs.Prelude.{slice_get, Option, Some}
 use Rattle.std.proofs.lemmas.Grind.{flat_map-append}
 use Rattle.std.proofs.lemmas.Option.{slice_get_within, get_or_from_slice_get}
 use Rattle.std.proofs.lemmas.List.{take_more, take_all, take-append-drop, drop_more}
-use Rattle.ags_benchplay.specs.Act.{Act, MakesStep, Pulses, RunsCycle, FeedsInCycle, ShowsDevice, at_each, cycles, acts_of, acts_of_command, acts_of_script}
-use Rattle.ags_benchplay.specs.Bench as play
+use Rattle.ags_drive.specs.Act.{Act, MakesStep, Pulses, RunsCycle, FeedsInCycle, ShowsDevice, at_each, cycles, acts_of, acts_of_command, acts_of_script}
+use Rattle.ags_drive.specs.Bench as play
 use Rattle.ags_benchscript.specs.declared.commands.BenchCommand.{BenchCommand}
 use Rattle.ags_device.specs.Record.{DeviceRecord}
 use Rattle.ags_domain.specs.declared.values.Value.{Value}

@@ -4,10 +4,10 @@
 --     left_made, left_unsent, left_past                a line at the end: the same, and there is no device
 use Rattle.std.proofs.Common.{◌≡◌, ℕ, ◌+◌, ◌^◌, ◌<◌, List, [], ◌∷◌, ◌++◌, length, refl, sym, ap, subst, ◌∙◌, IsSome}
 use Rattle.std.specs.Prelude.{Option, Some, None, slice_get, codes}
-use Rattle.ags_benchplay.specs.Act.{Act, ShowsReg, ShowsCell, ShowsOut, Detaches, ShowsDevice}
-use Rattle.ags_benchplay.specs.Bench.{position_of_number, device_at, with_detached}
-use Rattle.ags_benchplay.specs.Doing.{NoDevice, refused_detach, shown_text}
-use Rattle.ags_benchplay.specs.Shown.{device_text, detached_line, left_line}
+use Rattle.ags_drive.specs.Act.{Act, ShowsReg, ShowsCell, ShowsOut, Detaches, ShowsDevice}
+use Rattle.ags_drive.specs.Bench.{position_of_number, device_at, with_detached}
+use Rattle.ags_drive.specs.Doing.{NoDevice, refused_detach, shown_text}
+use Rattle.ags_drive.specs.Shown.{device_text, detached_line, left_line}
 use Rattle.ags_device.specs.Devices.{without, plan_of, kept_of}
 use Rattle.ags_device.specs.Record.{DeviceRecord, last_of}
 use Rattle.ags_domain.specs.declared.values.Value.{Value}

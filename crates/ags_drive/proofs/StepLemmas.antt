@@ -5,10 +5,10 @@
 use Rattle.std.proofs.Common.{◌≡◌, ℕ, zero, suc, ◌+◌, ◌%◌, ◌^◌, ◌<◌, cond, List, [], ◌∷◌, length, replicate, refl, sym, ap, subst, ◌∙◌, arith}
 use Rattle.std.specs.Prelude.{Option, count_by}
 use Rattle.std.proofs.lemmas.List.Folds.{sum_by-replicate}
-use Rattle.ags_benchplay.specs.Act.{MakesStep, Pulses, RunsCycle}
-use Rattle.ags_benchplay.specs.Bench as play
-use Rattle.ags_benchplay.specs.Doing.{devices_given, devices_along}
-use Rattle.ags_benchplay.specs.Driven.{AreBehind}
+use Rattle.ags_drive.specs.Act.{MakesStep, Pulses, RunsCycle}
+use Rattle.ags_drive.specs.Bench as play
+use Rattle.ags_drive.specs.Doing.{devices_given, devices_along}
+use Rattle.ags_drive.specs.Driven.{AreBehind}
 use Rattle.ags_device.specs.Record.{DeviceRecord}
 use Rattle.ags_domain.specs.declared.values.Value.{Value}
 use Rattle.ags_play.specs.Counted.{is_step, is_put}

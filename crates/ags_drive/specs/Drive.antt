@@ -1,8 +1,8 @@
 -- What `drive` answers: how far a script was run, the devices as they then stand, and what it met.
 use Rattle.std.specs.Prelude.{◌≡◌, ℕ, Bool, true, false, List, Option, Result, Ok, Err}
-use Rattle.ags_benchplay.specs.BenchRun.{OutsideStart, RefusedAct}
-use Rattle.ags_benchplay.specs.Doing.{NoDevice, NoFeed, OutsidePut}
-use Rattle.ags_benchplay.specs.Driven.{AreBehind, DrivenTo, DrivenWhole, DrivenInPart}
+use Rattle.ags_drive.specs.BenchRun.{OutsideStart, RefusedAct}
+use Rattle.ags_drive.specs.Doing.{NoDevice, NoFeed, OutsidePut}
+use Rattle.ags_drive.specs.Driven.{AreBehind, DrivenTo, DrivenWhole, DrivenInPart}
 use Rattle.ags_benchscript.specs.declared.commands.BenchCommand.{BenchCommand}
 use Rattle.ags_device.specs.Record.{DeviceRecord}
 use Rattle.ags_domain.specs.declared.values.Value.{Value}

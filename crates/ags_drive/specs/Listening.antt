@@ -1,6 +1,6 @@
 -- What a listener notes of the words that orders give to output registers, and what devices have heard of them.
 use Rattle.std.specs.Prelude.{◌≡◌, ◌+◌, ◌%◌, ◌^◌, false, List, [], ◌∷◌, ◌++◌, Option, Some, None}
-use Rattle.ags_benchplay.specs.Doing.{devices_given}
+use Rattle.ags_drive.specs.Doing.{devices_given}
 use Rattle.ags_device.specs.Record.{DeviceRecord}
 use Rattle.ags_ports.specs.declared.events.Done.{Done}
 use Rattle.ags_ports.specs.declared.events.Stored.{Stored}

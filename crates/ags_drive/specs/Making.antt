@@ -1,10 +1,10 @@
 -- What the functions that make acts come to.
 use Rattle.std.specs.Prelude.{◌≡◌, ℕ, ◌+◌, ◌%◌, ◌^◌, ◌⊎◌, List, [], ◌∷◌, count_by, slice_get, Option, Some, None}
-use Rattle.ags_benchplay.specs.Act.{Act}
-use Rattle.ags_benchplay.specs.Bench as play
-use Rattle.ags_benchplay.specs.Doing.{Does, NoDevice, NoFeed, OutsidePut, next_put, refusal, bench_after}
-use Rattle.ags_benchplay.specs.Driven.{AreBehind, Refused, Stopped}
-use Rattle.ags_benchplay.specs.Played.{Plays}
+use Rattle.ags_drive.specs.Act.{Act}
+use Rattle.ags_drive.specs.Bench as play
+use Rattle.ags_drive.specs.Doing.{Does, NoDevice, NoFeed, OutsidePut, next_put, refusal, bench_after}
+use Rattle.ags_drive.specs.Driven.{AreBehind, Refused, Stopped}
+use Rattle.ags_drive.specs.Played.{Plays}
 use Rattle.ags_device.specs.Devices.{changed_at}
 use Rattle.ags_device.specs.Record.{DeviceRecord, given}
 use Rattle.ags_domain.specs.declared.values.Value.{Value}

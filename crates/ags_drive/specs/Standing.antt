@@ -3,7 +3,7 @@ use Rattle.std.specs.Prelude.{◌≡◌, ◌≤◌, List, length}
 use Rattle.ags_device.specs.Record.{DeviceRecord}
 use Rattle.ags_ports.specs.declared.machines.Machine.{Machine}
 use Rattle.ags_timed.specs.Limit.{cycle_micros}
-use Rattle.ags_benchplay.specs.Bench as play
+use Rattle.ags_drive.specs.Bench as play
 use Rattle.ags_drive.specs.declared.benches.Bench.{Bench}
 
 -- with these devices at its registers

@@ -1,7 +1,7 @@
 //! The run of one line's command.
 
 ghost use Rattle.std.specs.Prelude.{map, OnOk, IfErr};
-ghost use Rattle.ags_benchplay.specs.Act.{acts_of_command};
+ghost use Rattle.ags_drive.specs.Act.{acts_of_command};
 ghost use Rattle.ags_benchscript.specs.Suiting.{NamesLocation};
 ghost use Rattle.ags_certtype.specs.Cert.{certificate_of};
 ghost use Rattle.ags_outside.specs.Count.{HasCause};

@@ -1,7 +1,7 @@
 //! Cycles of the timer.
 
 ghost use Rattle.std.specs.Prelude.{◌≡◌, false, [], ◌∷◌, ◌++◌, map, OnOk, IfErr};
-ghost use Rattle.ags_benchplay.specs.Act as act;
+ghost use Rattle.ags_drive.specs.Act as act;
 ghost use Rattle.ags_certtype.specs.Cert.{certificate_of};
 ghost use Rattle.ags_drive.specs.Drive.{is_drive_fault};
 ghost use Rattle.ags_drive.specs.Making.{SilentMade, SilentUnmade};

@@ -2,7 +2,7 @@
 
 ghost use Rattle.std.specs.Prelude.{◌≡◌, ◌++◌, codes, IfOk};
 ghost use Rattle.std.specs.String.{string_bytes};
-ghost use Rattle.ags_benchplay.specs.Shown.{device_text};
+ghost use Rattle.ags_drive.specs.Shown.{device_text};
 
 use ags_word::{SixDigits, Word};
 use std::alloc::{AllocError, Global};
@@ -14,7 +14,7 @@ struct Last(Option<Word>);
 
 impl fmt::Display for Last {
     ghost use Rattle.std.specs.Prelude.{Some};
-    ghost use Rattle.ags_benchplay.specs.Shown.{last_text};
+    ghost use Rattle.ags_drive.specs.Shown.{last_text};
 
     ghost output = { λ last. Some (last_text last.0) };
 
@@ -46,7 +46,7 @@ struct Told(&'static str, usize, DeviceCounts);
 
 impl fmt::Display for Told {
     ghost use Rattle.std.specs.Prelude.{Some};
-    ghost use Rattle.ags_benchplay.specs.Shown.{device_text};
+    ghost use Rattle.ags_drive.specs.Shown.{device_text};
 
     ghost output = { λ device. Some (device_text device.0.now device.1 device.2.left device.2.heard device.2.last) };
 

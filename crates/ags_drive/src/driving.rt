@@ -1,9 +1,9 @@
 //! The run of a bench script.
 
 ghost use Rattle.std.specs.Prelude.{◌<◌, List, None, length, map, IsErrOf};
-ghost use Rattle.ags_benchplay.specs.Act.{Act, acts_of_script};
-ghost use Rattle.ags_benchplay.specs.Bench.{start_bench};
-ghost use Rattle.ags_benchplay.specs.Cut.{IsRunWhereCut, IsSafeWhereCut};
+ghost use Rattle.ags_drive.specs.Act.{Act, acts_of_script};
+ghost use Rattle.ags_drive.specs.Bench.{start_bench};
+ghost use Rattle.ags_drive.specs.Cut.{IsRunWhereCut, IsSafeWhereCut};
 ghost use Rattle.ags_benchscript.specs.Script.{IsReadFor};
 ghost use Rattle.ags_benchscript.specs.Suiting.{Suits};
 ghost use Rattle.ags_certtype.specs.Cert.{certificate_of};
@@ -18,9 +18,9 @@ ghost use Rattle.ags_safe.specs.Safe.{Safe};
 ghost use Rattle.ags_drive.specs.Drive.{Drives, is_drive_fault};
 
 use crate::drive_error::DriveError;
+use crate::laws::{bench_run_is_a_run_of_its_certificate, bench_run_is_safe};
 use crate::script_run::run_script;
 use crate::starting::begin;
-use ags_benchplay::laws::{bench_run_is_a_run_of_its_certificate, bench_run_is_safe};
 use ags_benchscript::BenchScript;
 use ags_benchscript::laws::scripts_suit_their_machine;
 use ags_certtype::Cert;

@@ -1,9 +1,9 @@
 //! Words that devices give, and that are put into input registers where the certificate declares them.
 
 ghost use Rattle.std.specs.Prelude.{◌≡◌, false, ◌<◌, ◌+◌, [], ◌∷◌, length, map, slice_get, IsSome, IsTrue, IfSome, OnOk, IfErr, Some, None};
-ghost use Rattle.ags_benchplay.specs.Act as act;
-ghost use Rattle.ags_benchplay.specs.Bench as play;
-ghost use Rattle.ags_benchplay.specs.Doing as doing;
+ghost use Rattle.ags_drive.specs.Act as act;
+ghost use Rattle.ags_drive.specs.Bench as play;
+ghost use Rattle.ags_drive.specs.Doing as doing;
 ghost use Rattle.ags_certtype.specs.Cert.{certificate_of};
 ghost use Rattle.ags_device.specs.Devices.{changed_at};
 ghost use Rattle.ags_device.specs.Record.{given};

@@ -1,8 +1,8 @@
 //! What the devices hear of the words that orders give.
 
 ghost use Rattle.std.specs.Prelude.{◌≡◌, length, map, OnOk, OnErr, Some};
-ghost use Rattle.ags_benchplay.specs.Doing.{devices_given};
-ghost use Rattle.ags_benchplay.specs.Driven.{AreBehind};
+ghost use Rattle.ags_drive.specs.Doing.{devices_given};
+ghost use Rattle.ags_drive.specs.Driven.{AreBehind};
 ghost use Rattle.ags_drive.specs.Listening.{devices_told};
 
 use ags_device::{Device, hear_all};

@@ -1,7 +1,7 @@
 //! Devices that leave, and those that are left at the end, a line each.
 
 ghost use Rattle.std.specs.Prelude.{◌≡◌, ◌<◌, ℕ, [], ◌∷◌, length, map, slice_get, OnOk, IfErr};
-ghost use Rattle.ags_benchplay.specs.Act as act;
+ghost use Rattle.ags_drive.specs.Act as act;
 ghost use Rattle.ags_device.specs.Devices.{kept_of, plan_of};
 ghost use Rattle.ags_device.specs.Record.{last_of};
 ghost use Rattle.ags_domain.specs.declared.values.Value.{Value};

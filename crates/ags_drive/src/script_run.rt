@@ -1,7 +1,7 @@
 //! The run of a script's lines, one after another.
 
 ghost use Rattle.std.specs.Prelude.{length, map, OnOk, IfErr};
-ghost use Rattle.ags_benchplay.specs.Act.{acts_of, acts_of_script};
+ghost use Rattle.ags_drive.specs.Act.{acts_of, acts_of_script};
 ghost use Rattle.ags_benchscript.specs.Suiting.{Suits};
 ghost use Rattle.ags_certtype.specs.Cert.{certificate_of};
 ghost use Rattle.ags_outside.specs.Count.{HasCause};

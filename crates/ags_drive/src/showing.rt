@@ -1,7 +1,7 @@
 //! What is shown of the machine: a line, sent with its line feed.
 
 ghost use Rattle.std.specs.Prelude.{◌≡◌, ◌<◌, List, [], ◌∷◌, length, OnOk, IfErr};
-ghost use Rattle.ags_benchplay.specs.Act as act;
+ghost use Rattle.ags_drive.specs.Act as act;
 ghost use Rattle.ags_device.specs.Record.{DeviceRecord};
 ghost use Rattle.ags_domain.specs.declared.values.Value.{Value};
 ghost use Rattle.ags_outside.specs.Count.{HasCause};

@@ -1,7 +1,7 @@
 //! The bench before the first act.
 
 ghost use Rattle.std.specs.Prelude.{◌≡◌, List, false, None, IfOk, IfErr};
-ghost use Rattle.ags_benchplay.specs.Bench.{start_bench};
+ghost use Rattle.ags_drive.specs.Bench.{start_bench};
 ghost use Rattle.ags_certtype.specs.Cert.{certificate_of};
 ghost use Rattle.ags_core.specs.Core.{start_state};
 ghost use Rattle.ags_device.specs.Record.{DeviceRecord};

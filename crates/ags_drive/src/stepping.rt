@@ -1,7 +1,7 @@
 //! Steps, pulses, and the steps of a cycle, of which the devices hear.
 
 ghost use Rattle.std.specs.Prelude.{◌≡◌, false, List, [], ◌∷◌, map, replicate, OnOk, IfErr};
-ghost use Rattle.ags_benchplay.specs.Act as act;
+ghost use Rattle.ags_drive.specs.Act as act;
 ghost use Rattle.ags_device.specs.Record.{DeviceRecord};
 ghost use Rattle.ags_domain.specs.declared.values.Value.{Value};
 ghost use Rattle.ags_safe.specs.Certificate.{Certificate};

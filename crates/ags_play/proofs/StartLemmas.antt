@@ -14,7 +14,7 @@ use Rattle.ags_ports.specs.declared.events.Phase.TheVariants.{Running}
 use Rattle.ags_ports.specs.declared.machines.Machine.{Machine}
 use Rattle.ags_ports.specs.Port.{position_of, set_at}
 use Rattle.ags_ports.specs.State.{State, IsState, cells_with_word}
-use Rattle.ags_posts.specs.InRow.{HasFixedWords}
+use Rattle.ags_safe.specs.InRow.{HasFixedWords}
 use Rattle.ags_safe.specs.Certificate.{Certificate}
 use Rattle.ags_safe.specs.Start.{IsStart}
 use Rattle.ags_script.specs.declared.commands.Command.{Command}

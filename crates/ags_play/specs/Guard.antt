@@ -6,7 +6,7 @@ use Rattle.ags_domain.specs.declared.values.Value.{Value}
 use Rattle.ags_ports.specs.declared.machines.Machine.{Machine}
 use Rattle.ags_ports.specs.Port.{position_of, register_at}
 use Rattle.ags_ports.specs.State.{State, cell}
-use Rattle.ags_posts.specs.InRow.{AreInputsHeld}
+use Rattle.ags_safe.specs.InRow.{AreInputsHeld}
 use Rattle.ags_row.specs.Limit.{input_limit}
 use Rattle.ags_safe.specs.Certificate.{Certificate}
 use Rattle.ags_safe.specs.Start.{IsStartWord}

@@ -13,7 +13,7 @@ use Rattle.ags_verdict.specs.InOrder.{InOrder}
 use Rattle.ags_verdict.specs.Fault.{refusal_of, IsRowJudged, IsRowJudgedAt}
 use Rattle.ags_verdict.specs.declared.verdicts.RowFault.{RowFault}
 use Rattle.ags_verdict.specs.declared.verdicts.Refusal.{Refusal}
-use Rattle.ags_walk.specs.Counting.{HasCases}
+use Rattle.ags_verdict.specs.Counting.{HasCases}
 use Rattle.ags_certtype.specs.Cert.{Stated, certificate_of}
 use Rattle.ags_certtype.specs.Edit.{IsNoRow, ReplacesLimit, ReplacesRow, with_row}
 use Rattle.ags_certtype.specs.declared.edit_errors.EditError.{EditError}

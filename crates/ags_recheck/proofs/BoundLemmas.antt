@@ -6,9 +6,9 @@ use Rattle.ags_domain.specs.declared.values.Value.{Value}
 use Rattle.ags_domain.specs.declared.word_sets.WordSet.{WordSet}
 use Rattle.ags_ports.specs.declared.machines.Machine.{Machine}
 use Rattle.ags_row.specs.declared.rows.Row.{Row}
-use Rattle.ags_posts.specs.Case.{IsCode}
+use Rattle.ags_safe.specs.Case.{IsCode}
 use Rattle.ags_verdict.specs.Locality.{HasPostAt}
-use Rattle.ags_walk.specs.Counting.{HasCases, number_with}
+use Rattle.ags_verdict.specs.Counting.{HasCases, number_with}
 use Rattle.ags_certtype.specs.Cert.{Stated}
 use Rattle.ags_certtype.specs.Edit.{with_row}
 use Rattle.ags_recheck.specs.Bound.{HaveCasesAt, IsMostOfRow}

@@ -5,7 +5,7 @@ use Rattle.ags_domain.specs.Value.{value_meaning}
 use Rattle.ags_domain.specs.declared.values.Value.{Value}
 use Rattle.ags_row.specs.Limit.{Limiting}
 use Rattle.ags_row.specs.declared.rows.Row.{Row}
-use Rattle.ags_walk.specs.Counting.{HasCases, HaveCases}
+use Rattle.ags_verdict.specs.Counting.{HasCases, HaveCases}
 
 module _ (image : List (Option ℕ)) (limits : Limiting Value) where
   last_suc : (rows : List (Row Value)) (i cases : ℕ) (row : Row Value) → i < length rows → row ≡ get_or rows i row → HaveCases value_meaning image limits (take (suc i) rows) cases

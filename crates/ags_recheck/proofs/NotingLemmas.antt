@@ -9,10 +9,10 @@ use Rattle.ags_domain.specs.declared.values.Value.{Value}
 use Rattle.ags_ports.specs.declared.machines.Machine.{Machine}
 use Rattle.ags_row.specs.Limit.{Limiting}
 use Rattle.ags_row.specs.declared.rows.Row.{Row}
-use Rattle.ags_posts.specs.Case.{Case, case_of}
-use Rattle.ags_posts.specs.Posts.{Outcome, IsPostsOfCase}
-use Rattle.ags_posts.specs.declared.answers.PostPair.{PostPair}
-use Rattle.ags_posts.specs.declared.answers.Stop.{Stop}
+use Rattle.ags_safe.specs.Case.{Case, case_of}
+use Rattle.ags_safe.specs.Posts.{Outcome, IsPostsOfCase}
+use Rattle.ags_safe.specs.declared.answers.PostPair.{PostPair}
+use Rattle.ags_safe.specs.declared.answers.Stop.{Stop}
 use Rattle.ags_verdict.specs.Locality.{OneGoesTo, CaseGoesTo}
 use Rattle.ags_verdict.specs.RowCase.{RowCase, case_in}
 

@@ -7,14 +7,14 @@ use Rattle.ags_domain.specs.declared.word_sets.WordSet.{WordSet}
 use Rattle.ags_ports.specs.declared.machines.Machine.{Machine}
 use Rattle.ags_row.specs.Limit.{Limiting}
 use Rattle.ags_row.specs.declared.rows.Row.{Row}
-use Rattle.ags_posts.specs.Case.{IsCode}
+use Rattle.ags_safe.specs.Case.{IsCode}
 use Rattle.ags_verdict.specs.Fault.{IsCaseJudged}
 use Rattle.ags_verdict.specs.InOrder.{InOrder}
 use Rattle.ags_verdict.specs.Locality.{CaseGoesTo}
 use Rattle.ags_verdict.specs.RowCase.{RowCase, cases_in, case_in}
 use Rattle.ags_verdict.specs.declared.verdicts.RowFault.{RowFault}
 use Rattle.ags_verdict.specs.declared.verdicts.RowFault.TheVariants.{CodeUnknown}
-use Rattle.ags_walk.specs.Counting.{HasCases, number_with}
+use Rattle.ags_verdict.specs.Counting.{HasCases, number_with}
 use Rattle.ags_certtype.specs.Cert.{Stated, certificate_of}
 use Rattle.ags_recheck.specs.Locations.{has_location}
 use Rattle.ags_recheck.specs.Kept.{IsRowKept}

@@ -8,7 +8,7 @@ use Rattle.ags_domain.specs.declared.values.Value.{Value}
 use Rattle.ags_ports.specs.declared.machines.Machine.{Machine}
 use Rattle.ags_row.specs.Limit.{Limiting}
 use Rattle.ags_row.specs.declared.rows.Row.{Row}
-use Rattle.ags_walk.specs.Counting.{HasCases}
+use Rattle.ags_verdict.specs.Counting.{HasCases}
 use Rattle.ags_verdict.specs.Locality.{HasPostAt}
 use Rattle.ags_certtype.specs.Cert.{Stated}
 use Rattle.ags_recheck.specs.Bound.{HaveCasesAt}

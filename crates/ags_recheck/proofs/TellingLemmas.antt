@@ -17,8 +17,8 @@ use Rattle.ags_row.specs.declared.rows.Row.{Row}
 use Rattle.ags_verdict.specs.Verdict.{IsVerdict}
 use Rattle.ags_verdict.specs.declared.verdicts.Verdict.{Verdict}
 use Rattle.ags_verdict.proofs.VerdictLemmas.{verdict_one}
-use Rattle.ags_answered.proofs.ToldLemmas.{is_within}
-use Rattle.ags_answered.proofs.VerdictLemmas.{some_verdict}
+use Rattle.ags_check.proofs.ToldLemmas.{is_within}
+use Rattle.ags_check.proofs.AnswerLemmas.{some_verdict}
 use Rattle.ags_certtype.specs.Cert.{Stated, certificate_of}
 use Rattle.ags_certtype.specs.Edit.{AreCellsWithin, IsLeastOutside, IsNoRow, IsUseWithin, others_at, with_limit, with_row}
 use Rattle.ags_certtype.specs.Limit.{most_rows_at_one}

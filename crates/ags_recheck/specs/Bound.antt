@@ -6,7 +6,7 @@ use Rattle.ags_ports.specs.declared.machines.Machine.{Machine}
 use Rattle.ags_row.specs.Limit.{Limiting}
 use Rattle.ags_row.specs.declared.rows.Row.{Row}
 use Rattle.ags_verdict.specs.Locality.{HasPostAt}
-use Rattle.ags_walk.specs.Counting.{HasCases, HaveCases}
+use Rattle.ags_verdict.specs.Counting.{HasCases, HaveCases}
 use Rattle.ags_certtype.specs.declared.edit_errors.EditError.{EditError}
 use Rattle.ags_check.specs.Judging.{Judging}
 use Rattle.ags_edits.specs.declared.edits.Edit.{Edit}

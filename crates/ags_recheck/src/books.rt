@@ -9,7 +9,7 @@ ghost use Rattle.ags_verdict.specs.InOrder.{InOrder};
 ghost use Rattle.ags_verdict.specs.Fault.{IsRowJudgedAt};
 ghost use Rattle.ags_verdict.specs.Verdict.{IsVerdict};
 ghost use Rattle.ags_verdict.specs.declared.verdicts.Verdict.{Verdict};
-ghost use Rattle.ags_walk.specs.Counting.{HaveCases};
+ghost use Rattle.ags_verdict.specs.Counting.{HaveCases};
 ghost use Rattle.ags_certtype.specs.Cert.{certificate_of};
 ghost use Rattle.ags_certtype.specs.Edit.{IsNoRow};
 ghost use Rattle.ags_certtype.specs.declared.edit_errors.EditError.{EditError};

@@ -5,7 +5,7 @@ ghost use Rattle.ags_domain.specs.Value.{value_meaning};
 ghost use Rattle.ags_domain.specs.declared.values.Value.{Value};
 ghost use Rattle.ags_verdict.specs.Fault.{refusal_of};
 ghost use Rattle.ags_verdict.specs.declared.verdicts.RowFault.{RowFault};
-ghost use Rattle.ags_walk.specs.Counting.{HasCases};
+ghost use Rattle.ags_verdict.specs.Counting.{HasCases};
 ghost use Rattle.ags_recheck.specs.Locations.{has_location};
 ghost use Rattle.ags_recheck.specs.Kept.{IsItemKept};
 

@@ -2,12 +2,12 @@
 
 ghost use Rattle.std.specs.Prelude.{◌≡◌, ◌≢◌, ◌+◌, ◌<◌, ◌≤◌, ◌⊎◌, ◌↔◌, ℕ, true, false, Any, IfOk, IfSome, Ok, length};
 ghost use Rattle.ags_domain.specs.Value.{value_meaning};
-ghost use Rattle.ags_posts.specs.Going.{GoWithin};
+ghost use Rattle.ags_safe.specs.Going.{GoWithin};
 ghost use Rattle.ags_verdict.specs.Fault.{IsCaseJudged};
 ghost use Rattle.ags_verdict.specs.InOrder.{InOrder};
 ghost use Rattle.ags_verdict.specs.Locality.{GoesTo, OneGoesTo, CaseGoesTo};
 ghost use Rattle.ags_verdict.specs.RowCase.{case_in};
-ghost use Rattle.ags_walk.specs.Counting.{HasCases};
+ghost use Rattle.ags_verdict.specs.Counting.{HasCases};
 ghost use Rattle.ags_certtype.specs.Cert.{certificate_of};
 ghost use Rattle.ags_recheck.specs.Locations.{has_location};
 ghost use Rattle.ags_recheck.specs.Kept.{IsRowKept};
@@ -23,7 +23,7 @@ use ags_ports::laws::machine_is_made_of_tables;
 use ags_row::{Post, Row};
 use ags_steps::Steps;
 use ags_transfer::{PostPair, code, put_posts};
-use ags_walk::{OneCase, cases_of};
+use ags_verdict::{OneCase, cases_of};
 use std::sync::ledger::Ledger;
 
 /// Notes where a post goes, if it is there.

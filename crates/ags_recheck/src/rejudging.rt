@@ -4,7 +4,7 @@ ghost use Rattle.std.specs.Prelude.{◌≡◌, ◌+◌, ◌<◌, ◌≤◌, ℕ,
 ghost use Rattle.ags_domain.specs.Value.{value_meaning};
 ghost use Rattle.ags_domain.specs.declared.values.Value.{Value};
 ghost use Rattle.ags_row.specs.declared.rows.Row.{Row};
-ghost use Rattle.ags_walk.specs.Counting.{HasCases, HaveCases};
+ghost use Rattle.ags_verdict.specs.Counting.{HasCases, HaveCases};
 ghost use Rattle.ags_recheck.specs.Bound.{HaveCasesAt};
 ghost use Rattle.ags_recheck.specs.Locations.{has_location};
 ghost use Rattle.ags_recheck.specs.Kept.{IsItemKept, AreItemsKept, AreOthersKept, IsBeforeEdit};

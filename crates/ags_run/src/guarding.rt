@@ -6,7 +6,7 @@ ghost use Rattle.ags_domain.specs.Value.{value_meaning};
 ghost use Rattle.ags_play.specs.Guard.{AreInputsInside, IsInputInside, IsFirstOutside, IsFound};
 ghost use Rattle.ags_ports.specs.Port.{held_port};
 ghost use Rattle.ags_ports.specs.State.{cell};
-ghost use Rattle.ags_posts.specs.InRow.{AreInputsHeld};
+ghost use Rattle.ags_safe.specs.InRow.{AreInputsHeld};
 ghost use Rattle.ags_safe.specs.Start.{IsFirstWord, IsStartWord};
 ghost use Rattle.ags_run.specs.Play.{outside_of};
 ghost use Rattle.ags_run.specs.Playing.{guard_in};

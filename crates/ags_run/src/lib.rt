@@ -1,7 +1,7 @@
 //! The play of a script on the machine and its panel. `play` makes the events that `ags_play` defines, and prints their
 //! text, under a certificate as its guard or under none. It stands on `ags_play` for what a play is, on `ags_script`
 //! for commands, on `ags_core`, `ags_timed`, `ags_ports` and `ags_image` for the machine, on `ags_deda` for the panel,
-//! on `ags_certtype`, `ags_safe`, `ags_posts` and `ags_domain` for what a certificate declares, on `ags_outside` for the
+//! on `ags_certtype`, `ags_safe`, `ags_safe` and `ags_domain` for what a certificate declares, on `ags_outside` for the
 //! output, on `ags_text` and `ags_word` for digits, and on `arrayvec`.
 #![tactic(auto)]
 

@@ -9,8 +9,8 @@ use Rattle.ags_ports.specs.declared.machines.Machine.{Machine}
 use Rattle.ags_row.specs.Limit.{cell_limit}
 use Rattle.ags_row.specs.declared.posts.Post.{Post}
 use Rattle.ags_row.specs.declared.rows.Row.{Row}
-use Rattle.ags_posts.specs.Case.{Case, case_of, IsCode}
-use Rattle.ags_posts.specs.Posts.{Outcome, IsPostsOfCase}
+use Rattle.ags_safe.specs.Case.{Case, case_of, IsCode}
+use Rattle.ags_safe.specs.Posts.{Outcome, IsPostsOfCase}
 use Rattle.ags_safe.specs.Certificate.{Certificate}
 use Rattle.ags_safe.specs.Accepted.{IsCovered, IsCaseAccepted, IsRowAccepted, Accepted}
 use Rattle.ags_safe.specs.Failing.{Item, CellItem, StartItem, CodeItem, CaseItem, Fault, InitRange, StartUncovered, CodeUnknown, Stopped, NotCovered, StandsAt, IsJudged, IsUncovered, CaseFails, Fails, AreAnswered}

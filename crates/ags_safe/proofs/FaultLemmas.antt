@@ -11,11 +11,11 @@ use Rattle.ags_ports.specs.Machine.{IsMachine}
 use Rattle.ags_row.specs.Flag.{indicator_number}
 use Rattle.ags_row.specs.declared.posts.Post.{Post}
 use Rattle.ags_row.specs.declared.rows.Row.{Row}
-use Rattle.ags_posts.specs.Case.{Case, case_of}
-use Rattle.ags_posts.specs.Posts.{Outcome, IsPostsOfCase}
-use Rattle.ags_posts.specs.declared.answers.PostPair.{PostPair}
-use Rattle.ags_posts.proofs.OneAnswerLemmas.{one_answer}
-use Rattle.ags_posts.proofs.CodeLemmas.{code_one}
+use Rattle.ags_safe.specs.Case.{Case, case_of}
+use Rattle.ags_safe.specs.Posts.{Outcome, IsPostsOfCase}
+use Rattle.ags_safe.specs.declared.answers.PostPair.{PostPair}
+use Rattle.ags_safe.proofs.OneAnswerLemmas.{one_answer}
+use Rattle.ags_safe.proofs.CodeLemmas.{code_one}
 use Rattle.ags_safe.specs.Certificate.{Certificate}
 use Rattle.ags_safe.specs.Accepted.{IsCovered, IsRowAccepted, Accepted}
 use Rattle.ags_safe.specs.Failing.{Item, CellItem, StartItem, CodeItem, CaseItem, Fault, Precedes, position_of_item, StandsAt, IsUncovered, CaseFails, Fails, IsFirstFault}

@@ -11,12 +11,12 @@ use Rattle.ags_row.specs.declared.ats.At.{At}
 use Rattle.ags_row.specs.declared.links.Link.{Link}
 use Rattle.ags_row.specs.declared.posts.Post.{Post}
 use Rattle.ags_row.specs.declared.rows.Row.{Row}
-use Rattle.ags_posts.specs.Case.{Case, case_of}
-use Rattle.ags_posts.specs.Posts.{Outcome, IsPostsOfCase}
-use Rattle.ags_posts.specs.Plain.{without_link, some_without_link, pair_without_link, outcome_without_link}
-use Rattle.ags_posts.specs.declared.answers.PostPair.{PostPair}
-use Rattle.ags_posts.proofs.PlainLemmas.{plain_case, back_case}
-use Rattle.ags_posts.proofs.GoingLemmas.{not_narrowed}
+use Rattle.ags_safe.specs.Case.{Case, case_of}
+use Rattle.ags_safe.specs.Posts.{Outcome, IsPostsOfCase}
+use Rattle.ags_safe.specs.PlainCase.{without_link, some_without_link, pair_without_link, outcome_without_link}
+use Rattle.ags_safe.specs.declared.answers.PostPair.{PostPair}
+use Rattle.ags_safe.proofs.PlainCaseLemmas.{plain_case, back_case}
+use Rattle.ags_safe.proofs.GoingLemmas.{not_narrowed}
 use Rattle.ags_safe.specs.Certificate.{Certificate}
 use Rattle.ags_safe.specs.Accepted.{HoldsStart, IsCovered, IsCaseAccepted, IsRowAccepted, Accepted}
 use Rattle.ags_safe.specs.Plain.{plain_value, PlainlyCovers, PlainlyHoldsStart, IsPlainlyCovered, IsCasePlainlyAccepted, IsRowPlainlyAccepted, PlainlyAccepted}

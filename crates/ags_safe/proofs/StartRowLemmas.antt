@@ -15,9 +15,9 @@ use Rattle.ags_row.specs.Limit.{cell_limit}
 use Rattle.ags_row.specs.declared.ats.At.{At}
 use Rattle.ags_row.specs.declared.links.Link.{Link}
 use Rattle.ags_row.specs.declared.rows.Row.{Row}
-use Rattle.ags_posts.specs.InRow.{IsInRow, AreCellsInLimits}
-use Rattle.ags_posts.specs.Linked.{LinkHolds}
-use Rattle.ags_posts.proofs.LinkLemmas.{linked_below}
+use Rattle.ags_safe.specs.InRow.{IsInRow, AreCellsInLimits}
+use Rattle.ags_safe.specs.Linked.{LinkHolds}
+use Rattle.ags_safe.proofs.LinkLemmas.{linked_below}
 use Rattle.ags_safe.specs.Accepted.{HoldsStart}
 use Rattle.ags_safe.specs.Certificate.{Certificate}
 use Rattle.ags_safe.specs.Start.{IsStartWord, IsStart}

@@ -21,12 +21,12 @@ use Rattle.ags_ports.proofs.ChangeLemmas.{inputs_told, outputs_told, here_told}
 use Rattle.ags_row.specs.Limit.{input_limit, output_limit}
 use Rattle.ags_row.specs.declared.posts.Post.{Post}
 use Rattle.ags_row.specs.declared.rows.Row.{Row}
-use Rattle.ags_posts.specs.Case.{Case, case_of}
-use Rattle.ags_posts.specs.InRow.{IsInRow, HasFixedWords, AreCellsInLimits}
-use Rattle.ags_posts.specs.OneStep.{AgreesWith, Follows, IsStoreInLimit, IsGivenInLimit}
-use Rattle.ags_posts.proofs.OneStepLemmas.{one_step}
-use Rattle.ags_posts.proofs.CoverLemmas.{covered, kept_in_limits}
-use Rattle.ags_posts.proofs.CodeLemmas.{code_has_word}
+use Rattle.ags_safe.specs.Case.{Case, case_of}
+use Rattle.ags_safe.specs.InRow.{IsInRow, HasFixedWords, AreCellsInLimits}
+use Rattle.ags_safe.specs.OneStep.{AgreesWith, Follows, IsStoreInLimit, IsGivenInLimit}
+use Rattle.ags_safe.proofs.OneStepLemmas.{one_step}
+use Rattle.ags_safe.proofs.CoverLemmas.{covered, kept_in_limits}
+use Rattle.ags_safe.proofs.CodeLemmas.{code_has_word}
 use Rattle.ags_safe.specs.Certificate.{Certificate, Suits}
 use Rattle.ags_safe.specs.Start.{IsDeclared}
 use Rattle.ags_safe.specs.Safe.{HasRowAt, IsSafeState, IsSafeStep}

@@ -9,10 +9,10 @@ use Rattle.ags_row.specs.Flag.{has_flag, indicator_number}
 use Rattle.ags_row.specs.Limit.{cell_limit}
 use Rattle.ags_row.specs.declared.posts.Post.{Post}
 use Rattle.ags_row.specs.declared.rows.Row.{Row}
-use Rattle.ags_posts.specs.Case.{Case, case_of, IsCode}
-use Rattle.ags_posts.specs.Posts.{Outcome, IsPostsOfCase}
-use Rattle.ags_posts.specs.declared.answers.Stop.{Stop}
-use Rattle.ags_posts.specs.declared.answers.Stop.TheVariants.{NoOrder, BadPort, FixedWrite, MayOverflow, CellRange, OutputRange}
+use Rattle.ags_safe.specs.Case.{Case, case_of, IsCode}
+use Rattle.ags_safe.specs.Posts.{Outcome, IsPostsOfCase}
+use Rattle.ags_safe.specs.declared.answers.Stop.{Stop}
+use Rattle.ags_safe.specs.declared.answers.Stop.TheVariants.{NoOrder, BadPort, FixedWrite, MayOverflow, CellRange, OutputRange}
 use Rattle.ags_safe.specs.Certificate.{Certificate}
 use Rattle.ags_safe.specs.Accepted.{IsFirstHeld, HoldsStart, IsCovered}
 

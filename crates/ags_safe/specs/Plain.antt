@@ -11,9 +11,9 @@ use Rattle.ags_row.specs.Limit.{Limiting, cell_limit}
 use Rattle.ags_row.specs.Cover.{cell_value, value_if}
 use Rattle.ags_row.specs.declared.posts.Post.{Post}
 use Rattle.ags_row.specs.declared.rows.Row.{Row}
-use Rattle.ags_posts.specs.Case.{Case, case_of, IsCode}
-use Rattle.ags_posts.specs.Plain.{IsPlainOfCase}
-use Rattle.ags_posts.specs.declared.answers.PostPair.{PostPair}
+use Rattle.ags_safe.specs.Case.{Case, case_of, IsCode}
+use Rattle.ags_safe.specs.PlainCase.{IsPlainOfCase}
+use Rattle.ags_safe.specs.declared.answers.PostPair.{PostPair}
 use Rattle.ags_safe.specs.Certificate.{Certificate}
 use Rattle.ags_safe.specs.Start.{IsStartWord}
 use Rattle.ags_safe.specs.Accepted.{IsFirstHeld}

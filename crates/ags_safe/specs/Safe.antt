@@ -11,7 +11,7 @@ use Rattle.ags_ports.specs.State.{State}
 use Rattle.ags_ports.specs.Step.{NamesNone}
 use Rattle.ags_ports.specs.Run.{Moment, Run, AreEvents, AtEachStep}
 use Rattle.ags_row.specs.Limit.{Limiting, output_limit, is_named}
-use Rattle.ags_posts.specs.InRow.{IsInRow, HasFixedWords, AreInputsHeld, AreCellsInLimits}
+use Rattle.ags_safe.specs.InRow.{IsInRow, HasFixedWords, AreInputsHeld, AreCellsInLimits}
 use Rattle.ags_safe.specs.Certificate.{Certificate}
 use Rattle.ags_safe.specs.Start.{IsStart, AreDeclared}
 

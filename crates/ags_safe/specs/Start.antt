@@ -9,7 +9,7 @@ use Rattle.ags_ports.specs.declared.machines.Machine.{Machine}
 use Rattle.ags_ports.specs.Port.{position_of}
 use Rattle.ags_ports.specs.State.{State, IsState, cell}
 use Rattle.ags_row.specs.Limit.{input_limit}
-use Rattle.ags_posts.specs.InRow.{HasFixedWords, AreInputsHeld}
+use Rattle.ags_safe.specs.InRow.{HasFixedWords, AreInputsHeld}
 use Rattle.ags_safe.specs.Certificate.{Certificate}
 
 -- a word that a cell may hold at the start, by the image's word there and what is stated of the start: the image's word, else one of

@@ -9,14 +9,14 @@ use Rattle.ags_domain.specs.declared.word_sets.WordSet.{WordSet}
 use Rattle.ags_ports.specs.declared.machines.Machine.{Machine}
 use Rattle.ags_ports.specs.Machine.{IsMachine}
 use Rattle.ags_row.specs.declared.rows.Row.{Row}
-use Rattle.ags_posts.proofs.CodeLemmas.{code_one}
+use Rattle.ags_safe.proofs.CodeLemmas.{code_one}
 use Rattle.ags_safe.specs.Accepted.{IsRowAccepted, Accepted}
 use Rattle.ags_safe.specs.Certificate.{Certificate}
 use Rattle.ags_verdict.specs.RowCase.{RowCase, cases_in, case_in}
 use Rattle.ags_verdict.proofs.CaseLemmas.{each_cases, cases_each}
 use Rattle.ags_verdict.proofs.VerdictLemmas.{accepted_of, refused_of}
-use Rattle.ags_walk.specs.Walk.{IsWalkedWith, IsWalkedAt}
-use Rattle.ags_walk.specs.declared.walks.AtRow.{AtRow}
+use Rattle.ags_verdict.specs.Walk.{IsWalkedWith, IsWalkedAt}
+use Rattle.ags_verdict.specs.declared.walks.AtRow.{AtRow}
 use Rattle.ags_tags.specs.Tag.{Scaling}
 use Rattle.ags_scale.specs.Accepted.{IsRowTagged, AreScalesAccepted}
 use Rattle.ags_scale.specs.Scaled.{AreRowsTagged, FailsFirst, IsScaled}
@@ -25,7 +25,7 @@ use Rattle.ags_scale.specs.declared.answers.TagFault.{TagFault}
 use Rattle.ags_scale.specs.declared.answers.Scaled.{Scaled}
 use Rattle.ags_scale.specs.declared.answers.Scaled.TheVariants.{Agree, Unsafe, StartMixed, Mixed, NotHeld}
 use Rattle.ags_scale.proofs.OneLemmas.{one_rows}
-use Rattle.ags_walk.proofs.OrderedLemmas.{each_at, each_counted, counted_in_order, counted_at}
+use Rattle.ags_verdict.proofs.OrderedLemmas.{each_at, each_counted, counted_in_order, counted_at}
 
 module _ {D : Type 0} (meaning : Meaning D) (machine : Machine) (image : List (Option ℕ)) (cert : Certificate D) (scales : Scaling) where
   abbrev Tagged : ℕ → Row D → RowCase → Result ℕ TagFault → Type 0

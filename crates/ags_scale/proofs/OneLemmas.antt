@@ -19,10 +19,10 @@ use Rattle.ags_ports.proofs.NamingLemmas.{decoding_same}
 use Rattle.ags_row.specs.Cover.{Covers}
 use Rattle.ags_row.specs.declared.posts.Post.{Post}
 use Rattle.ags_row.specs.declared.rows.Row.{Row}
-use Rattle.ags_posts.specs.Case.{Case}
-use Rattle.ags_posts.specs.Posts.{Outcome, IsPostsOfCase}
-use Rattle.ags_posts.specs.declared.answers.PostPair.{PostPair}
-use Rattle.ags_posts.proofs.OneAnswerLemmas.{one_answer}
+use Rattle.ags_safe.specs.Case.{Case}
+use Rattle.ags_safe.specs.Posts.{Outcome, IsPostsOfCase}
+use Rattle.ags_safe.specs.declared.answers.PostPair.{PostPair}
+use Rattle.ags_safe.proofs.OneAnswerLemmas.{one_answer}
 use Rattle.ags_safe.specs.Certificate.{Certificate}
 use Rattle.ags_safe.specs.Accepted.{HoldsStart, IsCovered, IsCaseAccepted, IsRowAccepted, Accepted}
 use Rattle.ags_safe.proofs.DecisionLemmas.{is_covered, start_is_held}
@@ -33,10 +33,10 @@ use Rattle.ags_verdict.specs.declared.verdicts.Verdict.TheVariants.{Certified, R
 use Rattle.ags_verdict.specs.declared.verdicts.Refusal.{Refusal}
 use Rattle.ags_verdict.proofs.CaseLemmas.{cases_each}
 use Rattle.ags_verdict.proofs.VerdictLemmas.{verdict_one, accepted_of}
-use Rattle.ags_answered.proofs.VerdictLemmas.{some_verdict}
+use Rattle.ags_check.proofs.AnswerLemmas.{some_verdict}
 use Rattle.ags_check.specs.Finding.{SomeRow, IsCover, IsStartRow}
-use Rattle.ags_walk.specs.Walk.{IsWalked, IsWalkedAt}
-use Rattle.ags_walk.specs.declared.walks.AtRow.{AtRow}
+use Rattle.ags_verdict.specs.Walk.{IsWalked, IsWalkedAt}
+use Rattle.ags_verdict.specs.declared.walks.AtRow.{AtRow}
 use Rattle.ags_tags.specs.declared.tags.Tag.{Tag}
 use Rattle.ags_tags.specs.declared.tags.Tag.TheVariants.{Raw, Scale}
 use Rattle.ags_tags.specs.declared.tags.RowTag.{RowTag}
@@ -53,7 +53,7 @@ use Rattle.ags_scale.specs.declared.answers.TagFault.TheVariants.{Mixes, Loses}
 use Rattle.ags_scale.specs.declared.answers.Scaled.{Scaled}
 use Rattle.ags_scale.specs.declared.answers.Scaled.TheVariants.{Agree, Unsafe, StartMixed, Mixed, NotHeld}
 use Rattle.ags_scale.proofs.JudgingLemmas.{told_scaled}
-use Rattle.ags_walk.proofs.OrderedLemmas.{some_in_order, with_number, one_walk}
+use Rattle.ags_verdict.proofs.OrderedLemmas.{some_in_order, with_number, one_walk}
 
 some_one : {A : Type 0} (left right : A) → ◌≡◌ {A = Option A} (Some left) (Some right) → left ≡ right
 some_one left right same = cc

@@ -18,12 +18,12 @@ use Rattle.ags_ports.specs.Run.{Moment, Run, AreEvents, AtEachStep}
 use Rattle.ags_ports.proofs.StateLemmas.{step_keeps}
 use Rattle.ags_row.specs.declared.posts.Post.{Post}
 use Rattle.ags_row.specs.declared.rows.Row.{Row}
-use Rattle.ags_posts.specs.Case.{Case, case_of}
-use Rattle.ags_posts.specs.InRow.{IsInRow, AreCellsInLimits}
-use Rattle.ags_posts.specs.OneStep.{AgreesWith, Follows}
-use Rattle.ags_posts.proofs.CodeLemmas.{code_has_word}
-use Rattle.ags_posts.proofs.OneStepLemmas.{one_step}
-use Rattle.ags_posts.proofs.CoverLemmas.{covered, kept_in_limits}
+use Rattle.ags_safe.specs.Case.{Case, case_of}
+use Rattle.ags_safe.specs.InRow.{IsInRow, AreCellsInLimits}
+use Rattle.ags_safe.specs.OneStep.{AgreesWith, Follows}
+use Rattle.ags_safe.proofs.CodeLemmas.{code_has_word}
+use Rattle.ags_safe.proofs.OneStepLemmas.{one_step}
+use Rattle.ags_safe.proofs.CoverLemmas.{covered, kept_in_limits}
 use Rattle.ags_safe.specs.Certificate.{Certificate}
 use Rattle.ags_safe.specs.Failing.{StandsAt}
 use Rattle.ags_safe.specs.Safe.{IsSafeState, IsSafeStep, Safe}

@@ -6,7 +6,7 @@ use Rattle.ags_domain.specs.declared.word_sets.WordSet.{WordSet}
 use Rattle.ags_ports.specs.declared.machines.Machine.{Machine}
 use Rattle.ags_row.specs.Flag.{has_flag, indicator_number}
 use Rattle.ags_row.specs.declared.rows.Row.{Row}
-use Rattle.ags_posts.specs.Case.{case_of, IsCode}
+use Rattle.ags_safe.specs.Case.{case_of, IsCode}
 use Rattle.ags_safe.specs.Accepted.{Accepted}
 use Rattle.ags_safe.specs.Certificate.{Certificate}
 use Rattle.ags_safe.specs.Failing.{StandsAt}

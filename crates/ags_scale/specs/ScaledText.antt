@@ -1,6 +1,6 @@
 -- The line that what comes of scales is printed as. A location is four octal digits.
 use Rattle.std.specs.Prelude.{List, ℕ, [], ◌++◌, codes}
-use Rattle.ags_casetext.specs.CaseText.{case_text}
+use Rattle.ags_verdict.specs.CaseText.{case_text}
 use Rattle.ags_tags.specs.TagText.{tag_text, row_tag_text}
 use Rattle.ags_text.specs.Numeral.{octal4_text}
 use Rattle.ags_scale.specs.declared.answers.Scaled.{Scaled}

@@ -5,7 +5,7 @@ ghost use Rattle.ags_domain.specs.Value.{value_meaning};
 ghost use Rattle.ags_safe.specs.Accepted.{Accepted};
 ghost use Rattle.ags_safe.specs.Certificate.{Suits};
 ghost use Rattle.ags_safe.specs.Safe.{Safe};
-ghost use Rattle.ags_walk.specs.Counting.{HaveCases};
+ghost use Rattle.ags_verdict.specs.Counting.{HaveCases};
 ghost use Rattle.ags_certtype.specs.Cert.{certificate_of};
 ghost use Rattle.ags_scale.specs.Tagged.{KeepsScales};
 ghost use Rattle.ags_scale.specs.Accepted.{AreScalesAccepted};
@@ -22,7 +22,7 @@ use ags_ports::Machine;
 use ags_ports::laws::machine_is_made_of_tables;
 use ags_steps::Steps;
 use ags_tags::Scales;
-use ags_walk::{AtRow, walk_rows};
+use ags_verdict::{AtRow, walk_rows};
 use std::sync::ledger::Ledger;
 
 /// What comes of the rows of an accepted certificate for their tags.

@@ -16,12 +16,12 @@ use ags_image::Image;
 use ags_isa::{Decoded, decode};
 use ags_ports::laws::machine_is_made_of_tables;
 use ags_ports::{Machine, effective_address};
-use ags_posts::PostPair;
 use ags_row::Row;
+use ags_safe::PostPair;
 use ags_steps::Steps;
 use ags_tags::{RowTags, Scales};
 use ags_transfer::put_posts;
-use ags_walk::{Judge, OneCase};
+use ags_verdict::{Judge, OneCase};
 use std::sync::ledger::Ledger;
 
 /// A machine, an image and a certificate with scales, as the judge that asks of each accepted case whether it keeps its tags.

@@ -2,7 +2,7 @@
 
 ghost use Rattle.std.specs.Prelude.{◌≡◌, ◌<◌, ◌↔◌, IsTrue, IfSome};
 ghost use Rattle.ags_domain.specs.Value.{value_meaning};
-ghost use Rattle.ags_posts.specs.Going.{GoWithin};
+ghost use Rattle.ags_safe.specs.Going.{GoWithin};
 ghost use Rattle.ags_certtype.specs.Cert.{certificate_of};
 ghost use Rattle.ags_tags.specs.declared.tags.Tag.TheVariants.{Raw};
 ghost use Rattle.ags_scale.specs.RowChange.{TakesTag, TakesTags, HoldsTag, HoldsRaw};
@@ -13,8 +13,8 @@ use ags_certtype::Cert;
 use ags_check::{Serving, covering_row, start_row};
 use ags_domain::Value;
 use ags_image::Image;
-use ags_posts::PostPair;
 use ags_row::{Post, Row};
+use ags_safe::PostPair;
 use ags_tags::{RowTag, RowTags, Scales, Tag};
 use std::marker::Model;
 

@@ -3,8 +3,8 @@
 ghost use Rattle.std.specs.Prelude.{Some};
 
 use crate::answers::Scaled;
-use ags_casetext::CaseAt;
 use ags_text::FourDigits;
+use ags_verdict::CaseAt;
 use std::fmt;
 
 /// Prints that the scales agree, or what fails first, without a line feed; and nothing where the certificate isn't accepted

@@ -22,9 +22,9 @@ use Rattle.ags_ports.specs.Run.{AreEvents, AtEach, AtEachStep, Moment, Run}
 use Rattle.ags_ports.specs.State.{State, cell, word_here}
 use Rattle.ags_ports.specs.Step.{Steps}
 use Rattle.ags_ports.proofs.ChangeLemmas.{here_told}
-use Rattle.ags_posts.specs.Case.{is_erasable, case_of}
-use Rattle.ags_posts.specs.Posts.{IsPostsOfWord}
-use Rattle.ags_posts.specs.declared.answers.PostPair.{PostPair}
+use Rattle.ags_safe.specs.Case.{is_erasable, case_of}
+use Rattle.ags_safe.specs.Posts.{IsPostsOfWord}
+use Rattle.ags_safe.specs.declared.answers.PostPair.{PostPair}
 use Rattle.ags_row.specs.Flag.{has_flag, indicator_number, some_flag}
 use Rattle.ags_row.specs.declared.rows.Row.{Row}
 use Rattle.ags_safe.specs.Accepted.{IsRowAccepted}

@@ -25,7 +25,7 @@ use Rattle.ags_verdict.specs.Verdict.{IsVerdict}
 use Rattle.ags_verdict.specs.declared.verdicts.Verdict.{Verdict}
 use Rattle.ags_verdict.specs.declared.verdicts.Verdict.TheVariants.{Certified, Refused}
 use Rattle.ags_verdict.proofs.VerdictLemmas.{verdict_one}
-use Rattle.ags_answered.proofs.VerdictLemmas.{some_verdict}
+use Rattle.ags_check.proofs.AnswerLemmas.{some_verdict}
 use Rattle.ags_compare.specs.declared.comparing.Compared.{Compared}
 use Rattle.ags_compare.specs.declared.comparing.Compared.TheVariants.{Equal, Differs}
 use Rattle.ags_compare.specs.Comparison.{IsComparison}

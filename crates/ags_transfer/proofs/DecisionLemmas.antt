@@ -6,10 +6,10 @@ use Rattle.ags_domain.specs.Domain.{Meaning}
 use Rattle.ags_domain.specs.declared.operands.Operands.{Operands}
 use Rattle.ags_row.specs.Limit.{is_named}
 use Rattle.ags_row.specs.declared.posts.Post.{Post}
-use Rattle.ags_posts.specs.Case.{Case, is_erasable}
-use Rattle.ags_posts.specs.Told.{These, EveryWord}
-use Rattle.ags_posts.specs.Line.{Line, IsPostOf}
-use Rattle.ags_posts.specs.Posts.{Outcome, Decides}
+use Rattle.ags_safe.specs.Case.{Case, is_erasable}
+use Rattle.ags_safe.specs.Told.{These, EveryWord}
+use Rattle.ags_safe.specs.Line.{Line, IsPostOf}
+use Rattle.ags_safe.specs.Posts.{Outcome, Decides}
 use Rattle.ags_transfer.specs.declared.deciding.NewA.{NewA}
 use Rattle.ags_transfer.specs.Decision.{IsDecided}
 

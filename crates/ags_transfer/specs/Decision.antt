@@ -4,11 +4,11 @@ use Rattle.ags_domain.specs.Domain.{Meaning, IsFull}
 use Rattle.ags_domain.specs.declared.operands.Operands.{Operands}
 use Rattle.ags_row.specs.Limit.{is_named}
 use Rattle.ags_row.specs.declared.posts.Post.{Post}
-use Rattle.ags_posts.specs.Case.{Case}
+use Rattle.ags_safe.specs.Case.{Case}
 use Rattle.ags_transfer.specs.declared.deciding.NewA.{NewA}
-use Rattle.ags_posts.specs.declared.answers.PostPair.{PostPair}
-use Rattle.ags_posts.specs.declared.answers.Stop.{Stop}
-use Rattle.ags_posts.specs.declared.answers.Stop.TheVariants.{MayOverflow}
+use Rattle.ags_safe.specs.declared.answers.PostPair.{PostPair}
+use Rattle.ags_safe.specs.declared.answers.Stop.{Stop}
+use Rattle.ags_safe.specs.declared.answers.Stop.TheVariants.{MayOverflow}
 
 -- one post alone
 abbrev pub single_pair : {D : Type 0} → Post D → PostPair D

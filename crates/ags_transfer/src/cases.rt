@@ -1,10 +1,10 @@
 //! A case, and what stays as it is in it.
 
 ghost use Rattle.std.specs.Prelude.{◌≡◌, ◌<◌};
-ghost use Rattle.ags_posts.specs.Case.{next_of_row};
-ghost use Rattle.ags_posts.specs.Told.{IsTold, AreCellsTold};
-ghost use Rattle.ags_posts.specs.Line.{moves_on, cell_in_case, code_cell, IsPostOf};
-ghost use Rattle.ags_posts.specs.Posts.{loads, frees_q, unlinks};
+ghost use Rattle.ags_safe.specs.Case.{next_of_row};
+ghost use Rattle.ags_safe.specs.Told.{IsTold, AreCellsTold};
+ghost use Rattle.ags_safe.specs.Line.{moves_on, cell_in_case, code_cell, IsPostOf};
+ghost use Rattle.ags_safe.specs.Posts.{loads, frees_q, unlinks};
 
 use ags_domain::Domain;
 use ags_image::Image;
@@ -26,7 +26,7 @@ pub(crate) struct Case<'a, D: Domain> {
 }
 
 impl<'a, D: Domain> Model for Case<'a, D> {
-    ghost use Rattle.ags_posts.specs.Case.{Case, case_of};
+    ghost use Rattle.ags_safe.specs.Case.{Case, case_of};
 
     ghost Value = { Case D };
 

@@ -1,6 +1,6 @@
 //! The words that may stand at a row's location.
 
-ghost use Rattle.ags_posts.specs.Case.{IsCode};
+ghost use Rattle.ags_safe.specs.Case.{IsCode};
 
 use ags_domain::{Domain, WordSet};
 use ags_image::Image;

@@ -1,16 +1,16 @@
 //! What is answered once a post is known.
 
 ghost use Rattle.std.specs.Prelude.{◌≡◌, ◌<◌, ◌||◌, None, if◌then◌else◌};
-ghost use Rattle.ags_posts.specs.Told.{Told, IsTold};
-ghost use Rattle.ags_posts.specs.Line.{Line, IsPostOf};
-ghost use Rattle.ags_posts.specs.Posts.{IsSingle, Decides, IsStored, IsCleared};
+ghost use Rattle.ags_safe.specs.Told.{Told, IsTold};
+ghost use Rattle.ags_safe.specs.Line.{Line, IsPostOf};
+ghost use Rattle.ags_safe.specs.Posts.{IsSingle, Decides, IsStored, IsCleared};
 ghost use Rattle.ags_transfer.specs.Outcome.{outcome_of};
 ghost use Rattle.ags_transfer.specs.Decision.{single_pair, IsDecided};
 
 use crate::cases::Case;
 use ags_domain::{Domain, Operands};
-use ags_posts::Stop;
 use ags_row::{At, Post};
+use ags_safe::Stop;
 use ags_word::Word;
 
 /// What A may hold after an operation, and whether the indicator may be set by it.

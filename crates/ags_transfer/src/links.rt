@@ -3,7 +3,7 @@
 ghost use Rattle.std.specs.Prelude.{◌≡◌, neg_ℤ, true, Some};
 ghost use Rattle.ags_word.specs.Word.{val};
 ghost use Rattle.ags_row.specs.Link.{is_link};
-ghost use Rattle.ags_posts.specs.Linked.{link_to, link_of, link_grown, link_beside, link_with};
+ghost use Rattle.ags_safe.specs.Linked.{link_to, link_of, link_grown, link_beside, link_with};
 
 use crate::cases::Case;
 use ags_domain::Domain;

@@ -2,17 +2,17 @@
 
 ghost use Rattle.std.specs.Prelude.{◌<◌, ℕ};
 ghost use Rattle.ags_isa.specs.declared.orders.Order.TheVariants.{Cla, Clz, Ldq, Sto, Stq};
-ghost use Rattle.ags_posts.specs.Linked.{link_to, link_beside};
-ghost use Rattle.ags_posts.specs.Line.{IsPostOf, moves_on};
-ghost use Rattle.ags_posts.specs.Posts.{IsPosts};
+ghost use Rattle.ags_safe.specs.Linked.{link_to, link_beside};
+ghost use Rattle.ags_safe.specs.Line.{IsPostOf, moves_on};
+ghost use Rattle.ags_safe.specs.Posts.{IsPosts};
 ghost use Rattle.ags_transfer.specs.Outcome.{outcome_of};
 ghost use Rattle.ags_transfer.specs.Decision.{single_pair};
 
 use crate::cases::Case;
 use crate::links::link_to;
 use ags_domain::Domain;
-use ags_posts::Stop;
 use ags_row::Post;
+use ags_safe::Stop;
 use ags_word::ERASABLE;
 
 impl<'a, D: Domain> Case<'a, D> {

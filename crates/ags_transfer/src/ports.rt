@@ -2,15 +2,15 @@
 
 ghost use Rattle.std.specs.Prelude.{◌<◌, ℕ};
 ghost use Rattle.ags_isa.specs.declared.orders.Order.TheVariants.{Inp, Out};
-ghost use Rattle.ags_posts.specs.Line.{IsPostOf, moves_on};
-ghost use Rattle.ags_posts.specs.Posts.{IsPosts};
+ghost use Rattle.ags_safe.specs.Line.{IsPostOf, moves_on};
+ghost use Rattle.ags_safe.specs.Posts.{IsPosts};
 ghost use Rattle.ags_transfer.specs.Outcome.{outcome_of};
 ghost use Rattle.ags_transfer.specs.Decision.{single_pair};
 
 use crate::cases::Case;
 use ags_domain::Domain;
-use ags_posts::Stop;
 use ags_row::Post;
+use ags_safe::Stop;
 
 impl<'a, D: Domain> Case<'a, D> {
     /// INP: A becomes the word of an input register.

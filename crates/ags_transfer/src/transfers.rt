@@ -3,16 +3,16 @@
 ghost use Rattle.std.specs.Prelude.{◌≡◌, ℕ, Ok};
 ghost use Rattle.ags_domain.specs.Domain.{IsPart, is_negative, is_not_negative};
 ghost use Rattle.ags_isa.specs.declared.orders.Order.TheVariants.{Axt, Dly, Tix, Tmi, Tov, Tra, Tsq};
-ghost use Rattle.ags_posts.specs.Line.{Line, IsPostOf, moves_on};
-ghost use Rattle.ags_posts.specs.Posts.{IsPosts, IsPostLinked, IsPostOfPart, pair_of};
+ghost use Rattle.ags_safe.specs.Line.{Line, IsPostOf, moves_on};
+ghost use Rattle.ags_safe.specs.Posts.{IsPosts, IsPostLinked, IsPostOfPart, pair_of};
 ghost use Rattle.ags_transfer.specs.Outcome.{outcome_of};
 ghost use Rattle.ags_transfer.specs.Decision.{single_pair};
 
 use crate::cases::Case;
 use ags_domain::Domain;
 use ags_isa::{Order, encode};
-use ags_posts::{PostPair, Stop};
 use ags_row::{At, Post};
+use ags_safe::{PostPair, Stop};
 
 /// Two posts that may be there: a single one is the first.
 fn pair_of<D: Domain>(first: Option<Post<D>>, second: Option<Post<D>>) -> PostPair<D>

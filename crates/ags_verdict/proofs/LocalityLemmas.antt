@@ -8,9 +8,9 @@ use Rattle.ags_domain.specs.declared.word_sets.WordSet.{WordSet}
 use Rattle.ags_ports.specs.declared.machines.Machine.{Machine}
 use Rattle.ags_row.specs.declared.posts.Post.{Post}
 use Rattle.ags_row.specs.declared.rows.Row.{Row}
-use Rattle.ags_posts.specs.Case.{Case, IsCode}
-use Rattle.ags_posts.specs.Posts.{Outcome, IsPostsOfCase}
-use Rattle.ags_posts.specs.declared.answers.PostPair.{PostPair}
+use Rattle.ags_safe.specs.Case.{Case, IsCode}
+use Rattle.ags_safe.specs.Posts.{Outcome, IsPostsOfCase}
+use Rattle.ags_safe.specs.declared.answers.PostPair.{PostPair}
 use Rattle.ags_safe.specs.Certificate.{Certificate}
 use Rattle.ags_safe.specs.Accepted.{IsCovered}
 use Rattle.ags_verdict.specs.InOrder.{InOrder}

@@ -9,11 +9,11 @@ use Rattle.ags_ports.specs.declared.machines.Machine.{Machine}
 use Rattle.ags_ports.specs.Machine.{IsMachine}
 use Rattle.ags_row.specs.declared.posts.Post.{Post}
 use Rattle.ags_row.specs.declared.rows.Row.{Row}
-use Rattle.ags_posts.specs.Case.{Case, IsCode}
-use Rattle.ags_posts.specs.Posts.{Outcome}
-use Rattle.ags_posts.specs.declared.answers.PostPair.{PostPair}
-use Rattle.ags_posts.proofs.CodeLemmas.{code_one}
-use Rattle.ags_posts.proofs.OneAnswerLemmas.{one_answer}
+use Rattle.ags_safe.specs.Case.{Case, IsCode}
+use Rattle.ags_safe.specs.Posts.{Outcome}
+use Rattle.ags_safe.specs.declared.answers.PostPair.{PostPair}
+use Rattle.ags_safe.proofs.CodeLemmas.{code_one}
+use Rattle.ags_safe.proofs.OneAnswerLemmas.{one_answer}
 use Rattle.ags_safe.specs.Certificate.{Certificate}
 use Rattle.ags_safe.specs.Accepted.{IsCovered, IsCaseAccepted, IsRowAccepted, Accepted}
 use Rattle.ags_verdict.specs.InOrder.{InOrder}

@@ -5,7 +5,7 @@ use Rattle.ags_domain.specs.declared.word_sets.WordSet.{WordSet}
 use Rattle.ags_ports.specs.declared.machines.Machine.{Machine}
 use Rattle.ags_row.specs.Limit.{Limiting}
 use Rattle.ags_row.specs.declared.rows.Row.{Row}
-use Rattle.ags_posts.specs.Case.{IsCode}
+use Rattle.ags_safe.specs.Case.{IsCode}
 use Rattle.ags_safe.specs.Certificate.{Certificate}
 use Rattle.ags_safe.specs.Accepted.{IsCaseAccepted, IsRowAccepted}
 use Rattle.ags_verdict.specs.RowCase.{RowCase, cases_in, case_in}

@@ -6,3 +6,6 @@ pub mod Verdict
 pub mod Flat
 pub mod Locality
 pub mod VerdictText
+pub mod Walk
+pub mod Counting
+pub mod CaseText

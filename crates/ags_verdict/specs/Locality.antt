@@ -6,9 +6,9 @@ use Rattle.ags_ports.specs.declared.machines.Machine.{Machine}
 use Rattle.ags_row.specs.Limit.{Limiting}
 use Rattle.ags_row.specs.declared.posts.Post.{Post}
 use Rattle.ags_row.specs.declared.rows.Row.{Row}
-use Rattle.ags_posts.specs.Case.{Case, IsCode}
-use Rattle.ags_posts.specs.Posts.{IsPostsOfCase}
-use Rattle.ags_posts.specs.declared.answers.PostPair.{PostPair}
+use Rattle.ags_safe.specs.Case.{Case, IsCode}
+use Rattle.ags_safe.specs.Posts.{IsPostsOfCase}
+use Rattle.ags_safe.specs.declared.answers.PostPair.{PostPair}
 use Rattle.ags_verdict.specs.RowCase.{cases_in, case_in}
 
 -- a post that may be there goes to the location

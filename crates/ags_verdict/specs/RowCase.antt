@@ -6,7 +6,7 @@ use Rattle.ags_ports.specs.declared.machines.Machine.{Machine}
 use Rattle.ags_row.specs.Flag.{has_flag, indicator_number}
 use Rattle.ags_row.specs.Limit.{Limiting}
 use Rattle.ags_row.specs.declared.rows.Row.{Row}
-use Rattle.ags_posts.specs.Case.{Case, case_of}
+use Rattle.ags_safe.specs.Case.{Case, case_of}
 
 -- one word of a row's code, with one index and one indicator of the row
 pub record RowCase : Type 0 where

@@ -1,7 +1,7 @@
 //! What is answered of a certificate.
 
 use ags_domain::Operands;
-use ags_posts::Stop;
+use ags_safe::Stop;
 use ags_word::Word;
 
 /// What fails first in one row.
@@ -30,7 +30,7 @@ pub enum RowFault<D> {
 }
 
 /// The first item that fails of what is checked. Rows are numbered from 1, in the order of the certificate.
-#[derive(PartialEq, Eq, Drop)]
+#[derive(Drop)]
 pub enum Refusal<D> {
     /// An erasable cell's first word is not one of the cell's limit: the image's word, or 0 where nothing is stated of the start.
     InitRange {
@@ -116,7 +116,7 @@ pub enum Refusal<D> {
 }
 
 /// The answer of the checker.
-#[derive(PartialEq, Eq, Drop)]
+#[derive(Drop)]
 pub enum Verdict<D> {
     /// All that is checked holds.
     Certified {

@@ -3,8 +3,8 @@ use Rattle.std.specs.String.{string_bytes}
 use Rattle.std.specs.Prelude.{codes}
 use Rattle.std.specs.Fmt.{decimal}
 use Rattle.std.proofs.lemmas.Result.{IfOk-weaker}
-use Rattle.ags_benchplay.specs.BenchRun.{RefusedAct}
-use Rattle.ags_benchplay.specs.Doing.{NoDevice, NoFeed}
+use Rattle.ags_drive.specs.BenchRun.{RefusedAct}
+use Rattle.ags_drive.specs.Doing.{NoDevice, NoFeed}
 use Rattle.ags_bench.specs.Text.{met_line}
 use Rattle.ags_bench.proofs.driving.met_line.Goals as goal
 

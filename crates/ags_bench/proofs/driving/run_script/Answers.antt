@@ -1,6 +1,6 @@
 use Rattle.std.proofs.Common.{refl, inl}
-use Rattle.ags_benchplay.specs.BenchRun.{OutsideStart, RefusedAct}
-use Rattle.ags_benchplay.specs.Doing.{NoDevice, NoFeed, OutsidePut}
+use Rattle.ags_drive.specs.BenchRun.{OutsideStart, RefusedAct}
+use Rattle.ags_drive.specs.Doing.{NoDevice, NoFeed, OutsidePut}
 use Rattle.ags_bench.proofs.DrivingLemmas.{whole_runs, met_runs}
 use Rattle.ags_bench.proofs.driving.run_script.Goals as goal
 

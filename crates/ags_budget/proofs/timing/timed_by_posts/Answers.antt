@@ -2,7 +2,7 @@ use Rattle.std.proofs.Common.{refl}
 use Rattle.std.specs.Prelude.{Ok, Err}
 use Rattle.ags_domain.specs.Value.{value_meaning}
 use Rattle.ags_domain.specs.MeaningLaws.{value_lawful}
-use Rattle.ags_posts.proofs.OneAnswerLemmas.{one_answer}
+use Rattle.ags_safe.proofs.OneAnswerLemmas.{one_answer}
 use Rattle.ags_verdict.specs.RowCase.{case_in}
 use Rattle.ags_certtype.specs.Cert.{certificate_of}
 use Rattle.ags_budget.proofs.TimingLemmas.{covered_posts, no_stop, late_case, timed_case, posts_moved}

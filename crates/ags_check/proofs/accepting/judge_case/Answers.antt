@@ -3,8 +3,8 @@ use Rattle.std.specs.Prelude.{Ok, Err, IfSome}
 use Rattle.ags_domain.specs.Value.{value_meaning}
 use Rattle.ags_domain.specs.declared.values.Value.{Value}
 use Rattle.ags_row.specs.Limit.{Limiting}
-use Rattle.ags_posts.specs.Case.{case_of}
-use Rattle.ags_posts.specs.Posts.{IsPostsOfCase}
+use Rattle.ags_safe.specs.Case.{case_of}
+use Rattle.ags_safe.specs.Posts.{IsPostsOfCase}
 use Rattle.ags_safe.specs.Accepted.{IsCovered}
 use Rattle.ags_verdict.specs.Fault.{IsFirstUncovered}
 use Rattle.ags_certtype.specs.Cert.{certificate_of}

@@ -8,7 +8,7 @@ use Rattle.ags_verdict.specs.declared.verdicts.Refusal.{Refusal}
 use Rattle.ags_verdict.specs.declared.verdicts.Verdict.{Verdict}
 use Rattle.ags_verdict.specs.declared.verdicts.Verdict.TheVariants.{Certified, Refused}
 use Rattle.ags_verdict.proofs.VerdictLemmas.{accepted_of, certified_of, counted_of, verdict_one}
-use Rattle.ags_answered.proofs.FirstFaultLemmas.{fault_of_refusal, refusal_of_first}
+use Rattle.ags_check.proofs.FirstFaultLemmas.{fault_of_refusal, refusal_of_first}
 use Rattle.ags_certtype.specs.Cert.{certificate_of}
 use Rattle.ags_check.proofs.checking.check.Goals as goal
 

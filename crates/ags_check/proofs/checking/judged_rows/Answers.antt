@@ -7,8 +7,8 @@ use Rattle.ags_row.specs.declared.rows.Row.{Row}
 use Rattle.ags_verdict.specs.Fault.{IsCaseJudged}
 use Rattle.ags_verdict.specs.RowCase.{case_in}
 use Rattle.ags_verdict.specs.declared.verdicts.RowFault.TheVariants.{CodeUnknown}
-use Rattle.ags_walk.specs.Counting.{HaveCases}
-use Rattle.ags_walk.specs.Walk.{AreWalked}
+use Rattle.ags_verdict.specs.Counting.{HaveCases}
+use Rattle.ags_verdict.specs.Walk.{AreWalked}
 use Rattle.ags_certtype.specs.Cert.{certificate_of}
 use Rattle.ags_check.specs.Judging.{Judging}
 use Rattle.ags_check.proofs.RowsLemmas.{walked_judged}

@@ -1,6 +1,6 @@
 use Rattle.std.proofs.Common.{refl}
 use Rattle.std.proofs.lemmas.Result.{on_ok_weaker, MatchResult-weaker}
-use Rattle.ags_benchplay.specs.Act.{Feeds, Pulses}
+use Rattle.ags_drive.specs.Act.{Feeds, Pulses}
 use Rattle.ags_benchscript.specs.declared.commands.BenchCommand.TheVariants.{Step, Pulse, Cycle, ShowReg, ShowCell, ShowOut, Feed, Detach}
 use Rattle.ags_certtype.specs.Cert.{certificate_of}
 use Rattle.ags_drive.specs.Standing.{bench_of}

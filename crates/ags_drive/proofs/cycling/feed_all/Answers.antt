@@ -1,5 +1,5 @@
 use Rattle.std.proofs.Common.{◌≡◌, [], ◌∷◌, refl, arith}
-use Rattle.ags_benchplay.specs.Act.{FeedsInCycle, at_each}
+use Rattle.ags_drive.specs.Act.{FeedsInCycle, at_each}
 use Rattle.ags_certtype.specs.Cert.{certificate_of}
 use Rattle.ags_drive.proofs.JoinLemmas.{silent_made}
 use Rattle.ags_drive.proofs.ScriptLemmas.{positions_next, piece_more, piece_unmade, pieces_all}

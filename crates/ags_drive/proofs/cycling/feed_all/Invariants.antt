@@ -1,5 +1,5 @@
 use Rattle.std.proofs.Common.{map}
-use Rattle.ags_benchplay.specs.Act.{FeedsInCycle, at_each}
+use Rattle.ags_drive.specs.Act.{FeedsInCycle, at_each}
 use Rattle.ags_certtype.specs.Cert.{certificate_of}
 use Rattle.ags_drive.specs.Making.{SilentMade}
 use Rattle.ags_drive.specs.Standing.{IsBenchOf}

@@ -1,5 +1,5 @@
 use Rattle.std.proofs.Common.{◌≡◌, arith}
-use Rattle.ags_benchplay.specs.Act.{cycles}
+use Rattle.ags_drive.specs.Act.{cycles}
 use Rattle.ags_certtype.specs.Cert.{certificate_of}
 use Rattle.ags_drive.proofs.ScriptLemmas.{one_cycle, cycles_next, piece_more, piece_unmade, pieces_all}
 use Rattle.ags_drive.proofs.cycling.run_cycles.Goals as goal

@@ -1,6 +1,6 @@
 use Rattle.std.proofs.Common.{[], ◌∷◌, refl}
 use Rattle.std.proofs.lemmas.Result.{on_ok_weaker, MatchResult-weaker}
-use Rattle.ags_benchplay.specs.Act.{FeedsInCycle, Pulses, RunsCycle, at_each}
+use Rattle.ags_drive.specs.Act.{FeedsInCycle, Pulses, RunsCycle, at_each}
 use Rattle.ags_certtype.specs.Cert.{certificate_of}
 use Rattle.ags_drive.specs.Standing.{bench_of}
 use Rattle.ags_drive.proofs.JoinLemmas.{silent_made, made_on, unmade_after, unmade_before}

@@ -1,5 +1,5 @@
 use Rattle.std.proofs.Common.{refl, ◌∙◌}
-use Rattle.ags_benchplay.specs.Act.{Detaches}
+use Rattle.ags_drive.specs.Act.{Detaches}
 use Rattle.ags_drive.specs.Standing.{bench_of}
 use Rattle.ags_drive.proofs.JoinLemmas.{act_unmade}
 use Rattle.ags_drive.proofs.ShowLemmas.{detached_none, detached_made, detached_unsent}

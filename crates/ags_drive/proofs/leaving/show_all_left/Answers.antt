@@ -1,5 +1,5 @@
 use Rattle.std.proofs.Common.{◌≡◌, [], ◌∷◌, refl, arith, ◌∙◌}
-use Rattle.ags_benchplay.specs.Act.{ShowsDevice, at_each}
+use Rattle.ags_drive.specs.Act.{ShowsDevice, at_each}
 use Rattle.ags_drive.proofs.ScriptLemmas.{positions_next, piece_more, piece_unmade, pieces_all}
 use Rattle.ags_drive.proofs.leaving.show_all_left.Goals as goal
 

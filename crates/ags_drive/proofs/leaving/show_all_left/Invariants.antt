@@ -1,5 +1,5 @@
 use Rattle.std.proofs.Common.{◌≡◌, map}
-use Rattle.ags_benchplay.specs.Act.{ShowsDevice, at_each}
+use Rattle.ags_drive.specs.Act.{ShowsDevice, at_each}
 use Rattle.ags_domain.specs.declared.values.Value.{Value}
 use Rattle.ags_ports.specs.declared.machines.Machine.{Machine}
 use Rattle.ags_safe.specs.Certificate.{Certificate}

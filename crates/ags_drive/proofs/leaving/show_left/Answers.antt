@@ -1,6 +1,6 @@
 use Rattle.std.proofs.Common.{refl, arith, ◌∙◌}
 use Rattle.std.proofs.lemmas.Result.{on_ok_weaker, MatchResult-weaker}
-use Rattle.ags_benchplay.specs.Act.{ShowsDevice}
+use Rattle.ags_drive.specs.Act.{ShowsDevice}
 use Rattle.ags_drive.specs.Standing.{bench_of}
 use Rattle.ags_drive.proofs.GiveLemmas.{none_past}
 use Rattle.ags_drive.proofs.JoinLemmas.{act_unmade}

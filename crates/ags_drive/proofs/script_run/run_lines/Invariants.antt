@@ -1,5 +1,5 @@
 use Rattle.std.proofs.Common.{◌≡◌, map, take}
-use Rattle.ags_benchplay.specs.Act.{acts_of}
+use Rattle.ags_drive.specs.Act.{acts_of}
 use Rattle.ags_certtype.specs.Cert.{certificate_of}
 use Rattle.ags_drive.specs.Making.{Made}
 use Rattle.ags_drive.specs.Standing.{IsBenchOf}

@@ -1,5 +1,5 @@
 use Rattle.std.proofs.Common.{refl, arith, replicate, ◌≡◌}
-use Rattle.ags_benchplay.specs.Act.{MakesStep}
+use Rattle.ags_drive.specs.Act.{MakesStep}
 use Rattle.std.proofs.Common.{[], ◌∷◌}
 use Rattle.ags_drive.proofs.JoinLemmas.{silent_made}
 use Rattle.ags_drive.proofs.ScriptLemmas.{steps_next, piece_more, piece_unmade, pieces_all}

@@ -1,5 +1,5 @@
 use Rattle.std.proofs.Common.{map, replicate}
-use Rattle.ags_benchplay.specs.Act.{MakesStep}
+use Rattle.ags_drive.specs.Act.{MakesStep}
 use Rattle.ags_domain.specs.declared.values.Value.{Value}
 use Rattle.ags_safe.specs.Certificate.{Certificate}
 use Rattle.ags_drive.specs.Making.{SilentMade}

@@ -2,7 +2,7 @@ use Rattle.std.proofs.Common.{◌≡◌, true, refl}
 use Rattle.std.specs.Prelude.{Ok, Err}
 use Rattle.ags_domain.specs.Value.{value_meaning}
 use Rattle.ags_domain.specs.MeaningLaws.{value_lawful}
-use Rattle.ags_posts.proofs.OneAnswerLemmas.{one_answer}
+use Rattle.ags_safe.proofs.OneAnswerLemmas.{one_answer}
 use Rattle.ags_verdict.specs.RowCase.{case_in}
 use Rattle.ags_recheck.specs.Locations.{has_location}
 use Rattle.ags_recheck.proofs.NotingLemmas.{pair_noted, none_noted, posts_moved, same_noted}

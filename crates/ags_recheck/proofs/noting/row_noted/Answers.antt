@@ -3,8 +3,8 @@ use Rattle.std.specs.Prelude.{Some, None}
 use Rattle.ags_domain.specs.Value.{value_meaning}
 use Rattle.ags_domain.specs.declared.values.Value.{Value}
 use Rattle.ags_row.specs.Limit.{Limiting}
-use Rattle.ags_posts.specs.Case.{IsCode}
-use Rattle.ags_posts.proofs.CodeLemmas.{code_one}
+use Rattle.ags_safe.specs.Case.{IsCode}
+use Rattle.ags_safe.proofs.CodeLemmas.{code_one}
 use Rattle.ags_verdict.specs.RowCase.{cases_in}
 use Rattle.ags_recheck.proofs.RowLemmas.{row_kept, row_kept_none, steps_of_code}
 use Rattle.ags_recheck.proofs.noting.row_noted.Goals as goal

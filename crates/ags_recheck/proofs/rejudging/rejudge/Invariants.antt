@@ -2,7 +2,7 @@ use Rattle.std.proofs.Common.{◌≡◌, ℕ, ◌<◌, ◌≤◌, List, length, 
 use Rattle.ags_domain.specs.Value.{value_meaning}
 use Rattle.ags_domain.specs.declared.values.Value.{Value}
 use Rattle.ags_row.specs.declared.rows.Row.{Row}
-use Rattle.ags_walk.specs.Counting.{HasCases}
+use Rattle.ags_verdict.specs.Counting.{HasCases}
 use Rattle.ags_recheck.specs.Kept.{IsItemKept, IsBeforeEdit}
 use Rattle.ags_recheck.specs.declared.items.Item.{Item}
 use Rattle.ags_recheck.proofs.StepLemmas.{Spent}

@@ -3,7 +3,7 @@ use Rattle.ags_domain.specs.Value.{value_meaning}
 use Rattle.ags_domain.specs.declared.values.Value.{Value}
 use Rattle.ags_row.specs.Limit.{Limiting}
 use Rattle.ags_row.specs.declared.rows.Row.{Row}
-use Rattle.ags_walk.specs.Counting.{HaveCases}
+use Rattle.ags_verdict.specs.Counting.{HaveCases}
 use Rattle.ags_verdict.specs.RowCase.{case_in}
 use Rattle.ags_certtype.specs.Cert.{certificate_of}
 use Rattle.ags_check.proofs.AcceptedRowsLemmas.{handed_rows_judged}

@@ -2,7 +2,7 @@ use Rattle.std.proofs.Common.{inr, refl}
 use Rattle.std.specs.Prelude.{Ok, Err}
 use Rattle.ags_domain.specs.Value.{value_meaning}
 use Rattle.ags_domain.specs.MeaningLaws.{value_lawful}
-use Rattle.ags_posts.proofs.OneAnswerLemmas.{one_answer}
+use Rattle.ags_safe.proofs.OneAnswerLemmas.{one_answer}
 use Rattle.ags_verdict.specs.RowCase.{case_in}
 use Rattle.ags_certtype.specs.Cert.{certificate_of}
 use Rattle.ags_scale.proofs.TaggingLemmas.{no_stop, posts_moved}

@@ -1,6 +1,6 @@
 use Rattle.std.proofs.Common.{subst}
-use Rattle.ags_posts.specs.Case.{case_of}
-use Rattle.ags_posts.specs.Posts.{Outcome, IsPostsOfCase}
+use Rattle.ags_safe.specs.Case.{case_of}
+use Rattle.ags_safe.specs.Posts.{Outcome, IsPostsOfCase}
 use Rattle.ags_transfer.proofs.judging.posts.Goals as goal
 
 pub returns-in-Ok-clause-one_step : goal.returns-in-Ok-clause-one_step

@@ -1,4 +1,4 @@
-use Rattle.ags_posts.specs.Case.{case_of}
+use Rattle.ags_safe.specs.Case.{case_of}
 use Rattle.ags_transfer.specs.Outcome.{outcome_of}
 use Rattle.ags_transfer.proofs.judging.put_posts.Goals as goal
 

@@ -1,6 +1,6 @@
 use Rattle.std.proofs.Common.{◌∙◌, ap, ◌+ℤ◌, ℤ}
 use Rattle.ags_word.specs.Word.{val}
-use Rattle.ags_posts.specs.Linked.{link_of}
+use Rattle.ags_safe.specs.Linked.{link_of}
 use Rattle.ags_transfer.proofs.LinkLemmas.{sum_kept, taken_away}
 use Rattle.ags_transfer.proofs.links.after_difference.Goals as goal
 

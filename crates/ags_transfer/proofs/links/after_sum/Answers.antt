@@ -1,5 +1,5 @@
 use Rattle.std.proofs.Common.{◌∙◌, ap, ◌-ℤ◌, ℤ}
-use Rattle.ags_posts.specs.Linked.{link_of}
+use Rattle.ags_safe.specs.Linked.{link_of}
 use Rattle.ags_transfer.proofs.LinkLemmas.{difference_kept}
 use Rattle.ags_transfer.proofs.links.after_sum.Goals as goal
 

@@ -1,7 +1,7 @@
 use Rattle.std.proofs.Common.{◌≡◌, ◌+◌, ◌-◌, ◌≤◌, ℕ, List, refl, sym, ap, subst, ◌∙◌, length, arith}
 use Rattle.std.proofs.lemmas.List.{length-set}
 use Rattle.std.proofs.lemmas.Result.{err_from_is_err_and}
-use Rattle.ags_answered.proofs.CodeLemmas.{some_code}
+use Rattle.ags_check.proofs.CodeLemmas.{some_code}
 use Rattle.ags_certtype.specs.Cert.{Stated}
 use Rattle.ags_check.specs.Judging.{Judging}
 use Rattle.ags_recheck.specs.Bound.{IsMostOfRow}

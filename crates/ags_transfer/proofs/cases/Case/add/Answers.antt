@@ -1,4 +1,4 @@
-use Rattle.ags_posts.specs.Posts.{grows_by}
+use Rattle.ags_safe.specs.Posts.{grows_by}
 use Rattle.ags_transfer.proofs.cases.Case.add.Goals as goal
 
 pub returns : goal.returns

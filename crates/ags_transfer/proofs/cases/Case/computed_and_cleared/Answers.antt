@@ -1,7 +1,7 @@
 use Rattle.std.proofs.Common.{subst, sym}
 use Rattle.ags_row.specs.declared.posts.Post.{Post}
-use Rattle.ags_posts.specs.Line.{IsPostOf}
-use Rattle.ags_posts.specs.Posts.{IsCleared}
+use Rattle.ags_safe.specs.Line.{IsPostOf}
+use Rattle.ags_safe.specs.Posts.{IsCleared}
 use Rattle.ags_transfer.specs.Outcome.{outcome_of}
 use Rattle.ags_transfer.specs.Decision.{single_pair}
 use Rattle.ags_transfer.proofs.DecisionLemmas.{decides_from}

@@ -1,4 +1,4 @@
-use Rattle.ags_posts.specs.Posts.{unlinks}
+use Rattle.ags_safe.specs.Posts.{unlinks}
 use Rattle.ags_transfer.proofs.cases.Case.dvp.Goals as goal
 
 pub returns : goal.returns

@@ -1,4 +1,4 @@
-use Rattle.ags_posts.specs.Posts.{frees_q}
+use Rattle.ags_safe.specs.Posts.{frees_q}
 use Rattle.ags_transfer.proofs.cases.Case.mpr.Goals as goal
 
 pub returns : goal.returns

@@ -1,5 +1,5 @@
 use Rattle.std.proofs.Common.{arith, rules}
-use Rattle.ags_posts.specs.Posts.{frees_q}
+use Rattle.ags_safe.specs.Posts.{frees_q}
 use Rattle.ags_transfer.proofs.DecisionLemmas.{store_goes_on}
 use Rattle.ags_transfer.proofs.cases.Case.mpz.Goals as goal
 

@@ -1,7 +1,7 @@
 use Rattle.std.proofs.Common.{arith}
-use Rattle.ags_posts.specs.Told.{These}
-use Rattle.ags_posts.specs.Linked.{link_to}
-use Rattle.ags_posts.specs.Line.{moves_on}
+use Rattle.ags_safe.specs.Told.{These}
+use Rattle.ags_safe.specs.Linked.{link_to}
+use Rattle.ags_safe.specs.Line.{moves_on}
 use Rattle.ags_transfer.proofs.DecisionLemmas.{store_goes_on}
 use Rattle.ags_transfer.proofs.cases.Case.sto.Goals as goal
 

@@ -1,6 +1,6 @@
 use Rattle.std.proofs.Common.{◌≡◌, ◌∙◌, false, true, ap, refl, subst, sym}
 use Rattle.ags_domain.specs.Domain.{IsWithin}
-use Rattle.ags_posts.specs.Case.{Case}
+use Rattle.ags_safe.specs.Case.{Case}
 use Rattle.ags_row.specs.Limit.{cell_limit}
 use Rattle.ags_transfer.proofs.cases.Case.stored.Goals as goal
 

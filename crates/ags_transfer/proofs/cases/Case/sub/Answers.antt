@@ -1,5 +1,5 @@
 use Rattle.std.proofs.Common.{neg_ℤ}
-use Rattle.ags_posts.specs.Posts.{grows_by}
+use Rattle.ags_safe.specs.Posts.{grows_by}
 use Rattle.ags_transfer.proofs.cases.Case.sub.Goals as goal
 
 pub returns : goal.returns

@@ -1,5 +1,5 @@
 use Rattle.std.proofs.Common.{arith}
-use Rattle.ags_posts.specs.Posts.{unlinks}
+use Rattle.ags_safe.specs.Posts.{unlinks}
 use Rattle.ags_transfer.proofs.DecisionLemmas.{store_goes_on}
 use Rattle.ags_transfer.proofs.cases.Case.suz.Goals as goal
 

@@ -2,7 +2,7 @@ use Rattle.std.proofs.Common.{ℕ, false, refl, subst}
 use Rattle.ags_domain.specs.Domain.{IsAlone}
 use Rattle.ags_isa.specs.Naming.{order_word}
 use Rattle.ags_isa.specs.declared.orders.Order.TheVariants.{Tra}
-use Rattle.ags_posts.specs.Case.{Case, next_of_row}
+use Rattle.ags_safe.specs.Case.{Case, next_of_row}
 use Rattle.ags_transfer.proofs.cases.Case.tsq.Goals as goal
 
 pub returns : goal.returns

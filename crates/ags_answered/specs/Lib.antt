@@ -1,2 +1,0 @@
--- what the public contracts cite
-pub mod Told

@@ -1,5 +1,0 @@
-use Rattle.ags_posts.proofs.CoverLemmas.{covered}
-use Rattle.ags_posts.proofs.laws.covering_row_holds_what_agrees.Goals as goal
-
-pub returns : goal.returns
-returns g c = covered g.D.Domain.meaning
