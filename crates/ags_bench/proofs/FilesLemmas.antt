@@ -17,18 +17,18 @@ use Rattle.ags_plan.specs.Plan.{Plan, End, Do, Read}
 use Rattle.ags_plan.proofs.LoadingLemmas.{loads_on, loads_stop}
 use Rattle.ags_plan.specs.Walk.{Told}
 use Rattle.ags_ports.specs.declared.machines.Machine.{Machine}
-use Rattle.ags_program.specs.Files.{Assembly, RefusesCertificate as RefusesCert}
+use Rattle.ags_program.specs.Files.{Assembly, Pair, RefusesCertificate as RefusesCert}
 use Rattle.ags_program.specs.Text.{certificate_fault_line, script_fault_line}
 use Rattle.ags_program.specs.Views.{IsReadSource, assembly_of}
 use Rattle.ags_script.specs.declared.script_errors.ScriptError.{ScriptError}
 use Rattle.ags_script.specs.declared.script_errors.ScriptError.TheVariants as script
 use Rattle.ags_bench.specs.declared.refusal.Refusal.TheVariants as refusal
 use Rattle.ags_bench.specs.Files.{Kind, MachineFile, Source, Certificate, Script, Value, RefusesScript}
-use Rattle.ags_bench.specs.Program.{program, files_plan}
+use Rattle.ags_bench.specs.Loaded.{LoadsPair, script_plan}
+use Rattle.ags_bench.specs.Program.{program}
 use Rattle.ags_bench.specs.Scripts.{RefusesText, script_reading}
 use Rattle.ags_bench.specs.Views.{line_of, status_of}
-use Rattle.ags_bench.specs.Words.{Asked}
-use Rattle.ags_bench.specs.Work.{Work, DrivePair}
+use Rattle.ags_bench.specs.Work.{DrivePair}
 
 -- ---- the bench's kinds read as the readings do
 
@@ -82,53 +82,49 @@ script_ready machine told name (Err (TooLong long most)) reads = tt
 script_ready machine told name (Err ReadFault) reads = tt
 script_ready machine told name (Err NoMemory) reads = tt
 
--- ---- the three files, one after the other
+-- ---- a source and a certificate, one after the other
 
 -- what is loaded from a shelf that tells what it told before is loaded as from that
 loads_as_before : (told now : Told) (kind : Kind) (name : List ℕ) (result : Result (Value kind) (Option (End (program [])))) → now ≡ told → LoadsFile (program []) now kind name result
     → LoadsFile (program []) told kind name result
 loads_as_before told now kind name result same loads = subst (λ (t : Told). LoadsFile (program []) t kind name result) same loads
 
-module _ (told : Told) (asked : Asked) (machine : Machine) where
-  -- what is read after the certificate, and after the source
-  abbrev script_plan : Assembly → Stated → Plan (program [])
-  script_plan assembly cert = Read (Script machine) asked.script (λ lines. Do (DrivePair (record { machine = machine; assembly = assembly; cert = cert }) lines))
-
-  abbrev certificate_plan : Assembly → Plan (program [])
-  certificate_plan assembly = Read (Certificate machine) asked.certificate (λ cert. script_plan assembly cert)
+module _ (told now : Told) (machine : Machine) (source certificate : List ℕ) where
+  -- what is read after the source
+  abbrev certificate_plan : (behind : Pair → Plan (program [])) → Assembly → Plan (program [])
+  certificate_plan behind assembly = Read (Certificate machine) certificate (λ cert. behind (record { machine = machine; assembly = assembly; cert = cert }))
 
   -- the source isn't loaded
-  pub source_stops : (why : Option (End (program []))) → LoadsFile (program []) told (Source machine) asked.source (Err why) → Loads (program []) told (files_plan [] asked machine) (Err why)
-  source_stops why stops = loads_stop (program []) told (Source machine) asked.source certificate_plan why stops
+  pub source_stops : (why : Option (End (program []))) → LoadsFile (program []) told (Source machine) source (Err why) → LoadsPair told machine source certificate (Err why)
+  source_stops why stops = λ behind. loads_stop (program []) told (Source machine) source (certificate_plan behind) why stops
 
-  module _ (assembly : Assembly) (first : LoadsFile (program []) told (Source machine) asked.source (Ok assembly)) (mid : Told) (same : mid ≡ told) where
+  module _ (assembly : Assembly) (first : LoadsFile (program []) told (Source machine) source (Ok assembly)) (same : now ≡ told) where
     -- it is, and the certificate isn't
-    pub certificate_stops : (why : Option (End (program []))) → LoadsFile (program []) mid (Certificate machine) asked.certificate (Err why) → Loads (program []) told (files_plan [] asked machine) (Err why)
-    certificate_stops why stops =
-        loads_on (program []) told (Source machine) asked.source certificate_plan assembly (Err why) first
-        (loads_stop (program []) told (Certificate machine) asked.certificate (λ cert. script_plan assembly cert) why (loads_as_before told mid (Certificate machine) asked.certificate (Err why) same stops))
+    pub certificate_stops : (why : Option (End (program []))) → LoadsFile (program []) now (Certificate machine) certificate (Err why) → LoadsPair told machine source certificate (Err why)
+    certificate_stops why stops = λ behind.
+        loads_on (program []) told (Source machine) source (certificate_plan behind) assembly (Err why) first
+        (loads_stop (program []) told (Certificate machine) certificate (λ cert. behind (record { machine = machine; assembly = assembly; cert = cert })) why
+        (loads_as_before told now (Certificate machine) certificate (Err why) same stops))
 
-    module _ (cert : Stated) (second : LoadsFile (program []) mid (Certificate machine) asked.certificate (Ok cert)) (last : Told) (again : last ≡ mid) where
-      -- both are, and something comes of the script
-      script_on : (result : Result Work (Option (End (program [])))) → Loads (program []) told (script_plan assembly cert) result → Loads (program []) told (files_plan [] asked machine) result
-      script_on result later =
-          loads_on (program []) told (Source machine) asked.source certificate_plan assembly result first
-          (loads_on (program []) told (Certificate machine) asked.certificate (λ c. script_plan assembly c) cert result
-          (loads_as_before told mid (Certificate machine) asked.certificate (Ok cert) same second) later)
+    -- both are
+    pub pair_loads : (cert : Stated) → LoadsFile (program []) now (Certificate machine) certificate (Ok cert)
+        → LoadsPair told machine source certificate (Ok (record { machine = machine; assembly = assembly; cert = cert }))
+    pair_loads cert loads = λ behind result later.
+        loads_on (program []) told (Source machine) source (certificate_plan behind) assembly result first
+        (loads_on (program []) told (Certificate machine) certificate (λ c. behind (record { machine = machine; assembly = assembly; cert = c })) cert result
+        (loads_as_before told now (Certificate machine) certificate (Ok cert) same loads) later)
 
-      last_is : last ≡ told
-      last_is = rw again same
+-- ---- and the script behind them
 
-      pub script_stops : (why : Option (End (program []))) → LoadsFile (program []) last (Script machine) asked.script (Err why) → Loads (program []) told (files_plan [] asked machine) (Err why)
-      script_stops why stops =
-          script_on (Err why)
-          (loads_stop (program []) told (Script machine) asked.script (λ lines. Do (DrivePair (record { machine = machine; assembly = assembly; cert = cert }) lines)) why
-          (loads_as_before told last (Script machine) asked.script (Err why) last_is stops))
+module _ (told now : Told) (pair : Pair) (script : List ℕ) (same : now ≡ told) where
+  -- it isn't loaded
+  pub script_stops : (why : Option (End (program []))) → LoadsFile (program []) now (Script pair.machine) script (Err why) → Loads (program []) told (script_plan script pair) (Err why)
+  script_stops why stops =
+      loads_stop (program []) told (Script pair.machine) script (λ lines. Do (DrivePair pair lines)) why (loads_as_before told now (Script pair.machine) script (Err why) same stops)
 
-      pub all_load : (lines : List (ℕ × BenchCommand)) → LoadsFile (program []) last (Script machine) asked.script (Ok lines)
-          → Loads (program []) told (files_plan [] asked machine) (Ok (DrivePair (record { machine = machine; assembly = assembly; cert = cert }) lines))
-      all_load lines loads =
-          script_on (Ok (DrivePair (record { machine = machine; assembly = assembly; cert = cert }) lines))
-          (loads_on (program []) told (Script machine) asked.script (λ l. Do (DrivePair (record { machine = machine; assembly = assembly; cert = cert }) l)) lines
-          (Ok (DrivePair (record { machine = machine; assembly = assembly; cert = cert }) lines))
-          (loads_as_before told last (Script machine) asked.script (Ok lines) last_is loads) refl)
+  -- it is
+  pub script_loads : (lines : List (ℕ × BenchCommand)) → LoadsFile (program []) now (Script pair.machine) script (Ok lines)
+      → Loads (program []) told (script_plan script pair) (Ok (DrivePair pair lines))
+  script_loads lines loads =
+      loads_on (program []) told (Script pair.machine) script (λ l. Do (DrivePair pair l)) lines (Ok (DrivePair pair lines))
+      (loads_as_before told now (Script pair.machine) script (Ok lines) same loads) refl

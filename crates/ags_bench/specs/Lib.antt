@@ -9,6 +9,7 @@ pub mod Promises
 -- what serves inside
 pub mod Scripts
 pub mod Views
+pub mod Loaded
 pub mod Driving
 pub mod Doing
 pub mod ProgramLaws

@@ -2,11 +2,13 @@
 
 ghost use Rattle.std.specs.Prelude.{◌≡◌, [], IfOk, Some};
 ghost use Rattle.std.specs.Result.{result_map_both};
+ghost use Rattle.ags_bench.specs.Loaded.{LoadsPair};
 ghost use Rattle.ags_bench.specs.Program.{asked_plan, files_plan, plan_on, program};
 ghost use Rattle.ags_bench.specs.Views.{IsReady, line_of, status_of, work_of};
 ghost use Rattle.ags_bench.specs.Words.{asked_view};
 ghost use Rattle.ags_outside.specs.Count.{HasCause};
 ghost use Rattle.ags_plan.specs.Loading.{Loads, end_of, is_absence, is_read_fault};
+ghost use Rattle.ags_program.specs.Views.{IsReadSource, pair_of};
 
 use crate::files::{load_certificate, load_machine, load_script, load_source};
 use crate::refusal::Refusal;
@@ -17,6 +19,30 @@ use ags_plan::Unloaded;
 use ags_ports::Machine;
 use ags_program::ReadPair;
 use std::alloc::Global;
+
+/// Loads the source and the certificate of these names, in this order, for a machine, whatever is read after them.
+fn load_pair<'a, S: Shelf>(
+    alloc: Global,
+    machine: Machine,
+    source: &'a str,
+    certificate: &'a str,
+    shelf: &mut S,
+) -> Result<ReadPair, Unloaded<'a, Refusal>>
+    ensures same { S.told shelf.new ≡ S.told shelf.old }
+    ensures loads { LoadsPair (S.told shelf.old) machine source.entry.now certificate.entry.now
+        (result_map_both pair_of (end_of (program []) line_of status_of) result) }
+    ensures ready { IfOk result (λ pair. IsReadSource pair.source) }
+    ensures faults { HasCause (S.faults shelf.old) (S.faults shelf.new) (is_read_fault result) }
+    ensures absences { HasCause (S.absences shelf.old) (S.absences shelf.new) (is_absence result) }
+{
+    let source = load_source(alloc, &machine, source, shelf)?;
+    let cert = load_certificate(alloc, &machine, certificate, shelf)?;
+    Ok(ReadPair {
+        machine,
+        source,
+        cert,
+    })
+}
 
 /// Loads the source, the certificate and the script, in this order, for a machine.
 fn load_files<'a, S: Shelf>(
@@ -31,17 +57,9 @@ fn load_files<'a, S: Shelf>(
     ensures faults { HasCause (S.faults shelf.old) (S.faults shelf.new) (is_read_fault result) }
     ensures absences { HasCause (S.absences shelf.old) (S.absences shelf.new) (is_absence result) }
 {
-    let source = load_source(alloc, &machine, asked.source, shelf)?;
-    let cert = load_certificate(alloc, &machine, asked.certificate, shelf)?;
-    let script = load_script(alloc, &machine, asked.script, shelf)?;
-    Ok(Work::DrivePair {
-        pair: ReadPair {
-            machine,
-            source,
-            cert,
-        },
-        script,
-    })
+    let pair = load_pair(alloc, machine, asked.source, asked.certificate, shelf)?;
+    let script = load_script(alloc, &pair.machine, asked.script, shelf)?;
+    Ok(Work::DrivePair { pair, script })
 }
 
 /// Loads the files for the machine of a file.

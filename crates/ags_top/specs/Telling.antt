@@ -9,8 +9,13 @@ use Rattle.ags_recheck.specs.declared.telling.Told.{Told}
 use Rattle.ags_recheck.specs.declared.telling.Told.TheVariants.{Made, NotMade}
 use Rattle.ags_program.specs.declared.status.Status.{Status}
 use Rattle.ags_program.specs.declared.status.Status.TheVariants.{No}
+use Rattle.ags_program.specs.declared.works.ReadPair.{ReadPair}
 use Rattle.ags_program.specs.Text.{edit_lines}
 use Rattle.ags_program.specs.Work.{edits_status, verdict_status}
+
+-- what is judged of a pair
+abbrev pub judging_of : ReadPair → Judging
+judging_of pair = record { machine = pair.machine; image = pair.source.made.image; cert = pair.cert }
 
 -- The sink took the lines of all edits, and this is their status.
 pub record TellsWhole (start : Judging) (edits : List Edit) (before : Status) (old new : Option (List ℕ)) (status : Status) : Type 0 where

@@ -19,7 +19,7 @@ ghost use Rattle.ags_program.specs.Work as work;
 ghost use Rattle.ags_recheck.specs.Edited.{IsOfMemory};
 ghost use Rattle.ags_recheck.specs.Told.{IsTold};
 ghost use Rattle.ags_recheck.specs.ToldText.{told_text};
-ghost use Rattle.ags_top.specs.Telling.{Tells, status_with, status_in_the_end};
+ghost use Rattle.ags_top.specs.Telling.{Tells, judging_of, status_with, status_in_the_end};
 
 use crate::verdicts::{verdict_line, verdict_status};
 use ags_cert::Cert;
@@ -126,6 +126,22 @@ fn judged_parts(pair: ReadPair) -> (Machine, Image, Cert)
     (machine, made.image, cert)
 }
 
+/// The book of a pair: each case of its certificate is judged for its source's words.
+fn book_of<L: Ledger>(
+    alloc: Global,
+    pair: ReadPair,
+    steps: &mut Steps<L>,
+) -> Result<Book, AllocError>
+    ensures book { IfOk result (λ book. book ≡ judging_of pair) }
+    ensures machine { IsMachine pair.machine }
+    ensures image { IsImage pair.source.made.image }
+{
+    let (machine, image, cert) = judged_parts(pair);
+    machine_is_made_of_tables(&machine);
+    let _word = image.get(0);
+    Book::new(alloc, machine, image, cert, steps)
+}
+
 /// Says the verdict, and makes the edits, with a counter on the ledger of a blank.
 fn tell_from<L: Ledger, K: Sink>(
     alloc: Global,
@@ -142,11 +158,8 @@ fn tell_from<L: Ledger, K: Sink>(
     ensures says { Says program (WorkAt (work.JudgePair (pair_of pair) (work.EditsBehind edits.items))) (K.told out.old) (K.told out.new) result }
     ensures faults { HasCause (K.faults out.old) (K.faults out.new) (is_write_fault result) }
 {
-    let (machine, image, cert) = judged_parts(pair);
-    machine_is_made_of_tables(&machine);
-    let _word = image.get(0);
     let mut steps = Steps::<L>::new(blank);
-    let Ok(mut book) = Book::new(alloc, machine, image, cert, &mut steps) else {
+    let Ok(mut book) = book_of(alloc, pair, &mut steps) else {
         return Err(SendError::NoMemory);
     };
     let verdict = book.verdict();

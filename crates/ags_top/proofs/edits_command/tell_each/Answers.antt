@@ -1,4 +1,4 @@
-use Rattle.std.proofs.Common.{rules, ◌≡◌, List, ◌+◌, length, Option, Some, refl, sym, ap, subst, ◌∙◌, arith}
+use Rattle.std.proofs.Common.{rules, false, ◌≡◌, List, ◌+◌, length, Option, Some, refl, sym, ap, subst, ◌∙◌, arith}
 use Rattle.std.specs.Vec.Iter.{into_iter_items}
 use Rattle.std.proofs.lemmas.List.{nil_from_length}
 use Rattle.std.proofs.lemmas.Result.{err_from_is_err_and}
@@ -46,7 +46,7 @@ loop-edit-preserved g c =
           (told_further c.args.book.now c.args.edits.items c.args.before (g.K.Sink.told c.args.out.now) c.in-Some.edit (into_iter_items c.next.new.self) c.loop-edit.number (c.loop-edit.number + 1) (refl {a = c.loop-edit.number + 1})
           c.loop-edit.book c.told_of-told.new.book (g.K.Sink.told c.loop-edit.out) (g.K.Sink.told c.say_told.new.out) c.loop-edit.status c.told_of-told.result so_far c.told_of-told.ensures
           c.in_ok-say_told.ensures.sent);
-      faults = c.in_ok-say_told.ensures.faults.clean refl ∙ c.loop-edit.invariant.faults;
+      faults = c.in_ok-say_told.ensures.faults.clean (refl {a = false}) ∙ c.loop-edit.invariant.faults;
       count = let so = c.loop-edit.invariant.count in omega (arith, so, longer);
       left = let so = c.loop-edit.invariant.left in omega (arith, so, longer, step.1);
     }
