@@ -30,12 +30,12 @@ use Rattle.ags_verdict.specs.declared.verdicts.Verdict.{Verdict}
 use Rattle.ags_verdict.specs.declared.verdicts.Verdict.TheVariants.{Certified, Refused}
 use Rattle.ags_program.specs.declared.status.Status.{Status}
 use Rattle.ags_program.specs.declared.status.Status.TheVariants.{No}
-use Rattle.ags_bench.specs.Driving.{RunMet, MetInPart, Runs, AfterVerdict, StoppedBefore, Benches}
+use Rattle.ags_benchjudged.specs.Driving.{RunMet, MetInPart, Runs, AfterVerdict, StoppedBefore, Benches}
 use Rattle.ags_bench.specs.Outcome.{Call, EndsSo, IsCertified, DroveTo, IsSent, IsSentInPart, DroveInPart, IsOpening, Undriven, Leaves}
 use Rattle.ags_bench.specs.Program.{program}
 use Rattle.ags_bench.specs.ProgramLaws.{some_coming}
-use Rattle.ags_bench.specs.Text.{met_line}
-use Rattle.ags_bench.specs.Work.{DrivePair, IsBenchOf, ComesOfVerdict, met_status}
+use Rattle.ags_benchjudged.specs.Met.{met_line, met_status}
+use Rattle.ags_bench.specs.Work.{DrivePair, IsBenchOf, ComesOfVerdict}
 use Rattle.ags_bench.proofs.CertifiedLemmas.{pair_read, certified, rows_are, start_below}
 
 -- of no acts, nothing is made

@@ -6,5 +6,4 @@ pub mod NoFormLemmas
 pub mod EarlyLemmas
 pub mod CertifiedLineLemmas
 pub mod StatusLemmas
-pub mod DrivingLemmas
 pub mod PromiseLemmas

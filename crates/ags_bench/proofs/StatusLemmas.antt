@@ -23,7 +23,8 @@ use Rattle.ags_bench.specs.Outcome.{Call, EndsSo, EndsWith, DoneAlways, NoExactl
 use Rattle.ags_bench.specs.Program.{program, asked_plan, plan_of}
 use Rattle.ags_bench.specs.ProgramLaws.{IsWorkStatus, comes_to_no_form, lawful_program, not_refused_work}
 use Rattle.ags_bench.specs.Words.{Asked, asked_of, asked_words, words_with, AreNoForm}
-use Rattle.ags_bench.specs.Work.{Work, NoForm, DrivePair, ComesOfVerdict, met_status, Makes}
+use Rattle.ags_bench.specs.Work.{Work, NoForm, DrivePair, ComesOfVerdict, Makes}
+use Rattle.ags_benchjudged.specs.Met.{met_status}
 
 -- ---- words
 

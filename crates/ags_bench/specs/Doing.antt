@@ -14,7 +14,7 @@ use Rattle.ags_program.specs.Files.{Pair}
 use Rattle.ags_verdict.specs.Verdict.{IsVerdict}
 use Rattle.ags_verdict.specs.declared.verdicts.Verdict.{Verdict}
 use Rattle.ags_program.specs.declared.status.Status.{Status}
-use Rattle.ags_bench.specs.Driving.{Benches}
+use Rattle.ags_benchjudged.specs.Driving.{Benches}
 use Rattle.ags_bench.specs.Program.{program}
 use Rattle.ags_bench.specs.Work.{Work, NoForm, DrivePair}
 

@@ -1,6 +1,5 @@
 -- what the public contracts cite
 pub mod Words
-pub mod Text
 pub mod Files
 pub mod Work
 pub mod Program
@@ -10,6 +9,5 @@ pub mod Promises
 pub mod Scripts
 pub mod Views
 pub mod Loaded
-pub mod Driving
 pub mod Doing
 pub mod ProgramLaws

@@ -47,7 +47,7 @@ use Rattle.ags_program.specs.declared.status.Status.{Status}
 use Rattle.ags_program.specs.declared.status.Status.TheVariants.{Done, No, WriteFault, BadMachine, BadSource, BadWords, BadCert, BadText, NoMemory}
 use Rattle.ags_bench.specs.Files.{Kind, MachineFile, Source, Certificate, Script, limit_of, Refuses}
 use Rattle.ags_bench.specs.Program.{program, plan_of}
-use Rattle.ags_bench.specs.Text.{met_line}
+use Rattle.ags_benchjudged.specs.Met.{met_line}
 use Rattle.ags_bench.specs.Words.{AreNoForm}
 use Rattle.ags_bench.specs.Work.{Work, DrivePair, Makes}
 

@@ -47,9 +47,9 @@ use Rattle.ags_program.specs.declared.status.Status.TheVariants.{Done, No, BadWo
 use Rattle.ags_bench.specs.Files.{Kind, MachineFile, Source, Certificate, Script, Value, Holds, Refuses, refused_status}
 use Rattle.ags_bench.specs.Program.{program, files_plan, plan_on, asked_plan, plan_of}
 use Rattle.ags_program.specs.Status.{cause_of}
-use Rattle.ags_bench.specs.Text.{met_line}
+use Rattle.ags_benchjudged.specs.Met.{met_line, met_status}
 use Rattle.ags_bench.specs.Words.{Asked, asked_of}
-use Rattle.ags_bench.specs.Work.{Work, NoForm, DrivePair, ComesOfVerdict, met_status, Makes}
+use Rattle.ags_bench.specs.Work.{Work, NoForm, DrivePair, ComesOfVerdict, Makes}
 
 -- ---- files
 

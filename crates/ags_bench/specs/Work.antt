@@ -1,7 +1,7 @@
 -- What is done once the files are loaded, and what it makes with the devices that were handed in.
 use Rattle.std.specs.Prelude.{◌≡◌, ℕ, List, ◌++◌, Option}
 use Rattle.ags_asm.specs.Source.{placed_words}
-use Rattle.ags_drive.specs.BenchRun.{Met, Nothing, IsBenchRun}
+use Rattle.ags_drive.specs.BenchRun.{Met, IsBenchRun}
 use Rattle.ags_benchscript.specs.declared.commands.BenchCommand.{BenchCommand}
 use Rattle.ags_cert.specs.Cert.{Stated, certificate_of}
 use Rattle.ags_device.specs.Record.{DeviceRecord}
@@ -16,19 +16,14 @@ use Rattle.ags_verdict.specs.Verdict.{IsVerdict}
 use Rattle.ags_verdict.specs.declared.verdicts.Verdict.{Verdict}
 use Rattle.ags_verdict.specs.declared.verdicts.Verdict.TheVariants.{Certified, Refused}
 use Rattle.ags_program.specs.declared.status.Status.{Status}
-use Rattle.ags_program.specs.declared.status.Status.TheVariants.{Done, No, BadWords}
-use Rattle.ags_bench.specs.Text.{met_line}
+use Rattle.ags_program.specs.declared.status.Status.TheVariants.{No, BadWords}
+use Rattle.ags_benchjudged.specs.Met.{met_line, met_status}
 
 -- it is said that the words are none of the forms; or a certificate is judged for a source's words, and, where it is certified, the
 -- lines of a script are run
 pub data Work : Type 0 where
   NoForm : Work
   DrivePair : (pair : Pair) (lines : List (ℕ × BenchCommand)) → Work
-
--- the status of a run by what it met
-abbrev pub met_status : Met → Status
-met_status Nothing = Done
-met_status _ = No
 
 -- The text is the line of the verdict, what the lines' run with the devices shows, and, where it met something, the line that says so;
 -- and this is the status of what it met.

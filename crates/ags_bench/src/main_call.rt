@@ -12,13 +12,13 @@ ghost use Rattle.ags_outside.specs.Send.{is_write_fault};
 ghost use Rattle.ags_plan.specs.Plan.{WorkAt};
 ghost use Rattle.ags_plan.specs.Saying.{Says, settled};
 
-use crate::driving::drive_pair;
 use crate::loader::Bench;
-use crate::verdicts::verdict_of;
 use crate::works::Work;
+use ags_benchjudged::drive_pair;
 use ags_device::Device;
 use ags_outside::{SendError, Shelf, Sink, send};
 use ags_plan::load_or_say;
+use ags_played::verdict_of;
 use ags_program::Status;
 use std::alloc::Global;
 

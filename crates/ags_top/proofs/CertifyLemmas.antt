@@ -16,7 +16,7 @@ use Rattle.ags_program.specs.Program.{program}
 use Rattle.ags_program.specs.Text.{verdict_line}
 use Rattle.ags_program.specs.Views.{IsReadSource, pair_of}
 use Rattle.ags_program.specs.Work.{JudgePair, ListingBefore, verdict_status}
-use Rattle.ags_top.proofs.JudgeLemmas.{judged_in_part, judged_whole}
+use Rattle.ags_played.proofs.JudgeLemmas.{judged_in_part, judged_whole}
 
 -- the listing of a source that was read
 abbrev pub listing_of : SourceFile → List ℕ

@@ -4,14 +4,10 @@ pub mod CertifyLemmas
 pub mod CompareLemmas
 pub mod DeclaredLemmas
 pub mod EditedLemmas
-pub mod GuardLemmas
-pub mod JudgeLemmas
 pub mod ListedLemmas
 pub mod MainLemmas
-pub mod PlayLemmas
 pub mod PromiseLemmas
 pub mod ScaledLemmas
-pub mod SendingLemmas
 pub mod TellingLemmas
 pub mod ThirdFileLemmas
 pub mod WorkloadLemmas

@@ -27,7 +27,7 @@ use Rattle.ags_program.specs.Text.{edit_line, edit_lines, verdict_line}
 use Rattle.ags_program.specs.Views.{IsReadSource, pair_of}
 use Rattle.ags_program.specs.Work.{JudgePair, EditsBehind, edits_status, verdict_status}
 use Rattle.ags_top.specs.Telling.{Tells, TellsInPart, TellsWhole, status_from, status_in_the_end, status_with}
-use Rattle.ags_top.proofs.JudgeLemmas.{judged_in_part, judged_whole}
+use Rattle.ags_played.proofs.JudgeLemmas.{judged_in_part, judged_whole}
 
 -- ---- one edit after the other
 

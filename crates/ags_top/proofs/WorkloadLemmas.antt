@@ -19,7 +19,7 @@ use Rattle.ags_program.specs.declared.works.ReadPair.{ReadPair}
 use Rattle.ags_program.specs.Program.{program}
 use Rattle.ags_program.specs.Views.{IsReadSource, pair_of}
 use Rattle.ags_program.specs.Work.{JudgePair, CountsInstead, counts_line, verdict_status}
-use Rattle.ags_top.proofs.JudgeLemmas.{judged_in_part, judged_whole}
+use Rattle.ags_played.proofs.JudgeLemmas.{judged_in_part, judged_whole}
 
 -- so many words are taken of an image
 words_in_count : (image : List (Option ℕ)) (at many : ℕ) → length (words_in image at many) ≡ many

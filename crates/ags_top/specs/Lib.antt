@@ -4,6 +4,5 @@ pub mod Outcome
 pub mod Promises
 pub mod ThirdFile
 -- what serves inside
-pub mod Guarding
 pub mod ProgramLaws
 pub mod Telling

@@ -11,11 +11,11 @@ ghost use Rattle.ags_program.specs.Views.{IsReadSource, pair_of};
 ghost use Rattle.ags_program.specs.Work as work;
 ghost use Rattle.ags_verdict.specs.Verdict.{IsVerdict};
 
-use crate::verdicts::{verdict_line, verdict_status};
 use ags_check::Verdict;
 use ags_listing::send_listing;
 use ags_outside::{SendError, Sink};
 use ags_plan::send_line;
+use ags_played::{verdict_line, verdict_status};
 use ags_program::{ReadPair, Status};
 use std::alloc::Global;
 

@@ -21,12 +21,12 @@ ghost use Rattle.ags_recheck.specs.Told.{IsTold};
 ghost use Rattle.ags_recheck.specs.ToldText.{told_text};
 ghost use Rattle.ags_top.specs.Telling.{Tells, judging_of, status_with, status_in_the_end};
 
-use crate::verdicts::{verdict_line, verdict_status};
 use ags_cert::Cert;
 use ags_edits::Edit;
 use ags_image::Image;
 use ags_outside::{SendError, Sink};
 use ags_plan::send_line;
+use ags_played::{verdict_line, verdict_status};
 use ags_ports::Machine;
 use ags_ports::laws::machine_is_made_of_tables;
 use ags_program::{ReadPair, Status};

@@ -14,12 +14,11 @@ ghost use Rattle.ags_verdict.specs.Verdict.{IsVerdict};
 use crate::budget_command::judge_budget;
 use crate::certify_command::write_judged;
 use crate::edits_command::tell_edits;
-use crate::guard_command::guard_script;
 use crate::scales_command::judge_scales;
-use crate::verdicts::verdict_of;
 use crate::workload_command::write_counts;
 use ags_check::Verdict;
 use ags_outside::{SendError, Sink};
+use ags_played::{guard_script, verdict_of};
 use ags_program::{ReadPair, Sequel, Status};
 use std::alloc::Global;
 

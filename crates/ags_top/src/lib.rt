@@ -1,8 +1,8 @@
 //! The program's one call: from the arguments of a command line to a status and the bytes that are written, over any
 //! shelf and any sink. What a command line asks for is loaded by `ags_asked`, along the walk of `ags_plan`, and done
 //! here: a text of a source is written by `ags_listing`, `ags_image` or `ags_xref`, images are compared by
-//! `ags_compare`, scripts played by `ags_run`, and certificates judged by `ags_check`, where the verdict is said with what stands
-//! with it: a guarded script, bounds on order time (`ags_budget`), scales (`ags_scale`) or edits (`ags_recheck`).
+//! `ags_compare`, scripts played and certificates judged by `ags_played`, where the verdict is said with what stands with it: a guarded
+//! script, bounds on order time (`ags_budget`), scales (`ags_scale`) or edits (`ags_recheck`).
 //! `ags_main` answers exactly what the definitions in `specs/`, and those of `ags_program`, say of the arguments and the files.
 #![tactic(auto)]
 
@@ -11,15 +11,12 @@ mod budget_command;
 mod certify_command;
 mod compare_command;
 mod edits_command;
-mod guard_command;
 mod judging;
 mod listed_laws;
 mod main_call;
 mod program;
-mod run_command;
 mod scales_command;
 mod sending;
-mod verdicts;
 mod workload_command;
 mod write_command;
 

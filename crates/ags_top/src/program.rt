@@ -12,12 +12,12 @@ ghost use Rattle.ags_program.specs.Work as work;
 
 use crate::compare_command::compare_images;
 use crate::judging::judge_pair;
-use crate::run_command::play_script;
 use crate::write_command::write_text;
 use ags_asked::load_asked;
 use ags_command::read_asked;
 use ags_outside::{SendError, Shelf, Sink, send};
 use ags_plan::{Loader, Program, Stop, Unloaded};
+use ags_played::play_script;
 use ags_program::{Refusal, Status, Work};
 use std::alloc::{AllocError, Global};
 

@@ -7,10 +7,10 @@ ghost use Rattle.ags_outside.specs.Send.{is_write_fault};
 ghost use Rattle.ags_outside.specs.Sink.{WroteFront, appended};
 ghost use Rattle.ags_program.specs.Text.{verdict_line};
 
-use crate::verdicts::verdict_line;
 use ags_check::Verdict;
 use ags_outside::{SendError, Sink};
 use ags_plan::send_line;
+use ags_played::verdict_line;
 use std::alloc::{AllocError, Global};
 
 /// Sends the line of a verdict, and after it one that was to be made, where there was memory for it.

@@ -15,12 +15,12 @@ ghost use Rattle.ags_program.specs.Views.{IsReadSource, pair_of};
 ghost use Rattle.ags_program.specs.Work as work;
 ghost use Rattle.ags_verdict.specs.Verdict.{IsVerdict};
 
-use crate::verdicts::{verdict_line, verdict_status};
 use ags_asm::Assembled;
 use ags_check::Verdict;
 use ags_outside::{SendError, Sink};
 use ags_places::Placed;
 use ags_plan::send_line;
+use ags_played::{verdict_line, verdict_status};
 use ags_program::{ReadPair, Status};
 use std::alloc::{AllocError, Global};
 

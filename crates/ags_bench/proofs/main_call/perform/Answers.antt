@@ -12,6 +12,6 @@ returns-in-DrivePair-clause-does g c =
       image = c.in-DrivePair.pair.source.made.image;
       image_is = ready.0.1.image;
       verdict = c.verdict_of-verdict.result;
-      is_verdict = c.verdict_of-verdict.ensures;
+      is_verdict = c.verdict_of-verdict.ensures.verdict;
       benches = c.drive_pair.ensures.benches;
     })

@@ -3,8 +3,8 @@ use Rattle.ags_plan.specs.Plan.{WorkAt}
 use Rattle.ags_program.specs.Text.{timed_line, verdict_line}
 use Rattle.ags_program.specs.Views.{pair_of}
 use Rattle.ags_program.specs.Work.{JudgePair, BudgetBehind, timed_status}
-use Rattle.ags_top.proofs.JudgeLemmas.{judged_in_part, judged_whole}
-use Rattle.ags_top.proofs.SendingLemmas.{fault_with, said_with}
+use Rattle.ags_played.proofs.JudgeLemmas.{judged_in_part, judged_whole}
+use Rattle.ags_played.proofs.SendingLemmas.{fault_with, said_with}
 use Rattle.ags_top.proofs.budget_command.judge_budget.Goals as goal
 
 pub returns-clause-says : goal.returns-clause-says

@@ -6,7 +6,7 @@ use Rattle.ags_program.specs.Views.{pair_of}
 use Rattle.ags_program.specs.Work.{JudgePair, ListingBefore, verdict_status}
 use Rattle.ags_program.proofs.ReadingLemmas.{counted_on}
 use Rattle.ags_top.proofs.CertifyLemmas.{judgement_said, listing_said_in_part, verdict_said_in_part}
-use Rattle.ags_top.proofs.SendingLemmas.{fault_with, said_with}
+use Rattle.ags_played.proofs.SendingLemmas.{fault_with, said_with}
 use Rattle.ags_top.proofs.certify_command.write_judged.Goals as goal
 
 pub returns-in_err-send_listing-clause-says : goal.returns-in_err-send_listing-clause-says

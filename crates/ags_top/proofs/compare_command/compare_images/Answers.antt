@@ -3,7 +3,7 @@ use Rattle.ags_plan.specs.Plan.{WorkAt}
 use Rattle.ags_program.specs.Text.{compared_line}
 use Rattle.ags_program.specs.Work.{CompareImages, compared_status}
 use Rattle.ags_top.proofs.CompareLemmas.{comparison_said, comparison_said_in_part}
-use Rattle.ags_top.proofs.SendingLemmas.{fault_with, said_with}
+use Rattle.ags_played.proofs.SendingLemmas.{fault_with, said_with}
 use Rattle.ags_top.proofs.compare_command.compare_images.Goals as goal
 
 pub returns-clause-says : goal.returns-clause-says

@@ -1,7 +1,7 @@
 use Rattle.ags_plan.specs.Plan.{WorkAt}
 use Rattle.ags_program.specs.Views.{pair_of}
 use Rattle.ags_program.specs.Work.{JudgePair, CountsInstead, verdict_status}
-use Rattle.ags_top.proofs.SendingLemmas.{fault_with, said_with}
+use Rattle.ags_played.proofs.SendingLemmas.{fault_with, said_with}
 use Rattle.ags_top.proofs.WorkloadLemmas.{counts_said, counts_said_in_part}
 use Rattle.ags_top.proofs.workload_command.write_counts.Goals as goal
 

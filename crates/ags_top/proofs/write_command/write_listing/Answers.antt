@@ -5,7 +5,7 @@ use Rattle.ags_plan.specs.Plan.{WorkAt}
 use Rattle.ags_program.specs.declared.status.Status.TheVariants.{Done}
 use Rattle.ags_program.specs.Views.{assembly_of}
 use Rattle.ags_program.specs.Work.{WriteText}
-use Rattle.ags_top.proofs.SendingLemmas.{fault_with, said_with}
+use Rattle.ags_played.proofs.SendingLemmas.{fault_with, said_with}
 use Rattle.ags_top.proofs.WriteLemmas.{text_said, text_said_in_part}
 use Rattle.ags_top.proofs.write_command.write_listing.Goals as goal
 

@@ -1,0 +1,4 @@
+pub mod GuardLemmas
+pub mod JudgeLemmas
+pub mod PlayLemmas
+pub mod SendingLemmas

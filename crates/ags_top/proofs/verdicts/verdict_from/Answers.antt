@@ -1,4 +1,0 @@
-use Rattle.ags_top.proofs.verdicts.verdict_from.Goals as goal
-
-pub returns : goal.returns
-returns g c = c.check.ensures.verdict
