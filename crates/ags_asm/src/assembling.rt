@@ -12,7 +12,7 @@ use crate::passing::{Pass, read_cards};
 use ags_image::Image;
 use ags_isa::Codes;
 use ags_places::{AssembleError, Placed, SOURCE_LIMIT, SourceError, SourceKind};
-use ags_symbol::Symbols;
+use ags_symbol::SymbolList;
 use std::alloc::Global;
 
 /// An assembled source.
@@ -23,11 +23,16 @@ pub struct Assembled {
     /// The cards in order, comments too, up to and with the first END.
     pub cards: Vec<Placed>,
     /// The symbols in the order of their definitions.
-    pub symbols: Symbols,
+    pub symbols: SymbolList,
 }
 
 /// What a source whose cards were read comes to: the image of its words, its cards and its symbols.
-fn close_pass(codes: &Codes, bytes: &[u8], pass: Pass) -> Result<Assembled, AssembleError>
+fn close_pass(
+    alloc: Global,
+    codes: &Codes,
+    bytes: &[u8],
+    pass: Pass,
+) -> Result<Assembled, AssembleError>
     requires { IsPassed codes.now bytes.now pass }
     ensures closed { IfOk result (λ made. IsClosed codes.now bytes.now made.cards.items made.symbols made.image) }
     ensures refused { IfErr result (IsRefused bytes.now) }
@@ -47,6 +52,7 @@ fn close_pass(codes: &Codes, bytes: &[u8], pass: Pass) -> Result<Assembled, Asse
         let kind = SourceKind::Word(fault);
         return Err(AssembleError::Source(SourceError { card, kind }));
     }
+    let symbols = symbols.into_list(alloc)?;
     Ok(Assembled {
         image: words.image,
         cards,
@@ -63,7 +69,7 @@ fn assemble_once(alloc: Global, bytes: &[u8], codes: &Codes) -> Result<Assembled
 {
     let mut pass = Pass::new(alloc)?;
     read_cards(codes, bytes, &mut pass)?;
-    close_pass(codes, bytes, pass)
+    close_pass(alloc, codes, bytes, pass)
 }
 
 /// Assembles a source of at most 4,194,304 bytes by a table of codes: the image of its words, each card with the span of its

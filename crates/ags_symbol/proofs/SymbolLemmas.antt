@@ -1,12 +1,15 @@
 -- What is found of a symbol among pairs, and in the map that holds them.
-use Rattle.std.proofs.Common.{◌≡◌, ℕ, Bool, true, false, cond, List, [], ◌∷◌, ◌++◌, map, Option, Some, None, option_map, refl, sym, ap, ◌∙◌, nat_eq}
+use Rattle.std.proofs.Common.{◌≡◌, ℕ, ◌+◌, ◌<◌, Bool, true, false, cond, List, [], ◌∷◌, ◌++◌, length, take, map, Option, Some, None, option_map, refl, sym, ap, ◌∙◌, nat_eq}
+use Rattle.std.specs.Prelude.{slice_get}
 use Rattle.std.specs.Cmp.Lexicographic.{pointwise, same_text}
 use Rattle.std.specs.Map.{lookup, keys_of}
 use Rattle.std.specs.List.{IsDistinct}
 use Rattle.std.proofs.lemmas.Map.Made.{AllPairs-from_IsDistinct}
 use Rattle.std.proofs.lemmas.Slice.Eq.{bytes_eq-Decides}
 use Rattle.std.specs.HashMap.{HashMap}
+use Rattle.std.proofs.lemmas.List.{map-append, take_more}
 use Rattle.std.proofs.lemmas.List.Elements.{All-push}
+use Rattle.std.proofs.lemmas.Option.{get_or_from_slice_get}
 use Rattle.indexmap.specs.IndexMap.{IsUnique, get, insert_entry}
 use Rattle.indexmap.proofs.CallerLemmas.{insert_entry-new}
 use Rattle.ags_symbol.specs.declared.symbols.Defined.{Defined}
@@ -55,3 +58,15 @@ names-entries (e ∷ es) = ap (λ (rest : List (List ℕ)). e.0 ∷ rest) (names
 -- no two of them are of one symbol
 pub each_name_once : (es : List ((List ℕ) × Defined)) → IsDistinct (pointwise nat_eq) (keys_of es) → EachNameOnce (map entry_of es)
 each_name_once es distinct = rw (names-entries es) (AllPairs-from_IsDistinct bytes_eq-Decides (keys_of es) distinct)
+
+-- ---- a list of them
+
+-- one more is taken
+pub take_pushed : (symbols : List Entry) (i : ℕ) (entry : Entry) → i < length symbols → slice_get symbols i ≡ Some entry → take (i + 1) symbols ≡ take i symbols ++ entry ∷ []
+take_pushed symbols i entry within is =
+    take_more symbols i entry within ∙ ap (λ (one : Entry). take i symbols ++ one ∷ []) (get_or_from_slice_get symbols i entry entry is)
+
+pub listed_more : (es : List ((List ℕ) × Defined)) (e : (List ℕ) × Defined) (symbols : List Entry) (i : ℕ) → map entry_of es ≡ take i symbols → i < length symbols
+    → slice_get symbols i ≡ Some (entry_of e) → map entry_of (es ++ e ∷ []) ≡ take (i + 1) symbols
+listed_more es e symbols i so within is =
+    map-append entry_of es (e ∷ []) ∙ ap (λ (front : List Entry). front ++ entry_of e ∷ []) so ∙ sym (take_pushed symbols i (entry_of e) within is)

@@ -7,8 +7,10 @@ mod laws;
 mod open_terms;
 mod splitting;
 mod sums;
+mod symbol_lists;
 mod symbols;
 
 pub use laws::{pairs_are_found_by_name, sums_are_of_the_terms_values, sums_are_split};
 pub use open_terms::OpenTerms;
+pub use symbol_lists::SymbolList;
 pub use symbols::{DefineError, Defined, Symbols};

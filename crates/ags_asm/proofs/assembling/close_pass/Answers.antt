@@ -13,9 +13,9 @@ pub returns-clause-closed : goal.returns-clause-closed
 returns-clause-closed c =
     let ended = c.requires.ended c.in_default.is in
     let all = cards c.args.bytes.now in
-    record {
+    rw c.in_ok-symbols.ensures (record {
       fits = ended.placed.fits;
       faultless = rw (ended.placed.faultless, c.close.ensures.fault all ended.before ended.half, c.in_default-close.is) refl;
       cards_are = ended.placed.cards_are;
       image_is = c.close.ensures.image all ended.before ended.half c.in_default-close.is;
-    }
+    })
